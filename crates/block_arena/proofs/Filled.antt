@@ -17,10 +17,10 @@ use Rattle.block_arena.specs.Calls.{IsDraft}
 use Rattle.mail_world.proofs.Heard.{all_set}
 use Rattle.mail_world.proofs.Accepted.{each_at}
 use Rattle.block_arena.proofs.Stamps.{stamped_on, goes_on}
-use Rattle.block_arena.proofs.Slots.{slot_at, Turn}
+use Rattle.block_arena.proofs.Slots.{slot_at, SlotChange}
 use Rattle.block_arena.proofs.Seen.{Sees, stands, run_low, full_length}
 use Rattle.block_arena.proofs.Frames.{Without, none_else, map_kept}
-use Rattle.block_arena.proofs.Freed.{Owns, IsLast, last_in}
+use Rattle.block_arena.proofs.Freed.{Owns, IsLastFreed, last_in}
 use Rattle.block_arena.proofs.Pieces.{flat, written, longer_run, slot_stays}
 use Rattle.block_arena.proofs.Puts.{Gains}
 use Rattle.block_arena.proofs.Chains.{chain_last, chain_length}
@@ -38,7 +38,7 @@ some_block : (n blocks : ℕ) → blocks ≡ d.blocks_for n → 0 < n % BLOCK_SI
 some_block n blocks e h = omega (arith, e, h)
 
 pub draft_last : (key : Key) (depot : d.Depot) (a : ArenaFields) (run : Run)
-    → Sees key depot a (Draft run) → 0 < run.length % BLOCK_SIZE → (0 < run.blocks) × IsLast a.next a.free a.free_count (run.blocks - 1) run.first run.last
+    → Sees key depot a (Draft run) → 0 < run.length % BLOCK_SIZE → (0 < run.blocks) × IsLastFreed a.next a.free a.free_count (run.blocks - 1) run.first run.last
 draft_last key depot a run s some =
     let was : slice_get a.slots key.slot ≡ Some (slot_at key.generation (Draft run)) = stands key depot a (Draft run) s (λ e. cc) in
     let is : IsRun a.next run = each_at (λ (slot : Slot). IsContent a.next slot.content) a.slots key.slot (slot_at key.generation (Draft run)) s.arena.runs
@@ -48,13 +48,13 @@ draft_last key depot a run s some =
 
 pub fill_turn : (key : Key) (depot : d.Depot) (a : ArenaFields) (run : Run) (n : ℕ) (row : List ℕ)
     → Sees key depot a (Draft run) → 0 < run.length % BLOCK_SIZE → n ≤ BLOCK_SIZE - run.length % BLOCK_SIZE → length row ≡ BLOCK_SIZE
-    → Turn a key.slot (slot_at key.generation (Draft run)) (slot_at key.generation (Draft (longer run n)))
+    → SlotChange a key.slot (slot_at key.generation (Draft run)) (slot_at key.generation (Draft (longer run n)))
     (record a { store = set a.store run.last row; slots = slice_set a.slots key.slot (slot_at key.generation (Draft (longer run n))) })
 fill_turn key depot a run n row s some fits size =
     let was : slice_get a.slots key.slot ≡ Some (slot_at key.generation (Draft run)) = stands key depot a (Draft run) s (λ e. cc) in
     let is : IsRun a.next run = each_at (λ (slot : Slot). IsContent a.next slot.content) a.slots key.slot (slot_at key.generation (Draft run)) s.arena.runs
     was in
-    let l : (0 < run.blocks) × IsLast a.next a.free a.free_count (run.blocks - 1) run.first run.last = draft_last key depot a run s some in
+    let l : (0 < run.blocks) × IsLastFreed a.next a.free a.free_count (run.blocks - 1) run.first run.last = draft_last key depot a run s some in
     let has : 0 < run.blocks = l.0 in
     let one : suc (run.blocks - 1) ≡ run.blocks = omega (arith, has) in
     let there : occurrences run.last (chain run.blocks a.next run.first) ≡ 1 =
@@ -97,7 +97,7 @@ filled_bytes key depot a run n piece s some fits size =
     let was : slice_get a.slots key.slot ≡ Some (slot_at key.generation (Draft run)) = stands key depot a (Draft run) s (λ e. cc) in
     let is : IsRun a.next run = each_at (λ (slot : Slot). IsContent a.next slot.content) a.slots key.slot (slot_at key.generation (Draft run)) s.arena.runs
     was in
-    let l : (0 < run.blocks) × IsLast a.next a.free a.free_count (run.blocks - 1) run.first run.last = draft_last key depot a run s some in
+    let l : (0 < run.blocks) × IsLastFreed a.next a.free a.free_count (run.blocks - 1) run.first run.last = draft_last key depot a run s some in
     let has : 0 < run.blocks = l.0 in
     let one : run.blocks ≡ suc (run.blocks - 1) = omega (arith, has) in
     let parts : chain run.blocks a.next run.first ≡ chain (run.blocks - 1) a.next run.first ++ run.last ∷ [] =
@@ -124,14 +124,14 @@ get_any (x ∷ xs) zero a b h = refl
 get_any (x ∷ xs) (suc i) a b h = get_any xs i a b (omega (arith, h))
 
 -- what the code wrote into the last block
-pub record IsFilled (store : List (List ℕ)) (run : Run) (n : ℕ) (piece old row : List ℕ) : Type 0 where
+pub record FillsBlock (store : List (List ℕ)) (run : Run) (n : ℕ) (piece old row : List ℕ) : Type 0 where
   pub some : 0 < run.length % BLOCK_SIZE
   pub fits : n ≤ BLOCK_SIZE - run.length % BLOCK_SIZE
   pub size : length piece ≡ n
   pub was : old ≡ get_or store run.last []
   pub is : row ≡ take (run.length % BLOCK_SIZE) old ++ piece ++ drop (run.length % BLOCK_SIZE + length piece) old
 
-row_is : (store : List (List ℕ)) (run : Run) (n : ℕ) (piece old row : List ℕ) → IsFilled store run n piece old row
+row_is : (store : List (List ℕ)) (run : Run) (n : ℕ) (piece old row : List ℕ) → FillsBlock store run n piece old row
     → row ≡ take (run.length % BLOCK_SIZE) (get_or store run.last []) ++ piece ++ drop (run.length % BLOCK_SIZE + n) (get_or store run.last [])
 row_is store run n piece old row f =
     f.is ∙ ap (λ o. take (run.length % BLOCK_SIZE) o ++ piece ++ drop (run.length % BLOCK_SIZE + length piece) o) f.was
@@ -152,18 +152,18 @@ row_size row old piece at n e size long fits =
     )
 
 pub filled_turn : (key : Key) (depot : d.Depot) (a : ArenaFields) (run : Run) (n : ℕ) (piece old row : List ℕ)
-    → Sees key depot a (Draft run) → IsFilled a.store run n piece old row
-    → Turn a key.slot (slot_at key.generation (Draft run)) (slot_at key.generation (Draft (longer run n)))
+    → Sees key depot a (Draft run) → FillsBlock a.store run n piece old row
+    → SlotChange a key.slot (slot_at key.generation (Draft run)) (slot_at key.generation (Draft (longer run n)))
     (record a { store = set a.store run.last row; slots = slice_set a.slots key.slot (slot_at key.generation (Draft (longer run n))) })
 filled_turn key depot a run n piece old row s f =
-    let l : (0 < run.blocks) × IsLast a.next a.free a.free_count (run.blocks - 1) run.first run.last = draft_last key depot a run s f.some in
+    let l : (0 < run.blocks) × IsLastFreed a.next a.free a.free_count (run.blocks - 1) run.first run.last = draft_last key depot a run s f.some in
     let there : run.last < length a.store = omega (arith, l.1.low, s.arena.count) in
     fill_turn key depot a run n row s f.some f.fits
     (row_size row (get_or a.store run.last []) piece (run.length % BLOCK_SIZE) n (row_is a.store run n piece old row f) (s.arena.sizes run.last [] there) f.size
     (omega (arith, f.fits, f.some)))
 
 pub filled_gains : (key : Key) (depot : d.Depot) (a : ArenaFields) (run : Run) (n : ℕ) (piece old row : List ℕ)
-    → Sees key depot a (Draft run) → IsFilled a.store run n piece old row
+    → Sees key depot a (Draft run) → FillsBlock a.store run n piece old row
     → Gains key a run (longer run n) piece
     (record a { store = set a.store run.last row; slots = slice_set a.slots key.slot (slot_at key.generation (Draft (longer run n))) })
 filled_gains key depot a run n piece old row s f = record {
@@ -180,9 +180,9 @@ pub filled_by : (key : Key) (depot : d.Depot) (a : ArenaFields) (run : Run) (n :
     → Sees key depot a (Draft run) → 0 < run.length % BLOCK_SIZE → n ≤ length bytes → n ≤ BLOCK_SIZE - run.length % BLOCK_SIZE
     → old ≡ get_or a.store run.last other
     → row ≡ take (run.length % BLOCK_SIZE) old ++ take n bytes ++ drop (run.length % BLOCK_SIZE + length (take n bytes)) old
-    → IsFilled a.store run n (take n bytes) old row
+    → FillsBlock a.store run n (take n bytes) old row
 filled_by key depot a run n bytes old row other s some short fits was is =
-    let l : (0 < run.blocks) × IsLast a.next a.free a.free_count (run.blocks - 1) run.first run.last = draft_last key depot a run s some in
+    let l : (0 < run.blocks) × IsLastFreed a.next a.free a.free_count (run.blocks - 1) run.first run.last = draft_last key depot a run s some in
     record {
       some = some;
       fits = fits;

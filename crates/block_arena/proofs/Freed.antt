@@ -18,7 +18,7 @@ use Rattle.block_arena.proofs.Chains.{chain_last, splice}
 use Rattle.mail_world.proofs.Heard.{all_set}
 use Rattle.mail_world.proofs.Accepted.{each_at}
 use Rattle.mail_world.proofs.Holds.{sum_set}
-use Rattle.block_arena.proofs.Slots.{slot_at, Turn, turned, map_set, get_within}
+use Rattle.block_arena.proofs.Slots.{slot_at, SlotChange, turned, map_set, get_within}
 use Rattle.block_arena.proofs.Seen.{Sees, under, stands, run_times}
 use Rattle.block_arena.proofs.Stamps.{stamped_on, goes_past}
 use Rattle.block_arena.proofs.Frames.{Without, none_else, map_kept, all_kept, slot_keeps, content_keeps, others_stay}
@@ -73,7 +73,8 @@ after_as false store next slots i g free = refl
 -- a slot without blocks
 pub empty_turn : (key : Key) (depot : d.Depot) (a : ArenaFields) (content : Content) (run : Run)
     → Sees key depot a content → Owns a.store a.next content run → run.blocks ≡ 0
-    → Turn a key.slot (slot_at key.generation content) (slot_after key.generation) (record a { slots = slice_set a.slots key.slot (slot_after key.generation) })
+    → SlotChange a key.slot (slot_at key.generation content) (slot_after key.generation)
+    (record a { slots = slice_set a.slots key.slot (slot_after key.generation) })
 empty_turn key depot a content run s o none =
     let was : slice_get a.slots key.slot ≡ Some (slot_at key.generation content) = stands key depot a content s o.filled in
     record {
@@ -98,7 +99,7 @@ empty_turn key depot a content run s o none =
     }
 
 -- what holds of the last block of a run
-pub record IsLast (next : List ℕ) (free free_count n first last : ℕ) : Type 0 where
+pub record IsLastFreed (next : List ℕ) (free free_count n first last : ℕ) : Type 0 where
   pub is : node n next first ≡ last
   pub once : occurrences last (chain n next first) ≡ 0
   pub low : last < length next
@@ -122,7 +123,7 @@ last_times n next first last e =
 
 pub last_of : (next : List ℕ) (free free_count n first last : ℕ) → node n next first ≡ last
     → occurrences last (chain free_count next free) + occurrences last (chain (suc n) next first) ≤ cond (nat_lt last (length next)) 1 0
-    → IsLast next free free_count n first last
+    → IsLastFreed next free free_count n first last
 last_of next free free_count n first last is within =
     let count : occurrences last (chain (suc n) next first) ≡ occurrences last (chain n next first) + 1 = last_times n next first last is in
     let p : (occurrences last (chain n next first) ≡ 0) × (occurrences last (chain free_count next free) ≡ 0) × (nat_lt last (length next) ≡ true) =
@@ -137,7 +138,7 @@ last_of next free free_count n first last is within =
     }
 
 -- the blocks of a run go to the head of the free ones
-splice_free : (next : List ℕ) (free free_count : ℕ) (run : Run) → IsLast next free free_count (run.blocks - 1) run.first run.last → 0 < run.blocks
+splice_free : (next : List ℕ) (free free_count : ℕ) (run : Run) → IsLastFreed next free free_count (run.blocks - 1) run.first run.last → 0 < run.blocks
     → chain (free_count + run.blocks) (set next run.last free) run.first ≡ chain run.blocks next run.first ++ chain free_count next free
 splice_free next free free_count run l some =
     let one : suc (run.blocks - 1) ≡ run.blocks = omega (arith, some) in
@@ -146,7 +147,7 @@ splice_free next free free_count run l some =
     ∙ ap (λ k. chain k next run.first ++ chain free_count next free) one
 
 pub last_in : (key : Key) (depot : d.Depot) (a : ArenaFields) (content : Content) (run : Run)
-    → Sees key depot a content → Owns a.store a.next content run → 0 < run.blocks → IsLast a.next a.free a.free_count (run.blocks - 1) run.first run.last
+    → Sees key depot a content → Owns a.store a.next content run → 0 < run.blocks → IsLastFreed a.next a.free a.free_count (run.blocks - 1) run.first run.last
 last_in key depot a content run s o some =
     let was : slice_get a.slots key.slot ≡ Some (slot_at key.generation content) = stands key depot a content s o.filled in
     let is : IsRun a.next run = o.is
@@ -159,7 +160,7 @@ last_in key depot a content run s o some =
 
 pub freed_turn : (key : Key) (depot : d.Depot) (a : ArenaFields) (content : Content) (run : Run)
     → Sees key depot a content → Owns a.store a.next content run → 0 < run.blocks
-    → Turn a key.slot (slot_at key.generation content) (slot_after key.generation)
+    → SlotChange a key.slot (slot_at key.generation content) (slot_after key.generation)
     (record a {
       next = set a.next run.last a.free;
       slots = slice_set a.slots key.slot (slot_after key.generation);
@@ -168,7 +169,7 @@ pub freed_turn : (key : Key) (depot : d.Depot) (a : ArenaFields) (content : Cont
     })
 freed_turn key depot a content run s o some =
     let was : slice_get a.slots key.slot ≡ Some (slot_at key.generation content) = stands key depot a content s o.filled in
-    let l : IsLast a.next a.free a.free_count (run.blocks - 1) run.first run.last = last_in key depot a content run s o some in
+    let l : IsLastFreed a.next a.free a.free_count (run.blocks - 1) run.first run.last = last_in key depot a content run s o some in
     let one : suc (run.blocks - 1) ≡ run.blocks = omega (arith, some) in
     let there : occurrences run.last (d.blocks_of (held a.store a.next content)) ≡ 1 =
     ap (occurrences run.last) o.blocks ∙ ap (λ k. occurrences run.last (chain k a.next run.first)) (sym one) ∙ l.there in
@@ -211,7 +212,7 @@ freed_turn key depot a content run s o some =
 -- what a turn of the slot past its generation frees
 pub frees : (key : Key) (depot : d.Depot) (a : ArenaFields) (content : Content) (a' : ArenaFields)
     → Sees key depot a content
-    → Turn a key.slot (slot_at key.generation content) (slot_after key.generation) a'
+    → SlotChange a key.slot (slot_at key.generation content) (slot_after key.generation) a'
     → Frees depot (depot_key key) (depot_of a')
 frees key depot a content a' s t = record {
   free = chain a'.free_count a'.next a'.free;

@@ -21,10 +21,10 @@ use Rattle.block_arena.proofs.Chains.{times_cons, apart, chain_keeps, node_keeps
 use Rattle.mail_world.proofs.Heard.{all_set}
 use Rattle.mail_world.proofs.Accepted.{each_at}
 use Rattle.block_arena.proofs.Stamps.{Stays, stamped_on, stamped_new, goes_on}
-use Rattle.block_arena.proofs.Slots.{slot_at, Turn, map_set}
+use Rattle.block_arena.proofs.Slots.{slot_at, SlotChange, map_set}
 use Rattle.block_arena.proofs.Frames.{Without, none_by, none_else, at_most, map_same, map_kept, all_kept, slot_keeps, content_keeps, others_stay, times_part}
 use Rattle.block_arena.proofs.Seen.{Sees, stands, run_low, free_low, full_length}
-use Rattle.block_arena.proofs.Freed.{IsLast, last_in}
+use Rattle.block_arena.proofs.Freed.{IsLastFreed, last_in}
 use Rattle.block_arena.proofs.Puts.{Gains, room_to}
 use Rattle.block_arena.proofs.Filled.{draft_owns}
 use Rattle.block_arena.proofs.Pieces.{flat, flat_append, slot_stays, next_run, full_run, take_after, take_exact}
@@ -123,7 +123,8 @@ links_some : (key : Key) (depot : d.Depot) (a : ArenaFields) (run : Run) → See
     → Links a key.slot run (set a.next run.last a.free) run.first
 links_some key depot a run s has some =
     let was : slice_get a.slots key.slot ≡ Some (slot_at key.generation (Draft run)) = stands key depot a (Draft run) s (λ e. cc) in
-    let l : IsLast a.next a.free a.free_count (run.blocks - 1) run.first run.last = last_in key depot a (Draft run) run s (draft_owns a.store a.next run) has in
+    let l : IsLastFreed a.next a.free a.free_count (run.blocks - 1) run.first run.last =
+      last_in key depot a (Draft run) run s (draft_owns a.store a.next run) has in
     let one : suc (run.blocks - 1) ≡ run.blocks = omega (arith, has) in
     let more : suc (run.blocks - 1) + 1 ≡ run.blocks + 1 = omega (arith, has) in
     let there : occurrences run.last (chain run.blocks a.next run.first) ≡ 1 = ap (λ k. occurrences run.last (chain k a.next run.first)) (sym one) ∙ l.there in
@@ -218,7 +219,7 @@ linked_stamps key depot a run n s l =
 
 pub linked_turn : (key : Key) (depot : d.Depot) (a : ArenaFields) (run : Run) (n : ℕ) (piece row : List ℕ) → Sees key depot a (Draft run)
     → IsNextRun a.free_count run n piece row
-    → Turn a key.slot (slot_at key.generation (Draft run)) (slot_at key.generation (Draft (longer (linked_run run a.free) n)))
+    → SlotChange a key.slot (slot_at key.generation (Draft run)) (slot_at key.generation (Draft (longer (linked_run run a.free) n)))
     (record a {
       next = linked_next a.next run a.free;
       stamps = set a.stamps a.free (stamp_for key run.blocks);

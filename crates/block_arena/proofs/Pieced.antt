@@ -10,13 +10,13 @@ use Rattle.block_arena.specs.declared.slot.Content.{Content}
 use Rattle.block_arena.specs.declared.slot.Content.TheVariants.{Draft}
 use Rattle.block_arena.specs.declared.slot.Slot.{Slot}
 use Rattle.block_arena.specs.Fields.{ArenaFields, content_at, depot_of, run_of, longer, linked_run, linked_next, stamp_for, IsContent, IsRun, IsArena}
-use Rattle.block_arena.specs.Rows.{written}
+use Rattle.block_arena.specs.Rows.{with_piece}
 use Rattle.block_arena.specs.Calls.{depot_key, IsDraft}
 use Rattle.mail_world.proofs.Accepted.{each_at}
 use Rattle.block_arena.proofs.Slots.{slot_at}
 use Rattle.block_arena.proofs.Seen.{Sees, sees, under, stands, enough_room}
 use Rattle.block_arena.proofs.Freed.{last_in, slot_within, sum_within}
-use Rattle.block_arena.proofs.Filled.{draft_is, draft_owns, draft_last, filled_by, filled_gains, get_any, IsFilled}
+use Rattle.block_arena.proofs.Filled.{draft_is, draft_owns, draft_last, filled_by, filled_gains, get_any, FillsBlock}
 use Rattle.block_arena.proofs.Linked.{IsNextRun, linked_gains, next_by, some_free, free_there, spare}
 use Rattle.block_arena.proofs.Puts.{Gains, gained_puts, gained_room, sees_new, room_to, room_from}
 use Rattle.mail_world.specs.declared.limits.TheConstants.{BLOCK_SIZE, BLOCK_LIMIT}
@@ -50,14 +50,14 @@ pub slot_low : (key : Key) (depot : d.Depot) (a : ArenaFields) (run : Run) (n : 
 slot_low key depot a run n bytes k = slot_within key depot a (Draft run) run k.sees (draft_owns a.store a.next run)
 
 -- the two ways of a piece, whose links and free blocks the code made
-pub record IsPut (key : Key) (depot : d.Depot) (n : ℕ) (bytes : List ℕ) (a : ArenaFields) : Type 0 where
+pub record PieceIsPut (key : Key) (depot : d.Depot) (n : ℕ) (bytes : List ℕ) (a : ArenaFields) : Type 0 where
   pub arena : IsArena a
   pub put : d.Puts depot (depot_key key) (take n bytes) (depot_of a)
   pub room : d.HasRoom (depot_of a) (depot_key key) (drop n bytes)
 
 gained : (key : Key) (depot : d.Depot) (a : ArenaFields) (run run' : Run) (n : ℕ) (bytes : List ℕ) (a' : ArenaFields)
     → Sees key depot a (Draft run) → Gains key a run run' (take n bytes) a' → n ≤ length bytes → d.HasRoom depot (depot_key key) bytes
-    → IsPut key depot n bytes a'
+    → PieceIsPut key depot n bytes a'
 gained key depot a run run' n bytes a' s g short room = record {
   arena = (sees_new key depot a run run' a' g.turn).arena;
   put = gained_puts key depot a run run' (take n bytes) a' s g;
@@ -66,19 +66,20 @@ gained key depot a run run' n bytes a' s g short room = record {
 
 pub put_last : (key : Key) (depot : d.Depot) (a : ArenaFields) (run : Run) (n : ℕ) (bytes : List ℕ) (store' : List (List ℕ)) (slot : Slot)
     → Knows key depot a run n bytes → 0 < run.length % BLOCK_SIZE
-    → store' ≡ set a.store run.last (written (get_or a.store run.last []) (run.length % BLOCK_SIZE) (take n bytes))
+    → store' ≡ set a.store run.last (with_piece (get_or a.store run.last []) (run.length % BLOCK_SIZE) (take n bytes))
     → slot ≡ slot_at key.generation (Draft (longer run n))
-    → IsPut key depot n bytes (record a { store = store'; slots = slice_set a.slots key.slot slot })
+    → PieceIsPut key depot n bytes (record a { store = store'; slots = slice_set a.slots key.slot slot })
 put_last key depot a run n bytes store' slot k some is e =
-    let f : IsFilled a.store run n (take n bytes) (get_or a.store run.last []) (written (get_or a.store run.last []) (run.length % BLOCK_SIZE) (take n bytes)) =
-    filled_by key depot a run n bytes (get_or a.store run.last []) (written (get_or a.store run.last []) (run.length % BLOCK_SIZE) (take n bytes)) [] k.sees
+    let f : FillsBlock a.store run n (take n bytes) (get_or a.store run.last [])
+      (with_piece (get_or a.store run.last []) (run.length % BLOCK_SIZE) (take n bytes)) =
+    filled_by key depot a run n bytes (get_or a.store run.last []) (with_piece (get_or a.store run.last []) (run.length % BLOCK_SIZE) (take n bytes)) [] k.sees
     some (omega (arith, k.least)) (omega (arith, k.least)) refl refl in
-    subst (λ (x : Slot). IsPut key depot n bytes (record a { store = store'; slots = slice_set a.slots key.slot x })) (sym e)
-    (subst (λ (x : List (List ℕ)). IsPut key depot n bytes
+    subst (λ (x : Slot). PieceIsPut key depot n bytes (record a { store = store'; slots = slice_set a.slots key.slot x })) (sym e)
+    (subst (λ (x : List (List ℕ)). PieceIsPut key depot n bytes
     (record a { store = x; slots = slice_set a.slots key.slot (slot_at key.generation (Draft (longer run n))) })) (sym is)
     (gained key depot a run (longer run n) n bytes _ k.sees
-    (filled_gains key depot a run n (take n bytes) (get_or a.store run.last []) (written (get_or a.store run.last []) (run.length % BLOCK_SIZE) (take n bytes))
-    k.sees f) (omega (arith, k.least)) k.room))
+    (filled_gains key depot a run n (take n bytes) (get_or a.store run.last [])
+    (with_piece (get_or a.store run.last []) (run.length % BLOCK_SIZE) (take n bytes)) k.sees f) (omega (arith, k.least)) k.room))
 
 put_free : (key : Key) (depot : d.Depot) (a : ArenaFields) (run : Run) (n : ℕ) (bytes old row other : List ℕ) (rest spare' : ℕ) (run' : Run) (next' : List ℕ)
     (slot : Slot)
@@ -86,7 +87,7 @@ put_free : (key : Key) (depot : d.Depot) (a : ArenaFields) (run : Run) (n : ℕ)
     → row ≡ take 0 old ++ take n bytes ++ drop (0 + length (take n bytes)) old
     → rest ≡ get_or a.next a.free spare' → run' ≡ linked_run run a.free → next' ≡ linked_next a.next run a.free
     → slot ≡ slot_at key.generation (Draft (longer run' n))
-    → IsPut key depot n bytes (record
+    → PieceIsPut key depot n bytes (record
     a {
       store = set a.store a.free row;
       next = next';
@@ -102,7 +103,7 @@ put_free key depot a run n bytes old row other rest spare' run' next' slot k ful
     let there : get_or (set a.store a.free row) a.free [] ≡ row = get_or-set_same a.store a.free row [] (omega (arith, low, k.sees.arena.count)) in
     let same : slot ≡ slot_at key.generation (Draft (longer (linked_run run a.free) n)) =
     e ∙ ap (λ (r : Run). slot_at key.generation (Draft (longer r n))) runs in
-    subst (λ (x : Slot). IsPut key depot n bytes
+    subst (λ (x : Slot). PieceIsPut key depot n bytes
     (record a {
       store = set a.store a.free row;
       next = next';
@@ -111,7 +112,7 @@ put_free key depot a run n bytes old row other rest spare' run' next' slot k ful
       free = rest;
       free_count = a.free_count - 1;
     })) (sym same)
-    (subst (λ ns. IsPut key depot n bytes
+    (subst (λ ns. PieceIsPut key depot n bytes
     (record a {
       store = set a.store a.free row;
       next = ns;
@@ -121,7 +122,7 @@ put_free key depot a run n bytes old row other rest spare' run' next' slot k ful
       free_count = a.free_count - 1;
     }))
     (sym links)
-    (subst (λ b. IsPut key depot n bytes
+    (subst (λ b. PieceIsPut key depot n bytes
     (record a {
       store = set a.store a.free row;
       next = linked_next a.next run a.free;
@@ -136,10 +137,10 @@ put_free key depot a run n bytes old row other rest spare' run' next' slot k ful
 
 pub put_next : (key : Key) (depot : d.Depot) (a : ArenaFields) (run : Run) (n : ℕ) (bytes : List ℕ) (store' : List (List ℕ)) (rest spare' : ℕ) (run' : Run)
     (next' : List ℕ) (slot : Slot)
-    → Knows key depot a run n bytes → run.length % BLOCK_SIZE ≡ 0 → store' ≡ set a.store a.free (written (get_or a.store a.free []) 0 (take n bytes))
+    → Knows key depot a run n bytes → run.length % BLOCK_SIZE ≡ 0 → store' ≡ set a.store a.free (with_piece (get_or a.store a.free []) 0 (take n bytes))
     → rest ≡ get_or a.next a.free spare' → run' ≡ linked_run run a.free → next' ≡ linked_next a.next run a.free
     → slot ≡ slot_at key.generation (Draft (longer run' n))
-    → IsPut key depot n bytes (record
+    → PieceIsPut key depot n bytes (record
     a {
       store = store';
       next = next';
@@ -149,7 +150,7 @@ pub put_next : (key : Key) (depot : d.Depot) (a : ArenaFields) (run : Run) (n : 
       free_count = a.free_count - 1;
     })
 put_next key depot a run n bytes store' rest spare' run' next' slot k full is after runs links e =
-    subst (λ (x : List (List ℕ)). IsPut key depot n bytes
+    subst (λ (x : List (List ℕ)). PieceIsPut key depot n bytes
     (record a {
       store = x;
       next = next';
@@ -158,7 +159,7 @@ put_next key depot a run n bytes store' rest spare' run' next' slot k full is af
       free = rest;
       free_count = a.free_count - 1;
     })) (sym is)
-    (put_free key depot a run n bytes (get_or a.store a.free []) (written (get_or a.store a.free []) 0 (take n bytes)) [] rest spare' run' next' slot k full
+    (put_free key depot a run n bytes (get_or a.store a.free []) (with_piece (get_or a.store a.free []) 0 (take n bytes)) [] rest spare' run' next' slot k full
     refl refl after runs links e)
 
 -- bounds that the code needs

@@ -15,7 +15,7 @@ use Rattle.block_arena.specs.Fields.{ArenaFields, content_at, chain, blocks_in, 
 use Rattle.block_arena.specs.Calls.{depot_key}
 use Rattle.block_arena.proofs.Chains.{chain_length}
 use Rattle.mail_world.proofs.Accepted.{each_at}
-use Rattle.block_arena.proofs.Slots.{slot_at, Turn, turned, turned_at}
+use Rattle.block_arena.proofs.Slots.{slot_at, SlotChange, turned, turned_at}
 use Rattle.block_arena.proofs.Seen.{Sees, under, stands, run_low, run_length, draft_length}
 use Rattle.block_arena.proofs.Labels.{set_same, set_twice, held_there}
 
@@ -25,7 +25,7 @@ content_if g c false e = let yes' : (g == g) ≡ true = eq-eqb g g refl in cc
 
 -- the draft after a turn of its slot
 pub sees_new : (key : Key) (depot : d.Depot) (a : ArenaFields) (run run' : Run) (a' : ArenaFields)
-    → Turn a key.slot (slot_at key.generation (Draft run)) (slot_at key.generation (Draft run')) a'
+    → SlotChange a key.slot (slot_at key.generation (Draft run)) (slot_at key.generation (Draft run')) a'
     → Sees key (depot_of a') a' (Draft run')
 sees_new key depot a run run' a' t = record {
   arena = turned a key.slot (slot_at key.generation (Draft run)) (slot_at key.generation (Draft run')) a' t;
@@ -58,7 +58,7 @@ room_from key depot a run bytes s h =
 -- a turn by which a draft gains a piece, and the free blocks that it picks
 pub record Gains (key : Key) (a : ArenaFields) (run run' : Run) (piece : List ℕ) (a' : ArenaFields) : Type 0 where
   pub picked : List ℕ
-  pub turn : Turn a key.slot (slot_at key.generation (Draft run)) (slot_at key.generation (Draft run')) a'
+  pub turn : SlotChange a key.slot (slot_at key.generation (Draft run)) (slot_at key.generation (Draft run')) a'
   pub long : run'.length ≡ run.length + length piece
   pub bytes : bytes_in a'.store a'.next run' ≡ bytes_in a.store a.next run ++ piece
   pub blocks : blocks_in a'.next run' ≡ blocks_in a.next run ++ picked

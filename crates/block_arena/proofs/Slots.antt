@@ -52,7 +52,7 @@ found (Some slot) g content e filled =
     ap (λ (x : Slot). Some x) (same_slot slot.generation g slot.content content p.0 p.1)
 
 -- what a step of one slot owes for the arena to stand after it
-pub record Turn (a : ArenaFields) (i : ℕ) (old s : Slot) (a' : ArenaFields) : Type 0 where
+pub record SlotChange (a : ArenaFields) (i : ℕ) (old s : Slot) (a' : ArenaFields) : Type 0 where
   pub arena : IsArena a
   pub was : slice_get a.slots i ≡ Some old
   pub slots : a'.slots ≡ slice_set a.slots i s
@@ -69,7 +69,7 @@ pub record Turn (a : ArenaFields) (i : ℕ) (old s : Slot) (a' : ArenaFields) : 
       ≡ occurrences x (chain a.free_count a.next a.free) + occurrences x (d.blocks_of (held a.store a.next old.content))
 
 pub turned : (a : ArenaFields) (i : ℕ) (old s : Slot) (a' : ArenaFields)
-    → Turn a i old s a' → IsArena a'
+    → SlotChange a i old s a' → IsArena a'
 turned a i old s a' t = record {
   sizes = t.sizes;
   count = t.blocks_stay ∙ t.arena.count ∙ sym t.next_stay;
@@ -122,7 +122,7 @@ turned a i old s a' t = record {
       moved ∙ t.arena.once x ∙ ap (λ n. cond (nat_lt x n) 1 0) (sym t.next_stay)
 
 -- the slot after the step
-pub turned_at : (a : ArenaFields) (i : ℕ) (old s : Slot) (a' : ArenaFields) → Turn a i old s a' → slice_get a'.slots i ≡ Some s
+pub turned_at : (a : ArenaFields) (i : ℕ) (old s : Slot) (a' : ArenaFields) → SlotChange a i old s a' → slice_get a'.slots i ≡ Some s
 turned_at a i old s a' t = ap (λ ss. slice_get ss i) t.slots ∙ set_at a.slots i s old t.was
 
 -- a slot changes what it says of its blocks, and no block moves

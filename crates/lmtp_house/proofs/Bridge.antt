@@ -30,7 +30,7 @@ pub record AreFresh {A B : Type 0} (ends : Ends A B) : Type 0 where
   pub inbox : ends.inbox.took_at ≡ []
 
 -- all that a thread did at its ends
-pub record HasEnded {A B : Type 0} (sorts : Sorts) (deeds : List TimedDeed) (ends : Ends A B) : Type 0 where
+pub record HasDoneAll {A B : Type 0} (sorts : Sorts) (deeds : List TimedDeed) (ends : Ends A B) : Type 0 where
   pub until : ℕ
   pub rises : RisesTo 0 until (times deeds)
   pub gave : (at : ℕ) (sender : Sender A) → slice_get ends.senders at ≡ Some sender → sender.sent_at ≡ times (those (sorts.gives at) deeds)
@@ -49,7 +49,7 @@ module _ {A B : Type 0} where
       no_sum (λ (s : Sender A). last_of 0 s.sent_at) ends.senders (λ i s is. ap (last_of 0) (fresh.senders i s is)) in
       let took : last_of 0 ends.inbox.took_at ≡ 0 = ap (last_of 0) fresh.inbox in omega arith
 
-  pub has_ended : (sorts : Sorts) (deeds : List TimedDeed) (old new : Ends A B) → AreFresh old → AreInTime sorts deeds old new → HasEnded sorts deeds new
+  pub has_ended : (sorts : Sorts) (deeds : List TimedDeed) (old new : Ends A B) → AreFresh old → AreInTime sorts deeds old new → HasDoneAll sorts deeds new
   has_ended sorts deeds old new fresh h = record {
     until = clock_of new.senders new.inbox;
     rises = subst (λ lo. RisesTo lo (clock_of new.senders new.inbox) (times deeds)) (fresh_clock old fresh) h.rises;

@@ -20,7 +20,7 @@ use Rattle.lmtp_threads.specs.Works.{VisitsView}
 use Rattle.thread_crew.specs.Channels.{channels_of, AreNewChannels, AreClosedWith, HaveTimes, IsSettled}
 use Rattle.thread_crew.proofs.ChannelRows.{at_map, same_at}
 use Rattle.lmtp_threads.specs.Tasks.{LanesGiven, LanesBack, WorkersGiven, WorkersBack, IsInTime, HaveServed, HaveWorked}
-use Rattle.lmtp_house.proofs.Bridge.{AreFresh, HasEnded, has_ended}
+use Rattle.lmtp_house.proofs.Bridge.{AreFresh, HasDoneAll, has_ended}
 use Rattle.lmtp_house.proofs.ManyLanes.{HaveDeeds}
 
 -- the ends of a thread over new channels
@@ -28,7 +28,7 @@ module _ {A B : Type 0} {capacity room : ℕ} (n m count : ℕ) (rows rows' : Li
     (others : List (List (Sender B))) (ins : List (Inbox A)) (inboxes inboxes' : List (Inbox B))
     (given : AreNewChannels capacity n count rows ins) (heard : AreNewChannels room m n others inboxes) (sorts : Sorts) (k : ℕ) (deeds : List TimedDeed)
     (d : IsInTime sorts k rows rows' inboxes inboxes' deeds) where
-  ended : HasEnded sorts deeds d.new
+  ended : HasDoneAll sorts deeds d.new
   ended =
       let fresh : AreFresh d.old = record {
         senders = λ b sender is. given.timeless k b d.old.senders sender d.row_was is;
@@ -50,13 +50,13 @@ module _ {V S : Type 0} {capacity room : ℕ} (site : Site) (May : ℕ → Type 
     (mail_times : HaveTimes new_lanes.rows mail_closed) (slips_times : HaveTimes new_boxes.rows slips_closed)
     (mail_settled : AllZip (IsSettled (λ (n : Note). n.txn.lane)) new_boxes.inboxes mail_closed)
     (slips_settled : AllZip (IsSettled (λ (s : Slip). s.worker)) new_lanes.inboxes slips_closed) where
-  lane_ended : (k : ℕ) (below : k < length old_lanes.visits) → HasEnded lane_sorts (lanes.deeds k) (lanes.in_time k below).new
+  lane_ended : (k : ℕ) (below : k < length old_lanes.visits) → HasDoneAll lane_sorts (lanes.deeds k) (lanes.in_time k below).new
   lane_ended k below =
       ended (length old_lanes.visits) (length old_boxes.spools) (length old_boxes.spools) old_lanes.rows new_lanes.rows old_boxes.rows old_boxes.inboxes
       old_lanes.inboxes new_lanes.inboxes
       mail_new slips_new lane_sorts k (lanes.deeds k) (lanes.in_time k below)
 
-  worker_ended : (b : ℕ) (below : b < length old_boxes.spools) → HasEnded worker_sorts (boxes.deeds b) (boxes.in_time b below).new
+  worker_ended : (b : ℕ) (below : b < length old_boxes.spools) → HasDoneAll worker_sorts (boxes.deeds b) (boxes.in_time b below).new
   worker_ended b below =
       ended (length old_boxes.spools) (length old_lanes.visits) (length old_lanes.visits) old_boxes.rows new_boxes.rows old_lanes.rows old_lanes.inboxes
       old_boxes.inboxes new_boxes.inboxes

@@ -24,7 +24,7 @@ use Rattle.lmtp_lane.specs.Visits.{conversations_of}
 use Rattle.lmtp_threads.specs.Works.{LaneWork, BoxWork}
 use Rattle.lmtp_house.specs.Handed.{HandedIn, HandedBack}
 use Rattle.lmtp_house.specs.RunOfModel.{AreModelled, server_of, threads_of, IsRunOfModel}
-use Rattle.lmtp_house.proofs.RunOfModel.{HaveExchanged, Known, courses, known, run_of}
+use Rattle.lmtp_house.proofs.RunOfModel.{HaveExchanged, KnownOfBox, courses, known, run_of}
 use Rattle.lmtp_house.proofs.Bridge.{IsSettledAs, said_otherwise, AreJoined, joined_in_order}
 use Rattle.lmtp_house.proofs.BridgeRows.{AreSettledAs, settled_as}
 
@@ -60,7 +60,7 @@ module _ {V S : Type 0} (site : Site) (state : S → SpoolState) (lanes : ℕ �
   abbrev threads : Threads
   threads = threads_of site lanes ran
 
-  known_at : (b : ℕ) → b < length old.spools → Known site state lanes boxes old new h modelled b
+  known_at : (b : ℕ) → b < length old.spools → KnownOfBox site state lanes boxes old new h modelled b
   known_at b below = known site state lanes boxes old new h modelled b below
 
   abbrev held_by : ℕ → List Conversation

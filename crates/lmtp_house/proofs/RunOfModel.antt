@@ -80,12 +80,12 @@ module _ {V S : Type 0} (site : Site) (state : S → SpoolState) (lanes : ℕ �
     courses b = (course_at b).course
 
     -- of each mailbox of the server
-    pub record Known (b : ℕ) : Type 0 where
+    pub record KnownOfBox (b : ℕ) : Type 0 where
       pub is : IsCourse server (courses b)
       pub taken : (courses b).taken ≡ (boxes b).taken
       pub outcomes : (courses b).outcomes ≡ (boxes b).outcomes
 
-    pub known : (b : ℕ) → b < length old.spools → Known b
+    pub known : (b : ℕ) → b < length old.spools → KnownOfBox b
     known b below =
         let as_many = h.as_many in
         let x = at old.spools b below in

@@ -305,8 +305,8 @@ pub in_any_order : (notes : List Note) (e : Episode) (did : List Deed) (old now 
 in_any_order notes e did old now went x = record { exchanged = x; in_order = λ none. let bad : true ≡ false = sym went ∙ none in cc }
 
 -- one more copy is left where these ends were
-abbrev pub Leaves : Note → LaneEnds → LaneEnds → Type 0
-Leaves note now next = (notes : List Note) (e : Episode) (old : LaneEnds) → HasExchanged notes e old now
+abbrev pub LeavesCopy : Note → LaneEnds → LaneEnds → Type 0
+LeavesCopy note now next = (notes : List Note) (e : Episode) (old : LaneEnds) → HasExchanged notes e old now
     → (y : HasExchanged (notes ++ note ∷ []) e old next) × IsAmong note y.left
 
 -- the same steps within a message
@@ -330,7 +330,7 @@ module _ (notes : List Note) (gave : List Deed) (txn : Txn) (n : ℕ) (past : Ep
         none_heard = unheard;
       }
 
-  pub way_left : (did : List Deed) (note : Note) (next : LaneEnds) (gather : Gather) → Leaves note now.ends next → next.gone ≡ true
+  pub way_left : (did : List Deed) (note : Note) (next : LaneEnds) (gather : Gather) → LeavesCopy note now.ends next → next.gone ≡ true
       → (own_slip_of old.lane note).txn ≡ txn
       → (times_named (own_slip_of old.lane note).txn (own_slip_of old.lane note).place x.now.heard ≡ 0)
       × HasGathered txn n (x.now.heard ++ own_slip_of old.lane note ∷ []) gather
@@ -350,7 +350,7 @@ module _ (notes : List Note) (gave : List Deed) (txn : Txn) (n : ℕ) (past : Ep
         none_heard = λ none. let bad : true ≡ false = sym went ∙ none in cc;
       }
 
-  pub way_kept : (did : List Deed) (note : Note) (next : LaneEnds) → Leaves note now.ends next → next.gone ≡ true
+  pub way_kept : (did : List Deed) (note : Note) (next : LaneEnds) → LeavesCopy note now.ends next → next.gone ≡ true
       → IsOffering (notes ++ note ∷ []) did txn n past old (sending next now.gather)
   way_kept did note next leaves went = record {
     way = record {
@@ -412,7 +412,7 @@ abbrev pub HearsSlip : Slip → Gather → Gather → Type 0
 HearsSlip slip old new = (txn : Txn) (n : ℕ) (heard : List Slip) → HasGathered txn n heard old → HasGathered txn n (heard ++ slip ∷ []) new
 
 -- a copy was left: the lane's own slip of it was given to the gatherer, or its place keeps the slip that it has
-left_by : (note : Note) (now : Sending) (next : LaneEnds) (gather : Gather) (taken_so : Bool) → note.txn.lane ≡ now.ends.lane → Leaves note now.ends next
+left_by : (note : Note) (now : Sending) (next : LaneEnds) (gather : Gather) (taken_so : Bool) → note.txn.lane ≡ now.ends.lane → LeavesCopy note now.ends next
     → next.gone ≡ true
     → GathersOne (own_slip_of now.ends.lane note) now.gather gather taken_so
     → Continues note.txn (note ∷ []) now (sending next gather)
@@ -429,7 +429,7 @@ left_by note now next gather false here leaves went kept notes gave n past old x
 
 pub left_way : (slip : Slip) (note : Note) (now next : Sending) (ends : LaneEnds) (taken_so : Bool) → note.txn.lane ≡ now.ends.lane
     → slip ≡ own_slip_of now.ends.lane note
-    → Leaves note now.ends ends → ends.gone ≡ true → next.ends ≡ ends → GathersOne slip now.gather next.gather taken_so
+    → LeavesCopy note now.ends ends → ends.gone ≡ true → next.ends ≡ ends → GathersOne slip now.gather next.gather taken_so
     → Continues note.txn (note ∷ []) now next
 left_way slip note now next ends taken_so here is leaves went same takes notes gave n past old x =
     let T : Slip → Type 0 = λ s. GathersOne s now.gather next.gather taken_so in
@@ -438,12 +438,12 @@ left_way slip note now next ends taken_so here is leaves went same takes notes g
 
 pub leaves_gone : (mailbox : ℕ) (note : Note) (now : LaneEnds) (next : List (Sender Note)) → note.mailbox ≡ mailbox
     → IsOffered (lane_clock now) mailbox (λ sender. note) false now.senders next
-    → Leaves note now (found_gone (with_senders now next))
+    → LeavesCopy note now (found_gone (with_senders now next))
 leaves_gone mailbox note now next is o notes e old x =
     let P : ℕ → Type 0 = λ b. IsOffered (lane_clock now) b (λ sender. note) false now.senders next in
     gone_keeps_time notes e old now x note next (subst P (sym is) o)
 
-pub leaves_unoffered : (note : Note) (now : LaneEnds) → any_gone now.senders ≡ true → Leaves note now now
+pub leaves_unoffered : (note : Note) (now : LaneEnds) → any_gone now.senders ≡ true → LeavesCopy note now now
 leaves_unoffered note now box_gone notes e old x = unoffered_more notes e old now x note box_gone
 
 pub offered_way : (mailbox : ℕ) (note : Note) (now : Sending) (next : List (Sender Note)) → note.mailbox ≡ mailbox → any_gone now.ends.senders ≡ false

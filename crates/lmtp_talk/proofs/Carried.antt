@@ -29,7 +29,7 @@ use Rattle.lmtp_talk.specs.Steps.{TakesInputs, TellsLine, Talk, talk, BeginsIf, 
 use Rattle.lmtp_talk.specs.Entries.{line_kept, line_in}
 use Rattle.lmtp_talk.proofs.Entered.{logged_more, entries_line}
 use Rattle.lmtp_talk.proofs.CutUp.{cut_line}
-use Rattle.lmtp_talk.proofs.Quits.{GoesOn, line_goes_on, long_goes_on, quits_line, quits_long}
+use Rattle.lmtp_talk.proofs.Quits.{IsNotEnded, line_goes_on, long_goes_on, quits_line, quits_long}
 
 -- the state says what is inside
 in_line : (state : State) (dialogue : Dialogue) (rest : List ℕ) (come : Type 0) (drafts : List ℕ → Type 0) → TakesLines state
@@ -53,7 +53,7 @@ as_line Waiting dialogue rest come drafts h x = cc
 as_line Ended dialogue rest come drafts h x = cc
 
 -- after a line: at the beginning of the next, or inside data, or at the end
-after_one_line : (state : State) (dialogue : Dialogue) (come : Type 0) (drafts : List ℕ → Type 0) → GoesOn state → IsAfter dialogue.wire []
+after_one_line : (state : State) (dialogue : Dialogue) (come : Type 0) (drafts : List ℕ → Type 0) → IsNotEnded state → IsAfter dialogue.wire []
     → (is_content state ≡ true → InData dialogue [] drafts) → (is_content state ≡ false → come) → IsInside state dialogue [] come drafts
 after_one_line Fresh dialogue come drafts g w h k = record { after = w; comes = k refl }
 after_one_line Greeted dialogue come drafts g w h k = record { after = w; comes = k refl }
@@ -147,7 +147,7 @@ ended_line : (site : Site) (start : PeerState) (Before : ℕ → List Transactio
     → inputs_of (CommandLine (take end (h.rest ++ piece))) ≡ input ∷ []
     → line_kept (take end (h.rest ++ piece)) ≡ line_in input
     → TakesLine HasCome IsDrafting input (talk (record old { wire = wire }) before delivery) (talk new after later)
-    → GoesOn (step old.session.site old.session.session input).next.state
+    → IsNotEnded (step old.session.site old.session.session input).next.state
     → QuitsWith (session_after old.session.site old.session.session (input ∷ [])).state (flat_map inputs_of h.done ++ input ∷ [])
     → IsSoFar (beginning site start Before) (talk_state new after (HasCome later) (IsDrafting later)) (handled ++ take used piece) came
 ended_line site start Before {D} HasCome IsDrafting old new wire before after delivery later handled came piece used end input lines h ends input_is line_is t
@@ -160,7 +160,7 @@ ended_line site start Before {D} HasCome IsDrafting old new wire before after de
     let after_lines : TakesLines (session_after_parts site fresh h.done).state = subst (λ (s : Session). TakesLines s.state) h.session lines in
     let session_is : new.session.session ≡ session_after_parts site fresh (h.done ++ p ∷ []) =
     session_more site h.done p mid new before after takes h.same_site h.session in
-    let goes' : GoesOn new.session.session.state = subst (λ (s : Session). GoesOn s.state) (sym t.takes.session) goes in
+    let goes' : IsNotEnded new.session.session.state = subst (λ (s : Session). IsNotEnded s.state) (sym t.takes.session) goes in
     let state_is : is_content new.session.session.state ≡ is_content (session_after site (session_after_parts site fresh h.done) (inputs_of p)).state =
     ap (λ (s : Session). is_content s.state) (session_is ∙ session_after_parts-snoc site fresh h.done p) in
     record {

@@ -238,13 +238,13 @@ pub record IsQuiet (dialogue : Dialogue) : Type 0 where
   pub none : dialogue.outbox.pending ≡ []
 
 -- why a conversation ends in which nobody said to stop, and no read failed
-abbrev pub EndsAs : ℕ → EndCause → Dialogue → PeerState → List ℕ → Type 0
-EndsAs reads ends.Quit dialogue now handled = IsQuiet dialogue × (dialogue.session.session.state ≡ Ended)
-EndsAs reads ends.EndOfInput dialogue now handled = IsQuiet dialogue × (dialogue.session.session.state ≡ Ended → ⊥) × IsAtEnd now.unread
-EndsAs reads ends.ReadBound dialogue now handled = IsQuiet dialogue × (dialogue.session.session.state ≡ Ended → ⊥) × (reads ≤ length handled)
-EndsAs reads ends.WriteFault dialogue now handled = dialogue.outbox.broken ≡ true
-EndsAs reads ends.ReadFault dialogue now handled = ⊥
-EndsAs reads ends.Stopped dialogue now handled = ⊥
+abbrev pub EndsTalkAs : ℕ → EndCause → Dialogue → PeerState → List ℕ → Type 0
+EndsTalkAs reads ends.Quit dialogue now handled = IsQuiet dialogue × (dialogue.session.session.state ≡ Ended)
+EndsTalkAs reads ends.EndOfInput dialogue now handled = IsQuiet dialogue × (dialogue.session.session.state ≡ Ended → ⊥) × IsAtEnd now.unread
+EndsTalkAs reads ends.ReadBound dialogue now handled = IsQuiet dialogue × (dialogue.session.session.state ≡ Ended → ⊥) × (reads ≤ length handled)
+EndsTalkAs reads ends.WriteFault dialogue now handled = dialogue.outbox.broken ≡ true
+EndsTalkAs reads ends.ReadFault dialogue now handled = ⊥
+EndsTalkAs reads ends.Stopped dialogue now handled = ⊥
 
 -- what the outbox tells
 said_whole : (start now : PeerState) (dialogue : Dialogue) (came text : List ℕ) → IsQuiet dialogue → HasSaid start now dialogue.outbox came text
@@ -385,7 +385,7 @@ pub served : (reads : ℕ) (site : Site) (start now : PeerState) (Before Come La
     (Drafting : ℕ → List Transaction → List ℕ → Type 0) (dialogue : Dialogue) (handled : List ℕ) (end : EndCause)
     → IsSoFar (beginning site start Before) (talk_state dialogue now Come Drafting) handled handled
     → Leaves (is_content dialogue.session.session.state) Come Drafting Last
-    → EndsAs reads end dialogue now handled → IsServed (terms site reads) start now Before Last end
+    → EndsTalkAs reads end dialogue now handled → IsServed (terms site reads) start now Before Last end
 served reads site start now Before Come Last Drafting dialogue handled ends.Quit h l e =
     finished reads site start now now Before Come Last Drafting dialogue handled false ends.Quit h
     (comes_in_the_end site start now Before Come Last Drafting dialogue handled handled h l) refl

@@ -92,11 +92,11 @@ not_ended Waiting h e = cc
 not_ended Ended h e = cc
 
 -- a line never makes the session wait for outcomes
-abbrev pub GoesOn : State → Type 0
-GoesOn Waiting = ⊥
-GoesOn _ = ⊤
+abbrev pub IsNotEnded : State → Type 0
+IsNotEnded Waiting = ⊥
+IsNotEnded _ = ⊤
 
-goes_on : (state : State) → TakesLines state → GoesOn state
+goes_on : (state : State) → TakesLines state → IsNotEnded state
 goes_on Fresh h = tt
 goes_on Greeted h = tt
 goes_on Sender h = tt
@@ -105,10 +105,10 @@ goes_on Content h = cc
 goes_on Waiting h = cc
 goes_on Ended h = cc
 
-pub line_goes_on : (site : Site) (s : Session) (text : List ℕ) → TakesLines s.state → GoesOn (step site s (Line text)).next.state
-line_goes_on site s text h = answer_leads GoesOn site s (command_at site.message_limit text) (goes_on s.state h) tt tt tt tt (λ e. tt)
+pub line_goes_on : (site : Site) (s : Session) (text : List ℕ) → TakesLines s.state → IsNotEnded (step site s (Line text)).next.state
+line_goes_on site s text h = answer_leads IsNotEnded site s (command_at site.message_limit text) (goes_on s.state h) tt tt tt tt (λ e. tt)
 
-pub long_goes_on : (site : Site) (s : Session) → TakesLines s.state → GoesOn (step site s LongLine).next.state
+pub long_goes_on : (site : Site) (s : Session) → TakesLines s.state → IsNotEnded (step site s LongLine).next.state
 long_goes_on site s h = goes_on s.state h
 
 -- a line is QUIT whatever limit messages have

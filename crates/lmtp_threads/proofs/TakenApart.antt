@@ -10,7 +10,7 @@ module _ {X : Type 0} where
     pub whole : done ++ map part rest ≡ map part all
 
   -- where none is told, none of all reports tells it, unless one of the rest does
-  pub record IsTold (tells : X → Bool) (told : Bool) (rest all : List X) : Type 0 where
+  pub record TellsAny (tells : X → Bool) (told : Bool) (rest all : List X) : Type 0 where
     pub none : told ≡ false → AllByRecursion (λ x. tells x ≡ false) rest → AllByRecursion (λ x. tells x ≡ false) all
 
   module _ {Y : Type 0} {part : X → Y} {done : List Y} {room : ℕ} {rest all : List X} (apart : IsApart part done room rest all) where
@@ -18,6 +18,6 @@ module _ {X : Type 0} where
     pub apart_all : rest ≡ [] → done ≡ map part all
     apart_all none = moved_all part done (map part all) rest apart.whole none
 
-  module _ {tells : X → Bool} {told : Bool} {rest all : List X} (is_told : IsTold tells told rest all) where
+  module _ {tells : X → Bool} {told : Bool} {rest all : List X} (is_told : TellsAny tells told rest all) where
     pub told_all : rest ≡ [] → told ≡ false → AllByRecursion (λ x. tells x ≡ false) all
     told_all none e = is_told.none e (rw none tt)

@@ -20,7 +20,7 @@ use Rattle.mail_progress.specs.Finished.{sealed_by, copies_sealed}
 use Rattle.mail_world.proofs.Holds.{sum_set, sum_remove}
 use Rattle.mail_progress.proofs.Sums.{sum_last}
 use Rattle.mail_progress.proofs.Within.{to_give, AllWithin, within_step, within_start}
-use Rattle.mail_progress.proofs.Kept.{IsSome, IsKept, kept_step, kept_start}
+use Rattle.mail_progress.proofs.Kept.{IsSome, KeptSoFar, kept_step, kept_start}
 use Rattle.mail_progress.proofs.Tracked.{AreLast, AllTracked, last_of_its_key, no_hold, tracked_step, tracked_start}
 
 -- messages that were sealed for that many copies each: of the last one some are still to be given away, of the others none
@@ -125,7 +125,7 @@ no_lane : (h new : House) (e : Event) → new.lanes ≡ h.lanes → ((k : ℕ) �
     → AllSealedFor (λ k. ns k ++ sealed_by k e) new
 no_lane h new e lanes none ns all k lane is = (goes_as k e lane lane (none k) refl refl).goes (ns k) (all k lane (ap (λ ls. slice_get ls k) (sym lanes) ∙ is))
 
-sealed_step : (room : ℕ) (h : House) (e : Event) (new : House) → AllWithin room h → IsKept h → AllTracked h → Step h e new → (ns : ℕ → List ℕ)
+sealed_step : (room : ℕ) (h : House) (e : Event) (new : House) → AllWithin room h → KeptSoFar h → AllTracked h → Step h e new → (ns : ℕ → List ℕ)
     → AllSealedFor ns h → AllSealedFor (λ k. ns k ++ sealed_by k e) new
 sealed_step room h (Begin k) new w kept s st =
     one_lane h new (Begin k) k st.lane _ (ap (λ (x : House). x.lanes) st.after) st.is (goes_as k (Begin k) st.lane _ refl refl refl) (λ v ne. refl)
@@ -176,7 +176,7 @@ sealed_step room h (GiveSlip x o) new w kept s st =
 sealed_step room h (Reclaim slot generation) new w kept s st = no_lane h new (Reclaim slot generation) (ap (λ (x : House). x.lanes) st.2) (λ v. refl)
 sealed_step room h (Close b) new w kept s st = no_lane h new (Close b) (ap (λ (x : House). x.lanes) st.3) (λ v. refl)
 
-sealed_run : (room : ℕ) (h : House) (run : List Happened) → AllWithin room h → IsKept h → AllTracked h → Run h run → IsOrderly room h run → (ns : ℕ → List ℕ)
+sealed_run : (room : ℕ) (h : House) (run : List Happened) → AllWithin room h → KeptSoFar h → AllTracked h → Run h run → IsOrderly room h run → (ns : ℕ → List ℕ)
     → AllSealedFor ns h → AllSealedFor (λ k. ns k ++ copies_sealed k (events_of run)) (last_house h run)
 sealed_run room h [] w kept s r o ns g k lane is = subst (LaneSealedFor lane) (sym (append-nil (ns k))) (g k lane is)
 sealed_run room h (x ∷ xs) w kept s r o ns g k lane is =

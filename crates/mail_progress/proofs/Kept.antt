@@ -41,11 +41,11 @@ capacity_run h [] r = refl
 capacity_run h (x ∷ xs) r = capacity_run x.house xs r.1 ∙ capacity_step h x.event x.house r.0
 
 -- a lane that was there stays
-abbrev pub HasLane : List Lane → ℕ → Type 0
-HasLane lanes k = (lane : Lane) × (slice_get lanes k ≡ Some lane)
+abbrev pub LaneIsThere : List Lane → ℕ → Type 0
+LaneIsThere lanes k = (lane : Lane) × (slice_get lanes k ≡ Some lane)
 
 abbrev LanesStay : List Lane → List Lane → Type 0
-LanesStay ls ms = (k : ℕ) → HasLane ls k → HasLane ms k
+LanesStay ls ms = (k : ℕ) → LaneIsThere ls k → LaneIsThere ms k
 
 stay_same : (ls ms : List Lane) → ms ≡ ls → LanesStay ls ms
 stay_same ls ms e k there = (there.0, ap (λ xs. slice_get xs k) e ∙ there.1)
@@ -58,11 +58,11 @@ stay_set ls ms v old new was e k there = elim (same_or_not v k) [
 
 -- the posts of a mailbox are of lanes, and no more of the copy in hand is written than there is
 abbrev pub OfLanes : List Lane → Post → Type 0
-OfLanes ls post = HasLane ls post.note.txn.lane
+OfLanes ls post = LaneIsThere ls post.note.txn.lane
 
 abbrev pub HandIsRight : House → Option Copy → Type 0
 HandIsRight h None = Unit {0}
-HandIsRight h (Some copy) = HasLane h.lanes copy.post.note.txn.lane × (copy.written ≤ size h copy.post.note)
+HandIsRight h (Some copy) = LaneIsThere h.lanes copy.post.note.txn.lane × (copy.written ≤ size h copy.post.note)
 
 pub record IsBoxRight (h : House) (box : Box) : Type 0 where
   pub posts : AllByRecursion (OfLanes h.lanes) box.accepted
@@ -72,7 +72,7 @@ pub record IsBoxRight (h : House) (box : Box) : Type 0 where
 abbrev pub IsSome : Hold → Type 0
 IsSome hold = 1 ≤ hold.weight
 
-pub record IsKept (h : House) : Type 0 where
+pub record KeptSoFar (h : House) : Type 0 where
   pub boxes : AllByRecursion (IsBoxRight h) h.boxes
   pub lanes : AllByRecursion (λ (lane : Lane). AllByRecursion IsSome lane.holds) h.lanes
 
@@ -93,9 +93,9 @@ box_right h new f box r = record {
 }
 
 -- a lane changes, and perhaps a mailbox
-kept_lane : (h new : House) (k : ℕ) (old next : Lane) → IsKept h → ((note : _) → size new note ≡ size h note) → LaneIs h k old → new.boxes ≡ h.boxes
+kept_lane : (h new : House) (k : ℕ) (old next : Lane) → KeptSoFar h → ((note : _) → size new note ≡ size h note) → LaneIs h k old → new.boxes ≡ h.boxes
     → new.lanes ≡ slice_set h.lanes k next
-    → (AllByRecursion IsSome old.holds → AllByRecursion IsSome next.holds) → IsKept new
+    → (AllByRecursion IsSome old.holds → AllByRecursion IsSome next.holds) → KeptSoFar new
 kept_lane h new k old next s sizes was boxes lanes ok =
     let P : Lane → Type 0 = λ lane. AllByRecursion IsSome lane.holds in
     let f : Follows h new = record { sizes = sizes; stay = stay_set h.lanes new.lanes k old next was lanes } in
@@ -104,7 +104,7 @@ kept_lane h new k old next s sizes was boxes lanes ok =
       lanes = subst (AllByRecursion P) (sym lanes) (all_set P h.lanes k next s.lanes (ok (each_at P h.lanes k old s.lanes was)));
     }
 
-kept_none : (h new : House) → IsKept h → ((note : _) → size new note ≡ size h note) → new.boxes ≡ h.boxes → new.lanes ≡ h.lanes → IsKept new
+kept_none : (h new : House) → KeptSoFar h → ((note : _) → size new note ≡ size h note) → new.boxes ≡ h.boxes → new.lanes ≡ h.lanes → KeptSoFar new
 kept_none h new s sizes boxes lanes =
     let P : Lane → Type 0 = λ lane. AllByRecursion IsSome lane.holds in
     let f : Follows h new = record { sizes = sizes; stay = stay_same h.lanes new.lanes lanes } in
@@ -113,8 +113,8 @@ kept_none h new s sizes boxes lanes =
       lanes = subst (AllByRecursion P) (sym lanes) s.lanes;
     }
 
-kept_box : (h new : House) (w : ℕ) (old next : Box) → IsKept h → ((note : _) → size new note ≡ size h note) → BoxIs h w old → new.lanes ≡ h.lanes
-    → new.boxes ≡ slice_set h.boxes w next → (IsBoxRight new old → IsBoxRight new next) → IsKept new
+kept_box : (h new : House) (w : ℕ) (old next : Box) → KeptSoFar h → ((note : _) → size new note ≡ size h note) → BoxIs h w old → new.lanes ≡ h.lanes
+    → new.boxes ≡ slice_set h.boxes w next → (IsBoxRight new old → IsBoxRight new next) → KeptSoFar new
 kept_box h new w old next s sizes was lanes boxes ok =
     let P : Lane → Type 0 = λ lane. AllByRecursion IsSome lane.holds in
     let f : Follows h new = record { sizes = sizes; stay = stay_same h.lanes new.lanes lanes } in
@@ -125,9 +125,9 @@ kept_box h new w old next s sizes was lanes boxes ok =
       lanes = subst (AllByRecursion P) (sym lanes) s.lanes;
     }
 
-kept_both : (h new : House) (w : ℕ) (old next : Box) (k : ℕ) (was after : Lane) → IsKept h → ((note : _) → size new note ≡ size h note) → BoxIs h w old
+kept_both : (h new : House) (w : ℕ) (old next : Box) (k : ℕ) (was after : Lane) → KeptSoFar h → ((note : _) → size new note ≡ size h note) → BoxIs h w old
     → LaneIs h k was → new.boxes ≡ slice_set h.boxes w next → new.lanes ≡ slice_set h.lanes k after
-    → (IsBoxRight new old → IsBoxRight new next) → (AllByRecursion IsSome was.holds → AllByRecursion IsSome after.holds) → IsKept new
+    → (IsBoxRight new old → IsBoxRight new next) → (AllByRecursion IsSome was.holds → AllByRecursion IsSome after.holds) → KeptSoFar new
 kept_both h new w old next k was after s sizes there here boxes lanes ok fine =
     let P : Lane → Type 0 = λ lane. AllByRecursion IsSome lane.holds in
     let f : Follows h new = record { sizes = sizes; stay = stay_set h.lanes new.lanes k was after here lanes } in
@@ -139,35 +139,35 @@ kept_both h new w old next k was after s sizes there here boxes lanes ok fine =
     }
 
 hand_of : (h : House) (box : Box) (copy : Copy) → box.hand ≡ Some copy → HandIsRight h box.hand
-    → HasLane h.lanes copy.post.note.txn.lane × (copy.written ≤ size h copy.post.note)
+    → LaneIsThere h.lanes copy.post.note.txn.lane × (copy.written ≤ size h copy.post.note)
 hand_of h box copy e r = subst (HandIsRight h) e r
 
-pub kept_step : (h : House) (e : Event) (new : House) → IsKept h → Step h e new → IsKept new
-kept_step h (Begin k) new s st = subst IsKept (sym st.after) (kept_lane h _ k st.lane _ s (λ note. refl) st.is refl refl (λ ok. ok))
-kept_step h (Put k bytes) new s st = subst IsKept (sym st.after) (kept_none h _ s (λ note. refl) refl refl)
-kept_step h (Cancel k) new s st = subst IsKept (sym st.after) (kept_lane h _ k st.lane _ s (λ note. refl) st.is refl refl (λ ok. ok))
+pub kept_step : (h : House) (e : Event) (new : House) → KeptSoFar h → Step h e new → KeptSoFar new
+kept_step h (Begin k) new s st = subst KeptSoFar (sym st.after) (kept_lane h _ k st.lane _ s (λ note. refl) st.is refl refl (λ ok. ok))
+kept_step h (Put k bytes) new s st = subst KeptSoFar (sym st.after) (kept_none h _ s (λ note. refl) refl refl)
+kept_step h (Cancel k) new s st = subst KeptSoFar (sym st.after) (kept_lane h _ k st.lane _ s (λ note. refl) st.is refl refl (λ ok. ok))
 kept_step h (Seal k n) new s st =
-    subst IsKept (sym st.after) (kept_lane h _ k st.lane _ s (λ note. refl) st.is refl refl
+    subst KeptSoFar (sym st.after) (kept_lane h _ k st.lane _ s (λ note. refl) st.is refl refl
     (λ ok. all_more IsSome st.lane.holds (record { key = st.key; weight = n }) ok st.some))
 kept_step h (Split k i) new s st =
     let rest : Hold = record { key = st.key; weight = st.weight } in
     let one : Hold = record { key = st.key; weight = 1 } in
-    subst IsKept (sym st.after) (kept_lane h _ k st.lane _ s (λ note. refl) st.is refl refl
+    subst KeptSoFar (sym st.after) (kept_lane h _ k st.lane _ s (λ note. refl) st.is refl refl
     (λ ok. all_more IsSome (slice_set st.lane.holds i rest) one (all_set IsSome st.lane.holds i rest ok st.above) (omega arith)))
 kept_step h (Offer k note) new s st =
-    subst IsKept (sym st.after) (kept_both h _ note.mailbox st.box _ k st.lane _ s (λ note. refl) st.channel st.is refl refl
+    subst KeptSoFar (sym st.after) (kept_both h _ note.mailbox st.box _ k st.lane _ s (λ note. refl) st.channel st.is refl refl
     (λ ok. record {
       posts = all_more (OfLanes _) st.box.accepted (record { note = note; key = st.key }) ok.posts
-          (subst (HasLane _) (sym st.own) (_, set_at h.lanes k _ st.lane st.is));
+          (subst (LaneIsThere _) (sym st.own) (_, set_at h.lanes k _ st.lane st.is));
       hand = ok.hand;
       prefix = let l = length-append st.box.accepted (record { note = note; key = st.key } ∷ []) in let low = ok.prefix in omega arith;
     })
     (λ ok. all_remove IsSome st.lane.holds st.at ok))
 kept_step h (HandBack k i b) new s st =
-    subst IsKept (sym st.after) (kept_lane h _ k st.lane _ s (λ note. refl) st.is refl refl (λ ok. all_remove IsSome st.lane.holds i ok))
-kept_step h (Collect k) new s st = subst IsKept (sym st.after) (kept_lane h _ k st.lane _ s (λ note. refl) st.is refl refl (λ ok. ok))
+    subst KeptSoFar (sym st.after) (kept_lane h _ k st.lane _ s (λ note. refl) st.is refl refl (λ ok. all_remove IsSome st.lane.holds i ok))
+kept_step h (Collect k) new s st = subst KeptSoFar (sym st.after) (kept_lane h _ k st.lane _ s (λ note. refl) st.is refl refl (λ ok. ok))
 kept_step h (Take w) new s st =
-    subst IsKept (sym st.after) (kept_box h _ w st.box _ s (λ note. refl) st.is refl refl
+    subst KeptSoFar (sym st.after) (kept_box h _ w st.box _ s (λ note. refl) st.is refl refl
     (λ ok. record {
       posts = ok.posts;
       hand = (each_at (OfLanes h.lanes) st.box.accepted st.box.taken st.post ok.posts st.oldest, omega arith);
@@ -176,27 +176,27 @@ kept_step h (Take w) new s st =
 kept_step h (Write w bytes) new s st =
     let len : size h st.copy.post.note - st.copy.written ≡ length bytes + length st.more =
     sym (length-drop st.copy.written _) ∙ ap length st.next ∙ length-append bytes st.more in
-    subst IsKept (sym st.after) (kept_box h _ w st.box _ s (λ note. refl) st.is refl refl
+    subst KeptSoFar (sym st.after) (kept_box h _ w st.box _ s (λ note. refl) st.is refl refl
     (λ ok. let r = hand_of h st.box st.copy st.in_hand
     ok.hand in let low = r.1 in record { posts = ok.posts; hand = (r.0, omega (arith, len, low)); prefix = ok.prefix }))
 kept_step h (Sync w) new s st =
-    subst IsKept (sym st.after) (kept_box h _ w st.box _ s (λ note. refl) st.is refl refl
+    subst KeptSoFar (sym st.after) (kept_box h _ w st.box _ s (λ note. refl) st.is refl refl
     (λ ok. record { posts = ok.posts; hand = hand_of h st.box st.copy st.in_hand ok.hand; prefix = ok.prefix }))
 kept_step h (Release w) new s st =
-    subst IsKept (sym st.after) (kept_box h _ w st.box _ s (λ note. refl) st.is refl refl
+    subst KeptSoFar (sym st.after) (kept_box h _ w st.box _ s (λ note. refl) st.is refl refl
     (λ ok. record { posts = ok.posts; hand = hand_of h st.box st.copy st.in_hand ok.hand; prefix = ok.prefix }))
 kept_step h (GiveSlip w o) new s st =
-    subst IsKept (sym st.after) (kept_both h _ w st.box _ st.copy.post.note.txn.lane st.lane _ s (λ note. refl) st.is st.to refl refl
+    subst KeptSoFar (sym st.after) (kept_both h _ w st.box _ st.copy.post.note.txn.lane st.lane _ s (λ note. refl) st.is st.to refl refl
     (λ ok. record { posts = ok.posts; hand = tt; prefix = ok.prefix }) (λ ok. ok))
-kept_step h (Reclaim slot generation) new s st = subst IsKept (sym st.2) (kept_none h _ s (λ note. refl) refl refl)
+kept_step h (Reclaim slot generation) new s st = subst KeptSoFar (sym st.2) (kept_none h _ s (λ note. refl) refl refl)
 kept_step h (Close b) new s st =
-    subst IsKept (sym st.3) (kept_box h _ b st.0 _ s (λ note. refl) st.1 refl refl (λ ok. record { posts = ok.posts; hand = ok.hand; prefix = ok.prefix }))
+    subst KeptSoFar (sym st.3) (kept_box h _ b st.0 _ s (λ note. refl) st.1 refl refl (λ ok. record { posts = ok.posts; hand = ok.hand; prefix = ok.prefix }))
 
-kept_run : (h : House) (run : List Happened) → IsKept h → Run h run → IsKept (last_house h run)
+kept_run : (h : House) (run : List Happened) → KeptSoFar h → Run h run → KeptSoFar (last_house h run)
 kept_run h [] s r = s
 kept_run h (x ∷ xs) s r = kept_run x.house xs (kept_step h x.event x.house s r.0) r.1
 
-pub kept_start : (blocks : ℕ) (h : House) → IsStart blocks h → IsKept h
+pub kept_start : (blocks : ℕ) (h : House) → IsStart blocks h → KeptSoFar h
 kept_start blocks h start = record {
   boxes = weaken IsFreshBox (IsBoxRight h)
       (λ box f. record {
@@ -209,7 +209,7 @@ kept_start blocks h start = record {
 
 -- what follows of it
 pub record FollowsOfKept (h : House) : Type 0 where
-  pub lane_there : (w : ℕ) (box : Box) (copy : Copy) → BoxIs h w box → box.hand ≡ Some copy → HasLane h.lanes copy.post.note.txn.lane
+  pub lane_there : (w : ℕ) (box : Box) (copy : Copy) → BoxIs h w box → box.hand ≡ Some copy → LaneIsThere h.lanes copy.post.note.txn.lane
   pub written : (w : ℕ) (box : Box) (copy : Copy) → BoxIs h w box → box.hand ≡ Some copy → copy.written ≤ size h copy.post.note
   pub some : (k : ℕ) (lane : Lane) (i : ℕ) (hold : Hold) → LaneIs h k lane → slice_get lane.holds i ≡ Some hold → 1 ≤ hold.weight
 

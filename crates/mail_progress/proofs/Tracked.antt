@@ -29,7 +29,7 @@ use Rattle.mail_world.proofs.Depots.{total_set, used, FitsSlot, KeepsBytes, begi
 use Rattle.mail_progress.specs.Orderly.{IsOrderly, post_of, on_way}
 use Rattle.mail_progress.proofs.Sums.{sum_last}
 use Rattle.mail_progress.proofs.Within.{to_give, AllWithin, within_step, within_start}
-use Rattle.mail_progress.proofs.Kept.{IsSome, IsKept, IsBoxRight, kept_step, kept_start}
+use Rattle.mail_progress.proofs.Kept.{IsSome, KeptSoFar, IsBoxRight, kept_step, kept_start}
 
 -- the copies of a transaction and a place on their way, and the slips that name them
 abbrev pub copy_at : ℕ → ℕ → ℕ → Post → ℕ
@@ -322,7 +322,7 @@ none_after : (h : House) (d : Depot) (bs : List Box) → Keeps h.depot d → ((v
     → AllTracked (record h { depot = d; boxes = bs })
 none_after h d bs f way all = no_lane h (record h { depot = d; boxes = bs }) refl f way all
 
-pub tracked_step : (room : ℕ) (h : House) (e : Event) (new : House) → AllWithin room h → IsKept h → AllTracked h → Step h e new → AllTracked new
+pub tracked_step : (room : ℕ) (h : House) (e : Event) (new : House) → AllWithin room h → KeptSoFar h → AllTracked h → Step h e new → AllTracked new
 tracked_step room h (Begin k) new w kept s st =
     let f : Keeps h.depot new.depot = subst (λ (x : House). Keeps h.depot x.depot) (sym st.after) (begins_turn h.depot st.key st.depot st.begins).fits in
     let boxes = ap (λ (x : House). x.boxes) st.after in
@@ -433,7 +433,7 @@ tracked_step room h (Reclaim slot generation) new w kept s st =
 tracked_step room h (Close b) new w kept s st =
     subst AllTracked (sym st.3) (none_after h h.depot _ (same_depot h.depot) (λ v. box_way h.boxes _ b st.0 _ refl st.1 refl v) s)
 
-tracked_run : (room : ℕ) (h : House) (run : List Happened) → AllWithin room h → IsKept h → AllTracked h → Run h run → IsOrderly room h run
+tracked_run : (room : ℕ) (h : House) (run : List Happened) → AllWithin room h → KeptSoFar h → AllTracked h → Run h run → IsOrderly room h run
     → AllTracked (last_house h run)
 tracked_run room h [] w kept s r o = s
 tracked_run room h (x ∷ xs) w kept s r o =

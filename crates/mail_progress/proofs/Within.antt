@@ -53,18 +53,18 @@ abbrev pub open_places : Lane → ℕ
 open_places lane = unanswered lane.gather.places
 
 -- what is kept
-pub record IsWithin (room k : ℕ) (lane : Lane) (boxes : List Box) : Type 0 where
+pub record LaneIsWithin (room k : ℕ) (lane : Lane) (boxes : List Box) : Type 0 where
   pub below : pending k lane boxes ≤ open_places lane
   pub bound : open_places lane ≤ room
   pub drafting : (key : Key) → lane.draft ≡ Some key → pending k lane boxes ≤ 0
 
 abbrev pub AllWithin : ℕ → House → Type 0
-AllWithin room h = (k : ℕ) (lane : Lane) → LaneIs h k lane → IsWithin room k lane h.boxes
+AllWithin room h = (k : ℕ) (lane : Lane) → LaneIs h k lane → LaneIsWithin room k lane h.boxes
 
 -- what is under way goes down at least as much as the open places
 within_kept : (room k : ℕ) (lane next : Lane) (bs ms : List Box) → pending k next ms + open_places lane ≤ pending k lane bs + open_places next
     → pending k next ms ≤ pending k lane bs → open_places next ≤ open_places lane
-    → ((key : Key) → next.draft ≡ Some key → lane.draft ≡ Some key) → IsWithin room k lane bs → IsWithin room k next ms
+    → ((key : Key) → next.draft ≡ Some key → lane.draft ≡ Some key) → LaneIsWithin room k lane bs → LaneIsWithin room k next ms
 within_kept room k lane next bs ms both less fewer draft s = record {
   below = let a = s.below in omega arith;
   bound = let a = s.bound in omega arith;
@@ -72,23 +72,23 @@ within_kept room k lane next bs ms both less fewer draft s = record {
 }
 
 -- the lane stays
-within_same : (room k : ℕ) (lane : Lane) (bs ms : List Box) → way k ms ≤ way k bs → IsWithin room k lane bs → IsWithin room k lane ms
+within_same : (room k : ℕ) (lane : Lane) (bs ms : List Box) → way k ms ≤ way k bs → LaneIsWithin room k lane bs → LaneIsWithin room k lane ms
 within_same room k lane bs ms le s = within_kept room k lane lane bs ms (omega arith) (omega arith) (omega arith) (λ key e. e) s
 
 one_lane : (room : ℕ) (h new : House) (k : ℕ) (old changed : Lane) → new.lanes ≡ slice_set h.lanes k changed → LaneIs h k old
-    → (IsWithin room k old h.boxes → IsWithin room k changed new.boxes)
+    → (LaneIsWithin room k old h.boxes → LaneIsWithin room k changed new.boxes)
     → ((v : ℕ) → v ≢ k → way v new.boxes ≤ way v h.boxes) → AllWithin room h → AllWithin room new
 one_lane room h new k old changed lanes was here less all v lane is = elim (get_set h.lanes k v changed lane (ap (λ ls. slice_get ls v) (sym lanes) ∙ is)) [
-  | inl at ↦ let P : Lane → Type 0 = λ x. IsWithin room v x new.boxes in
-      let Q : ℕ → Type 0 = λ n. IsWithin room n changed new.boxes in
+  | inl at ↦ let P : Lane → Type 0 = λ x. LaneIsWithin room v x new.boxes in
+      let Q : ℕ → Type 0 = λ n. LaneIsWithin room n changed new.boxes in
       subst P at.1 (subst Q (sym at.0) (here (all k old was)))
   | inr other ↦ within_same room v lane h.boxes new.boxes (less v other.0) (all v lane other.1)
 ]
 
 lane_alone : (room : ℕ) (h new : House) (k : ℕ) (old changed : Lane) → new.boxes ≡ h.boxes → new.lanes ≡ slice_set h.lanes k changed → LaneIs h k old
-    → (IsWithin room k old h.boxes → IsWithin room k changed h.boxes) → AllWithin room h → AllWithin room new
+    → (LaneIsWithin room k old h.boxes → LaneIsWithin room k changed h.boxes) → AllWithin room h → AllWithin room new
 lane_alone room h new k old changed boxes lanes was here all =
-    one_lane room h new k old changed lanes was (λ s. let P : List Box → Type 0 = λ bs. IsWithin room k changed bs in subst P (sym boxes) (here s))
+    one_lane room h new k old changed lanes was (λ s. let P : List Box → Type 0 = λ bs. LaneIsWithin room k changed bs in subst P (sym boxes) (here s))
     (λ v ne. rw boxes (omega arith)) all
 
 no_lane : (room : ℕ) (h new : House) → new.lanes ≡ h.lanes → ((v : ℕ) → way v new.boxes ≤ way v h.boxes) → AllWithin room h → AllWithin room new
@@ -153,7 +153,7 @@ way_given v bs w box copy was hand =
 
 seal_within : (room k n : ℕ) (lane next : Lane) (bs : List Box) (key its : Key) → lane.draft ≡ Some key → next.draft ≡ None
     → next.holds ≡ lane.holds ++ record { key = its; weight = n } ∷ [] → next.slips ≡ lane.slips → next.collected ≡ lane.collected
-    → next.gather.places ≡ replicate n None → n ≤ room → IsWithin room k lane bs → IsWithin room k next bs
+    → next.gather.places ≡ replicate n None → n ≤ room → LaneIsWithin room k lane bs → LaneIsWithin room k next bs
 seal_within room k n lane next bs key its draft none holds slips count places le s =
     let idle = s.drafting key draft in
     let same : uncollected next ≡ uncollected lane = rw (slips, count) refl in
@@ -163,7 +163,7 @@ seal_within room k n lane next bs key its draft none holds slips count places le
     record { below = omega arith; bound = omega arith; drafting = λ other e. let bad : None ≡ Some other = sym none ∙ e in absurd (let f : ⊥ = cc in f) }
 
 begin_within : (room k : ℕ) (lane next : Lane) (bs : List Box) → IsLaneDone lane → next.holds ≡ lane.holds → next.slips ≡ lane.slips
-    → next.collected ≡ lane.collected → next.gather ≡ lane.gather → IsWithin room k lane bs → IsWithin room k next bs
+    → next.collected ≡ lane.collected → next.gather ≡ lane.gather → LaneIsWithin room k lane bs → LaneIsWithin room k next bs
 begin_within room k lane next bs done holds slips count gather s =
     let same : pending k next bs ≡ pending k lane bs = rw (holds, slips, count) refl in
     let places : open_places next ≡ open_places lane = ap (λ (g : Gather). unanswered g.places) gather in

@@ -131,16 +131,16 @@ module _ {A : Type 0} (at : A → ℕ) where
   abbrev early : ℕ → List A → List A
   early t xs = filter (λ x. nat_lt (at x) t) xs
 
-  abbrev pub Rises : ℕ → ℕ → List A → Type 0
-  Rises lo hi xs = RisesTo lo hi (map at xs)
+  abbrev pub TimesRise : ℕ → ℕ → List A → Type 0
+  TimesRise lo hi xs = RisesTo lo hi (map at xs)
 
   -- of a list that rises above lo, a test that fails above lo keeps nothing
-  none_of : (p : A → Bool) (lo hi : ℕ) (xs : List A) → Rises lo hi xs → ((x : A) → lo < at x → p x ≡ false) → filter p xs ≡ []
+  none_of : (p : A → Bool) (lo hi : ℕ) (xs : List A) → TimesRise lo hi xs → ((x : A) → lo < at x → p x ≡ false) → filter p xs ≡ []
   none_of p lo hi [] r not = refl
   none_of p lo hi (x ∷ xs) r not = let above : lo < at x = r.0 in fails p x xs (not x above) ∙ none_of p (at x) hi xs r.1 (λ y a. not y (omega arith))
 
   -- one more time
-  next : (lo hi t : ℕ) (xs : List A) → Rises lo hi xs → early (t + 1) xs ≡ early t xs ++ here t xs
+  next : (lo hi t : ℕ) (xs : List A) → TimesRise lo hi xs → early (t + 1) xs ≡ early t xs ++ here t xs
   next lo hi t [] r = refl
   next lo hi t (x ∷ xs) r = ⊎_elim
       (λ (less : at x < t).
@@ -164,22 +164,22 @@ module _ {A : Type 0} (at : A → ℕ) where
   early_zero [] = refl
   early_zero (x ∷ xs) = fails (λ y. nat_lt (at y) 0) x xs (not_lt (at x) 0 (omega arith)) ∙ early_zero xs
 
-  early_all : (lo hi t : ℕ) (xs : List A) → Rises lo hi xs → hi < t → early t xs ≡ xs
+  early_all : (lo hi t : ℕ) (xs : List A) → TimesRise lo hi xs → hi < t → early t xs ≡ xs
   early_all lo hi t [] r above = refl
   early_all lo hi t (x ∷ xs) r above =
       let up : at x ≤ hi = rises_le (at x) hi (map at xs) r.1 in
       passes (λ y. nat_lt (at y) t) x xs (lt-ltb (at x) t (omega arith)) ∙ ap (λ l. x ∷ l) (early_all (at x) hi t xs r.1 above)
 
-  so_far : (lo hi n : ℕ) (xs : List A) → Rises lo hi xs → upto n (λ t. here t xs) ≡ early n xs
+  so_far : (lo hi n : ℕ) (xs : List A) → TimesRise lo hi xs → upto n (λ t. here t xs) ≡ early n xs
   so_far lo hi zero xs r = sym (early_zero xs)
   so_far lo hi (suc n) xs r = ap (λ l. l ++ here n xs) (so_far lo hi n xs r) ∙ sym (next lo hi n xs r) ∙ ap (λ m. early m xs) (omega arith)
 
   -- a list that rises is put together of those at each time
-  pub whole : (lo hi n : ℕ) (xs : List A) → Rises lo hi xs → hi < n → upto n (λ t. here t xs) ≡ xs
+  pub whole : (lo hi n : ℕ) (xs : List A) → TimesRise lo hi xs → hi < n → upto n (λ t. here t xs) ≡ xs
   whole lo hi n xs r above = so_far lo hi n xs r ∙ early_all lo hi n xs r above
 
   -- at each time there is at most one
-  one? : (lo hi t : ℕ) (xs : List A) → Rises lo hi xs → (here t xs ≡ []) ⊎ ((x : A) × (here t xs ≡ x ∷ []))
+  one? : (lo hi t : ℕ) (xs : List A) → TimesRise lo hi xs → (here t xs ≡ []) ⊎ ((x : A) × (here t xs ≡ x ∷ []))
   one? lo hi t [] r = inl refl
   one? lo hi t (x ∷ xs) r = ⊎_elim
       (λ (is : at x ≡ t). inr (
@@ -211,18 +211,18 @@ module _ {A : Type 0} (at : A → ℕ) where
       parts_at_time p n lists t ∙ upto_only n (λ i. here t (filter p (lists i))) k below (λ i less ne. ap (here t) (else i less ne)) ∙ ap (here t) own
 
   -- just one of the tests passes it
-  pub record HasOwner (n : ℕ) (mine : ℕ → A → Bool) (x : A) : Type 0 where
+  pub record BelongsToOne (n : ℕ) (mine : ℕ → A → Bool) (x : A) : Type 0 where
     pub owner : ℕ
     pub below : owner < n
     pub own : mine owner x ≡ true
     pub only : (i : ℕ) → i ≢ owner → mine i x ≡ false
 
-  owned : (n : ℕ) (mine : ℕ → A → Bool) (x : A) → HasOwner n mine x → upto n (λ i. filter (mine i) (x ∷ [])) ≡ x ∷ []
+  owned : (n : ℕ) (mine : ℕ → A → Bool) (x : A) → BelongsToOne n mine x → upto n (λ i. filter (mine i) (x ∷ [])) ≡ x ∷ []
   owned n mine x o = upto_only n (λ i. filter (mine i) (x ∷ [])) o.owner o.below (λ i less ne. fails (mine i) x [] (o.only i ne))
       ∙ passes (mine o.owner) x [] o.own
 
-  pub parts_make : (p : A → Bool) (n : ℕ) (lists : ℕ → List A) (mine : ℕ → A → Bool) (lo hi t : ℕ) (got : List A) → Rises lo hi got
-      → AllByRecursion (HasOwner n mine) got → ((i : ℕ) → i < n → filter p (lists i) ≡ filter (mine i) got)
+  pub parts_make : (p : A → Bool) (n : ℕ) (lists : ℕ → List A) (mine : ℕ → A → Bool) (lo hi t : ℕ) (got : List A) → TimesRise lo hi got
+      → AllByRecursion (BelongsToOne n mine) got → ((i : ℕ) → i < n → filter p (lists i) ≡ filter (mine i) got)
       → filter p (all_at_time n lists t) ≡ here t got
   parts_make p n lists mine lo hi t got r owners parts =
       parts_at_time p n lists t
@@ -231,7 +231,8 @@ module _ {A : Type 0} (at : A → ℕ) where
       ∙ ⊎_elim
       (λ (none : here t got ≡ []). upto_none n (λ i. filter (mine i) (here t got)) (λ i below. ap (filter (mine i)) none) ∙ sym none)
       (λ (one : (x : A) × (here t got ≡ x ∷ [])).
-      let o : HasOwner n mine one.0 × ⊤ = subst (λ l. AllByRecursion (HasOwner n mine) l) one.1 (all_filter (HasOwner n mine) (λ x. at x == t) got owners) in
+      let o : BelongsToOne n mine one.0 × ⊤ =
+        subst (λ l. AllByRecursion (BelongsToOne n mine) l) one.1 (all_filter (BelongsToOne n mine) (λ x. at x == t) got owners) in
       ap (λ l. upto n (λ i. filter (mine i) l)) one.1 ∙ owned n mine one.0 o.0 ∙ sym one.1)
       (one? lo hi t got r)
 

@@ -14,32 +14,33 @@ use Rattle.mail_runs.proofs.Stands.{BoxStands, LaneStands}
 use Rattle.mail_runs.proofs.Frames.{IsPastBox, IsPastLane, box_past, lane_past}
 
 -- all mailboxes, and all lanes; `Stands` has them of its house
-abbrev pub AllBoxes : Server → Threads → ℕ → List Deed → List Box → Type 0
-AllBoxes s t capacity left boxes = (b : ℕ) (box : Box) → slice_get boxes b ≡ Some box → BoxStands s capacity b (t.courses b) left box
+abbrev pub AllBoxesStand : Server → Threads → ℕ → List Deed → List Box → Type 0
+AllBoxesStand s t capacity left boxes = (b : ℕ) (box : Box) → slice_get boxes b ≡ Some box → BoxStands s capacity b (t.courses b) left box
 
-abbrev pub AllLanes : Manner → Threads → List Deed → List Lane → Type 0
-AllLanes m t left lanes = (k : ℕ) (lane : Lane) → slice_get lanes k ≡ Some lane → LaneStands m k (t.heard k) left lane
+abbrev pub AllLanesStand : Manner → Threads → List Deed → List Lane → Type 0
+AllLanesStand m t left lanes = (k : ℕ) (lane : Lane) → slice_get lanes k ≡ Some lane → LaneStands m k (t.heard k) left lane
 
 -- none changes
 pub no_box : (s : Server) (t : Threads) (capacity : ℕ) (d : Deed) (rest : List Deed) (boxes : List Box) → ((b : ℕ) → IsPastBox b d)
-    → AllBoxes s t capacity (d ∷ rest) boxes
-    → AllBoxes s t capacity rest boxes
+    → AllBoxesStand s t capacity (d ∷ rest) boxes
+    → AllBoxesStand s t capacity rest boxes
 no_box s t capacity d rest boxes past all b box is = box_past s capacity b (t.courses b) d rest box (past b) (all b box is)
 
-pub no_lane : {m : Manner} (t : Threads) (d : Deed) (rest : List Deed) (lanes : List Lane) → ((k : ℕ) → IsPastLane k d) → AllLanes m t (d ∷ rest) lanes
-    → AllLanes m t rest lanes
+pub no_lane : {m : Manner} (t : Threads) (d : Deed) (rest : List Deed) (lanes : List Lane) → ((k : ℕ) → IsPastLane k d) → AllLanesStand m t (d ∷ rest) lanes
+    → AllLanesStand m t rest lanes
 no_lane t d rest lanes past all k lane is = lane_past k (t.heard k) d rest lane (past k) (all k lane is)
 
 -- one does
 pub one_box : (s : Server) (t : Threads) (capacity : ℕ) (d : Deed) (rest : List Deed) (boxes : List Box) (b : ℕ) (changed : Box)
     → ((c : ℕ) → c ≢ b → IsPastBox c d)
-    → BoxStands s capacity b (t.courses b) rest changed → AllBoxes s t capacity (d ∷ rest) boxes → AllBoxes s t capacity rest (slice_set boxes b changed)
+    → BoxStands s capacity b (t.courses b) rest changed → AllBoxesStand s t capacity (d ∷ rest) boxes
+    → AllBoxesStand s t capacity rest (slice_set boxes b changed)
 one_box s t capacity d rest boxes b changed past here all =
     each_set (λ n x. BoxStands s capacity n (t.courses n) rest x) boxes b changed
     (λ c x other was. box_past s capacity c (t.courses c) d rest x (past c other) (all c x was)) here
 
 pub one_lane : {m : Manner} (t : Threads) (d : Deed) (rest : List Deed) (lanes : List Lane) (k : ℕ) (changed : Lane) → ((c : ℕ) → c ≢ k → IsPastLane c d)
-    → LaneStands m k (t.heard k) rest changed → AllLanes m t (d ∷ rest) lanes → AllLanes m t rest (slice_set lanes k changed)
+    → LaneStands m k (t.heard k) rest changed → AllLanesStand m t (d ∷ rest) lanes → AllLanesStand m t rest (slice_set lanes k changed)
 one_lane {m} t d rest lanes k changed past here all =
     each_set (λ n x. LaneStands m n (t.heard n) rest x) lanes k changed (λ c x other was. lane_past c (t.heard c) d rest x (past c other) (all c x was)) here
 

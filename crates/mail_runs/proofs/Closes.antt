@@ -23,7 +23,7 @@ use Rattle.mail_runs.proofs.Manners.{Manner, Owed}
 use Rattle.mail_runs.proofs.Parts.{each_set}
 use Rattle.mail_runs.proofs.Same.{Frame, frame_of, frame_run}
 use Rattle.mail_runs.proofs.Story.{Story, goes_on}
-use Rattle.mail_runs.proofs.Stands.{Begins, BoxStands, LaneStands, IsIdle, IsGiving, spooled, in_the_end}
+use Rattle.mail_runs.proofs.Stands.{BeginsCopy, BoxStands, LaneStands, IsIdle, IsGiving, spooled, in_the_end}
 use Rattle.mail_runs.proofs.Next.{Next}
 
 -- a worker with nothing left to do has no copy in hand, and its spool is as it will be
@@ -40,7 +40,7 @@ no_turns s b (n ∷ ns) [] old new e takes = absurd takes
 no_turns s b (n ∷ ns) (o ∷ os) old new e takes = cc
 
 done_by : (s : Server) (b : ℕ) (course : Course) (notes : List Note) (outcomes : List Outcome) (box : Box) (hand : Option Copy) → box.hand ≡ hand
-    → Begins b [] (turns_of b notes outcomes) hand
+    → BeginsCopy b [] (turns_of b notes outcomes) hand
     → TakesAll s notes outcomes (spooled box) (in_the_end course) → IsWorkerDone course notes box
 done_by s b course notes outcomes box None is program takes =
     let d = no_turns s b notes outcomes (spooled box) (in_the_end course) program takes in
@@ -125,12 +125,12 @@ heard_as k all lane stands = record {
 }
 
 -- the run to the last house is one of the server's, over channels of the capacity, in order where that is owed
-pub record HasEnded (m : Manner) (s : Server) (t : Threads) : Type 0 where
+pub record AllHaveEnded (m : Manner) (s : Server) (t : Threads) : Type 0 where
   pub is : IsRunOf s t
   pub capacity_is : is.start.capacity ≡ m.capacity
   pub orderly : Owed m → IsOrderly m.room is.start is.run
 
-pub ends : {m : Manner} (s : Server) (t : Threads) → Next m s t [] → HasEnded m s t
+pub ends : {m : Manner} (s : Server) (t : Threads) → Next m s t [] → AllHaveEnded m s t
 ends {m} s t next =
     let h = next.house in
     let capacity : ℕ = h.capacity in

@@ -33,7 +33,7 @@ GoOn room k [] deeds = deeds ≡ []
 GoOn room k (t ∷ ts) deeds = AreExchanges room k (t ∷ ts) deeds ⊎ ((copies k t ≡ []) × GoOn room k ts deeds)
 
 -- a lane goes in order: it gives these copies, hears slips by which its gatherer has each answer, and goes on to its next transactions
-pub record Keeps (room k : ℕ) (notes : List Note) (ts : List Transaction) (g : Gather) (deeds : List Deed) : Type 0 where
+pub record KeepsExchange (room k : ℕ) (notes : List Note) (ts : List Transaction) (g : Gather) (deeds : List Deed) : Type 0 where
   pub slips : List Slip
   pub after : List Deed
   pub are : deeds ≡ map Gave notes ++ map Heard slips ++ after
@@ -91,7 +91,7 @@ all_answers txn n slips =
 
 -- a copy is given, and the rest is as it was to be
 pub gives_on : (room k : ℕ) (note first : Note) (notes : List Note) (ts : List Transaction) (g : Gather) (all deeds : List Deed) → all ≡ Gave note ∷ deeds
-    → Keeps room k (first ∷ notes) ts g all → Keeps room k notes ts g deeds
+    → KeepsExchange room k (first ∷ notes) ts g all → KeepsExchange room k notes ts g deeds
 gives_on room k note first notes ts g all deeds e h = record {
   slips = h.slips;
   after = h.after;
@@ -132,7 +132,7 @@ later room k (t ∷ ts) slip deeds (inr passed) = later_still room k t ts deeds 
 
 hears_by : (room k : ℕ) (slip : Slip) (ts : List Transaction) (g : Gather) (deeds after : List Deed) (slips : List Slip)
     → Heard slip ∷ deeds ≡ map Heard slips ++ after
-    → AreAnswered (all_gathered g slips).places → GoOn room k ts after → Keeps room k [] ts (gathered g slip) deeds
+    → AreAnswered (all_gathered g slips).places → GoOn room k ts after → KeepsExchange room k [] ts (gathered g slip) deeds
 hears_by room k slip ts g deeds after [] e answered goes =
     let l = later room k ts slip deeds (subst (GoOn room k ts) (sym e) goes) in
     record { slips = l.slips; after = l.after; are = l.are; answered = answered_still g (slip ∷ l.slips) answered; goes = l.goes }
@@ -148,24 +148,24 @@ hears_by room k slip ts g deeds after (s ∷ slips) e answered goes =
 
 -- a slip is heard, and no copy was left to give
 pub hears_on : (room k : ℕ) (slip : Slip) (notes : List Note) (ts : List Transaction) (g : Gather) (all deeds : List Deed) → all ≡ Heard slip ∷ deeds
-    → Keeps room k notes ts g all → (notes ≡ []) × Keeps room k notes ts (gathered g slip) deeds
+    → KeepsExchange room k notes ts g all → (notes ≡ []) × KeepsExchange room k notes ts (gathered g slip) deeds
 hears_on room k slip [] ts g all deeds e h = (refl, hears_by room k slip ts g deeds h.after h.slips (sym e ∙ h.are) h.answered h.goes)
 hears_on room k slip (note ∷ notes) ts g all deeds e h =
     let wrong : Heard slip ∷ deeds ≡ Gave note ∷ (map Gave notes ++ map Heard h.slips ++ h.after) = sym e ∙ h.are in cc
 
 -- the first copy of a message is given: each copy of the last one has its answer
-pub record IsOver (room k : ℕ) (ts : List Transaction) (g : Gather) (deeds : List Deed) : Type 0 where
+pub record ExchangeIsOver (room k : ℕ) (ts : List Transaction) (g : Gather) (deeds : List Deed) : Type 0 where
   pub answered : AreAnswered g.places
   pub goes : GoOn room k ts deeds
 
 over_by : (room k : ℕ) (note : Note) (ts : List Transaction) (g : Gather) (deeds after : List Deed) (slips : List Slip)
     → Gave note ∷ deeds ≡ map Heard slips ++ after
-    → AreAnswered (all_gathered g slips).places → GoOn room k ts after → IsOver room k ts g (Gave note ∷ deeds)
+    → AreAnswered (all_gathered g slips).places → GoOn room k ts after → ExchangeIsOver room k ts g (Gave note ∷ deeds)
 over_by room k note ts g deeds after [] e answered goes = record { answered = answered; goes = subst (GoOn room k ts) (sym e) goes }
 over_by room k note ts g deeds after (s ∷ slips) e answered goes = cc
 
 pub exchange_is_over : (room k : ℕ) (note : Note) (ts : List Transaction) (g : Gather) (all deeds : List Deed)
-    → all ≡ Gave note ∷ deeds → Keeps room k [] ts g all → IsOver room k ts g (Gave note ∷ deeds)
+    → all ≡ Gave note ∷ deeds → KeepsExchange room k [] ts g all → ExchangeIsOver room k ts g (Gave note ∷ deeds)
 exchange_is_over room k note ts g all deeds e h = over_by room k note ts g deeds h.after h.slips (sym e ∙ h.are) h.answered h.goes
 
 -- past a transaction that owes no copies
@@ -182,9 +182,9 @@ goes_past room k note t ts deeds none (inl x) =
 goes_past room k note t ts deeds none (inr passed) = passed.1
 
 -- the exchange of a message with these copies: its slips have room, and the lane keeps to it with a new gatherer
-pub record IsPlanned (room k : ℕ) (t : Transaction) (box : ℕ) (boxes : List ℕ) (ts : List Transaction) (deeds : List Deed) : Type 0 where
+pub record OffersPlanned (room k : ℕ) (t : Transaction) (box : ℕ) (boxes : List ℕ) (ts : List Transaction) (deeds : List Deed) : Type 0 where
   pub fits : length boxes + 1 ≤ room
-  pub keeps : Keeps room k (copies_from k t 0 (box ∷ boxes)) ts (gather_for (txn_of k t.number) (length boxes + 1)) deeds
+  pub keeps : KeepsExchange room k (copies_from k t 0 (box ∷ boxes)) ts (gather_for (txn_of k t.number) (length boxes + 1)) deeds
 
 length_copies : (k : ℕ) (t : Transaction) (place : ℕ) (boxes : List ℕ) → length (copies_from k t place boxes) ≡ length boxes
 length_copies k t place [] = refl
@@ -192,7 +192,7 @@ length_copies k t place (box ∷ boxes) = let e = length_copies k t (place + 1) 
 
 pub planned : (room k : ℕ) (t : Transaction) (box : ℕ) (boxes : List ℕ) (ts : List Transaction) (deeds : List Deed)
     → copies k t ≡ copies_from k t 0 (box ∷ boxes)
-    → GoOn room k (t ∷ ts) deeds → IsPlanned room k t box boxes ts deeds
+    → GoOn room k (t ∷ ts) deeds → OffersPlanned room k t box boxes ts deeds
 planned room k t box boxes ts deeds same (inr passed) = let wrong = passed.0 in cc
 planned room k t box boxes ts deeds same (inl x) =
     let slips : List Slip = x.0 in

@@ -17,9 +17,9 @@ use Rattle.mail_runs.specs.Histories.{HearsTold}
 use Rattle.mail_runs.specs.Timed.{is_of_lane}
 use Rattle.mail_runs.specs.Ordered.{done_by}
 use Rattle.mail_runs.proofs.Manners.{Manner, Owed}
-use Rattle.mail_runs.proofs.Exchanges.{Keeps}
+use Rattle.mail_runs.proofs.Exchanges.{KeepsExchange}
 use Rattle.mail_runs.proofs.Parts.{fails, other_number}
-use Rattle.mail_runs.proofs.Stands.{Begins, Flows, BoxStands, LaneStands, IsIdle, IsGiving, DepotStands, slots_for, blocks_to_give}
+use Rattle.mail_runs.proofs.Stands.{BeginsCopy, Flows, BoxStands, LaneStands, IsIdle, IsGiving, DepotStands, slots_for, blocks_to_give}
 
 -- the deed isn't of the mailbox
 abbrev pub IsPastBox : ℕ → Deed → Type 0
@@ -123,7 +123,7 @@ box_past s capacity b course d rest box past stands =
       work = record {
         notes = stands.work.notes;
         outcomes = stands.work.outcomes;
-        program = subst (λ l. Begins b l (turns_of b stands.work.notes stands.work.outcomes) box.hand) (p.worked rest) stands.work.program;
+        program = subst (λ l. BeginsCopy b l (turns_of b stands.work.notes stands.work.outcomes) box.hand) (p.worked rest) stands.work.program;
         queue = sym (ap (λ l. notes_of (drop box.taken box.accepted) ++ l) (p.given rest)) ∙ stands.work.queue;
         takes = stands.work.takes;
       };
@@ -158,8 +158,8 @@ past_lane k (Heard slip) past = record {
 
 -- a lane that went in order before a deed goes on so after it
 abbrev pub KeepsOn : Manner → ℕ → List Deed → List Deed → Lane → Lane → Type 0
-KeepsOn m k left rest lane new = Owed m → (notes : List Note) (ts : List Transaction) → Keeps m.room k notes ts lane.gather (done_by k left)
-    → Keeps m.room k notes ts new.gather (done_by k rest)
+KeepsOn m k left rest lane new = Owed m → (notes : List Note) (ts : List Transaction) → KeepsExchange m.room k notes ts lane.gather (done_by k left)
+    → KeepsExchange m.room k notes ts new.gather (done_by k rest)
 
 -- a lane has as much to give where its messages, its holds and its number stay
 pub gives_still : {m : Manner} (k : ℕ) (left rest : List Deed) (lane new : Lane) → given_by k left ≡ given_by k rest → new.holds ≡ lane.holds
@@ -201,7 +201,7 @@ lane_past {m} k heard d rest lane past stands =
       all_heard = sym (ap (λ l. lane.heard ++ l) (p.heard rest)) ∙ stands.all_heard;
       fed = tells_on k (length lane.slips - lane.collected) (length lane.slips - lane.collected) d rest (omega arith) stands.fed;
       gives = gives_still k (d ∷ rest) rest lane lane (p.given rest) refl refl refl
-          (λ o notes ts keeps. subst (Keeps m.room k notes ts lane.gather) (p.done rest) keeps) stands.gives;
+          (λ o notes ts keeps. subst (KeepsExchange m.room k notes ts lane.gather) (p.done rest) keeps) stands.gives;
     }
 
 -- a depot has room for what is left once it has it for all

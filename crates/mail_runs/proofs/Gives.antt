@@ -15,7 +15,7 @@ use Rattle.mail_runs.specs.Courses.{Server}
 use Rattle.mail_runs.specs.Histories.{Threads, RiseAbove}
 use Rattle.mail_runs.proofs.Parts.{passes, same_number, same_first, one_counts}
 use Rattle.mail_runs.proofs.Manners.{Manner, Owed}
-use Rattle.mail_runs.proofs.Exchanges.{GoOn, IsPlanned, goes_past, planned}
+use Rattle.mail_runs.proofs.Exchanges.{GoOn, OffersPlanned, goes_past, planned}
 use Rattle.mail_runs.proofs.Frames.{flows_on}
 use Rattle.mail_runs.proofs.Stands.{BoxStands, DepotStands, free_slot, one_if_free, slots_for, blocks_to_give}
 
@@ -32,7 +32,7 @@ pub record IsOpening (m : Manner) (k lo : ℕ) (note : Note) (more : List Note) 
   pub above : lo < t.number
   pub rise : RiseAbove t.number ts
   pub gives : note ∷ more ≡ copies_from k t 0 (box ∷ boxes) ++ flat_map (copies k) ts
-  pub planned : Owed m → IsPlanned m.room k t box boxes ts (Gave note ∷ left)
+  pub planned : Owed m → OffersPlanned m.room k t box boxes ts (Gave note ∷ left)
 
 module _ (m : Manner) (k lo : ℕ) (note : Note) (more : List Note) (left : List Deed) where
   opening_by : (t : Transaction) (ts : List Transaction) → RiseAbove lo (t ∷ ts) → note ∷ more ≡ copies k t ++ flat_map (copies k) ts

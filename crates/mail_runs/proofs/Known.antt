@@ -206,14 +206,14 @@ record AllRise (n : ℕ) (lists : ℕ → List ℕ) : Type 0 where
   top : ℕ
   rise : (i : ℕ) → i < n → RisesTo 0 top (lists i)
 
-abbrev Rises : List ℕ → Type 0
-Rises ts = (hi : ℕ) × RisesTo 0 hi ts
+abbrev TimesRise : List ℕ → Type 0
+TimesRise ts = (hi : ℕ) × RisesTo 0 hi ts
 
-all_rise : (n : ℕ) (lists : ℕ → List ℕ) → ((i : ℕ) → i < n → Rises (lists i)) → AllRise n lists
+all_rise : (n : ℕ) (lists : ℕ → List ℕ) → ((i : ℕ) → i < n → TimesRise (lists i)) → AllRise n lists
 all_rise zero lists each = record { top = 0; rise = λ i low. absurd (omega arith) }
 all_rise (suc n) lists each =
     let r : AllRise n lists = all_rise n lists (λ i low. each i (omega arith)) in
-    let o : Rises (lists n) = each n (omega arith) in
+    let o : TimesRise (lists n) = each n (omega arith) in
     record {
       top = r.top + o.0;
       rise = λ i low. ⊎_elim

@@ -16,7 +16,7 @@ use Rattle.mail_runs.specs.Histories.{Threads}
 use Rattle.mail_runs.specs.Timed.{is_of_lane}
 use Rattle.mail_runs.specs.Ordered.{done_by}
 use Rattle.mail_runs.proofs.Manners.{Manner, Owed}
-use Rattle.mail_runs.proofs.Exchanges.{Keeps, gives_on}
+use Rattle.mail_runs.proofs.Exchanges.{KeepsExchange, gives_on}
 use Rattle.mail_runs.proofs.Parts.{passes, same_number, set_twice, same_first, same_rest}
 use Rattle.mail_runs.proofs.Frames.{tells_on}
 use Rattle.mail_runs.proofs.Changes.{one_box, one_lane, box_there}
@@ -24,7 +24,7 @@ use Rattle.mail_runs.proofs.Story.{Story, goes_on}
 use Rattle.mail_runs.proofs.Stands.{LaneStands, IsIdle, IsGiving, Stands}
 use Rattle.mail_runs.proofs.Next.{Next}
 use Rattle.mail_runs.proofs.Gives.{given_here}
-use Rattle.mail_runs.proofs.Opens.{IsReady, opens}
+use Rattle.mail_runs.proofs.Opens.{MayOpen, opens}
 
 -- the copy is the one that the lane gives next
 record IsCopy (m : Manner) (k : ℕ) (note : Note) (rest : List Deed) (lane : Lane) (g : IsGiving m k (Gave note ∷ rest) lane) : Type 0 where
@@ -32,7 +32,7 @@ record IsCopy (m : Manner) (k : ℕ) (note : Note) (rest : List Deed) (lane : La
   place : note.place ≡ g.place
   message : note.message ≡ g.t.message
   gives : given_by k rest ≡ copies_from k g.t (g.place + 1) g.boxes ++ flat_map (copies k) g.ts
-  keeps : Owed m → Keeps m.room k (copies_from k g.t (g.place + 1) g.boxes) g.ts lane.gather (done_by k rest)
+  keeps : Owed m → KeepsExchange m.room k (copies_from k g.t (g.place + 1) g.boxes) g.ts lane.gather (done_by k rest)
 
 copy_is : {m : Manner} (note : Note) (rest : List Deed) (lane : Lane) (g : IsGiving m note.txn.lane (Gave note ∷ rest) lane)
     → IsCopy m note.txn.lane note rest lane g
@@ -57,7 +57,7 @@ lane_after lane holds at key note = record lane {
 }
 
 -- an offer from a lane, to a channel that is open and has room
-record IsOffered (m : Manner) (s : Server) (t : Threads) (note : Note) (rest : List Deed) (r : IsReady m s t note rest) (holds : List Hold) : Type 0 where
+record IsOffered (m : Manner) (s : Server) (t : Threads) (note : Note) (rest : List Deed) (r : MayOpen m s t note rest) (holds : List Hold) : Type 0 where
   box : Box
   box_is : BoxIs r.house note.mailbox box
   story : Story m (with_box (with_lane r.house note.txn.lane (lane_after r.lane holds r.giving.at r.giving.key note)) note.mailbox
@@ -72,7 +72,7 @@ abbrev one_hold : Key → ℕ → Hold
 one_hold key n = record { key = key; weight = n }
 
 -- the last copy of a message goes with the lane's hold
-offer_last : {m : Manner} (s : Server) (t : Threads) (note : Note) (rest : List Deed) (r : IsReady m s t note rest) → r.giving.boxes ≡ []
+offer_last : {m : Manner} (s : Server) (t : Threads) (note : Note) (rest : List Deed) (r : MayOpen m s t note rest) → r.giving.boxes ≡ []
     → IsOffered m s t note rest r []
 offer_last {m} s t note rest r last =
     let k : ℕ = note.txn.lane in
@@ -113,7 +113,7 @@ offer_last {m} s t note rest r last =
     }
 
 -- before that a hold of weight 1 is split off for each
-offer_more : {m : Manner} (s : Server) (t : Threads) (note : Note) (rest : List Deed) (r : IsReady m s t note rest) (box : ℕ) (boxes : List ℕ)
+offer_more : {m : Manner} (s : Server) (t : Threads) (note : Note) (rest : List Deed) (r : MayOpen m s t note rest) (box : ℕ) (boxes : List ℕ)
     → r.giving.boxes ≡ box ∷ boxes
     → IsOffered m s t note rest r (one_hold r.giving.key (length (box ∷ boxes)) ∷ [])
 offer_more {m} s t note rest r box boxes more =
@@ -168,7 +168,7 @@ offer_more {m} s t note rest r box boxes more =
     }
 
 -- where all of it stands once the copy is offered
-offered : {m : Manner} (s : Server) (t : Threads) (note : Note) (rest : List Deed) (r : IsReady m s t note rest) (holds : List Hold)
+offered : {m : Manner} (s : Server) (t : Threads) (note : Note) (rest : List Deed) (r : MayOpen m s t note rest) (holds : List Hold)
     → IsOffered m s t note rest r holds
     → IsIdle m note.txn.lane rest (lane_after r.lane holds r.giving.at r.giving.key note)
     ⊎ IsGiving m note.txn.lane rest (lane_after r.lane holds r.giving.at r.giving.key note)
@@ -203,7 +203,7 @@ offered {m} s t note rest r holds o gives =
       };
     }
 
-given_by_boxes : {m : Manner} (s : Server) (t : Threads) (note : Note) (rest : List Deed) (r : IsReady m s t note rest) (boxes : List ℕ)
+given_by_boxes : {m : Manner} (s : Server) (t : Threads) (note : Note) (rest : List Deed) (r : MayOpen m s t note rest) (boxes : List ℕ)
     → r.giving.boxes ≡ boxes → Next m s t rest
 given_by_boxes {m} s t note rest r [] last =
     let k : ℕ = note.txn.lane in
@@ -215,7 +215,7 @@ given_by_boxes {m} s t note rest r [] last =
       no_hold = refl;
       gives = c.gives ∙ ap (λ bs. copies_from k g.t (g.place + 1) bs ++ flat_map (copies k) g.ts) last;
       rise = g.rise;
-      keeps = λ o. subst (λ bs. Keeps m.room k (copies_from k g.t (g.place + 1) bs) g.ts r.lane.gather (done_by k rest)) last (c.keeps o);
+      keeps = λ o. subst (λ bs. KeepsExchange m.room k (copies_from k g.t (g.place + 1) bs) g.ts r.lane.gather (done_by k rest)) last (c.keeps o);
     }))
 given_by_boxes {m} s t note rest r (box ∷ boxes) more =
     let k : ℕ = note.txn.lane in
@@ -239,7 +239,7 @@ given_by_boxes {m} s t note rest r (box ∷ boxes) more =
       message = there ∙ rw (c.number, c.message, c.place) refl;
       gives = c.gives ∙ ap (λ bs. copies_from k g.t (g.place + 1) bs ++ flat_map (copies k) g.ts) more;
       rise = g.rise;
-      keeps = λ o. subst (λ bs. Keeps m.room k (copies_from k g.t (g.place + 1) bs) g.ts r.lane.gather (done_by k rest)) more (c.keeps o);
+      keeps = λ o. subst (λ bs. KeepsExchange m.room k (copies_from k g.t (g.place + 1) bs) g.ts r.lane.gather (done_by k rest)) more (c.keeps o);
     }))
 
 pub gives : {m : Manner} (s : Server) (t : Threads) (note : Note) (rest : List Deed) (h : House) → Stands m s t (Gave note ∷ rest) h → Story m h

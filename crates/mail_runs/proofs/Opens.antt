@@ -22,7 +22,7 @@ use Rattle.mail_runs.specs.Histories.{Threads, IsWithin}
 use Rattle.mail_runs.specs.Timed.{is_of_lane}
 use Rattle.mail_runs.specs.Ordered.{done_by}
 use Rattle.mail_runs.proofs.Manners.{Manner, Owed}
-use Rattle.mail_runs.proofs.Exchanges.{AreAnswered, Keeps, IsOver, exchange_is_over}
+use Rattle.mail_runs.proofs.Exchanges.{AreAnswered, KeepsExchange, ExchangeIsOver, exchange_is_over}
 use Rattle.mail_runs.proofs.Parts.{passes, same_number, each_set, set_twice}
 use Rattle.mail_runs.proofs.Frames.{depot_past}
 use Rattle.mail_runs.proofs.Changes.{lane_there}
@@ -31,7 +31,7 @@ use Rattle.mail_runs.proofs.Stands.{BoxStands, LaneStands, IsIdle, IsGiving, Dep
 use Rattle.mail_runs.proofs.Gives.{IsOpening, IsPlaced, opening, message_is, placed, held_now}
 
 -- a house whose lane has the copy ready to give
-pub record IsReady (m : Manner) (s : Server) (t : Threads) (note : Note) (rest : List Deed) : Type 0 where
+pub record MayOpen (m : Manner) (s : Server) (t : Threads) (note : Note) (rest : List Deed) : Type 0 where
   pub house : House
   pub story : Story m house
   pub setting : (house.calendar ≡ s.calendar) × (house.host ≡ s.host) × (house.quota ≡ s.quota)
@@ -196,7 +196,7 @@ lane_opened {m} k note rest lane key o own none = record {
   message = last_is lane.messages (sealed_up_to key o.t.number o.t.message 0);
   gives = passes (λ (n : Note). n.txn.lane == k) note (flat_map given_in rest) (same_number note.txn.lane k own) ∙ o.gives;
   rise = o.rise;
-  keeps = λ owed. subst (Keeps m.room k (copies_from k o.t 0 (o.box ∷ o.boxes)) o.ts (gather_for (txn_of k o.t.number) (length o.boxes + 1)))
+  keeps = λ owed. subst (KeepsExchange m.room k (copies_from k o.t 0 (o.box ∷ o.boxes)) o.ts (gather_for (txn_of k o.t.number) (length o.boxes + 1)))
       (sym (passes (is_of_lane k) (Gave note) rest (same_number note.txn.lane k own))) (o.planned owed).keeps;
 }
 
@@ -207,7 +207,7 @@ lane_done h k lane is none answered = subst (λ (o : Option Lane). IfSome o IsLa
 -- the other lanes stand, and so does the one that has sealed its message
 opened : {m : Manner} (s : Server) (t : Threads) (note : Note) (rest : List Deed) (h : House) → Stands m s t (Gave note ∷ rest) h → Story m h → (lane : Lane)
     → LaneIs h note.txn.lane lane → lane.holds ≡ [] → (Owed m → AreAnswered lane.gather.places)
-    → (o : IsOpening m note.txn.lane lane.number note (given_by note.txn.lane rest) (done_by note.txn.lane rest)) → IsReady m s t note rest
+    → (o : IsOpening m note.txn.lane lane.number note (given_by note.txn.lane rest) (done_by note.txn.lane rest)) → MayOpen m s t note rest
 opened {m} s t note rest h stands story lane is none answered o =
     let k : ℕ = note.txn.lane in
     let bytes : note.message ≡ o.t.message = message_is o in
@@ -251,13 +251,13 @@ opened {m} s t note rest h stands story lane is none answered o =
 
 by_state : {m : Manner} (s : Server) (t : Threads) (note : Note) (rest : List Deed) (h : House) → Stands m s t (Gave note ∷ rest) h → Story m h → (lane : Lane)
     → LaneIs h note.txn.lane lane → IsIdle m note.txn.lane (Gave note ∷ rest) lane ⊎ IsGiving m note.txn.lane (Gave note ∷ rest) lane
-    → IsReady m s t note rest
+    → MayOpen m s t note rest
 by_state {m} s t note rest h stands story lane is (inl idle) =
     let k : ℕ = note.txn.lane in
     let first : given_by k (Gave note ∷ rest) ≡ note ∷ given_by k rest =
     passes (λ (n : Note). n.txn.lane == k) note (flat_map given_in rest) (same_number k k refl) in
     let own : done_by k (Gave note ∷ rest) ≡ Gave note ∷ done_by k rest = passes (is_of_lane k) (Gave note) rest (same_number k k refl) in
-    let over : Owed m → IsOver m.room k idle.ts lane.gather (Gave note ∷ done_by k rest) =
+    let over : Owed m → ExchangeIsOver m.room k idle.ts lane.gather (Gave note ∷ done_by k rest) =
     λ owed. exchange_is_over m.room k note idle.ts lane.gather (done_by k (Gave note ∷ rest)) (done_by k rest) own (idle.keeps owed) in
     opened s t note rest h stands story lane is idle.no_hold (λ owed. (over owed).answered)
     (opening m k lane.number note (given_by k rest) (done_by k rest) idle.ts idle.rise (sym first ∙ idle.gives) (λ owed. (over owed).goes))
@@ -276,7 +276,7 @@ by_state s t note rest h stands story lane is (inr giving) = record {
 }
 
 pub opens : {m : Manner} (s : Server) (t : Threads) (note : Note) (rest : List Deed) (h : House) → Stands m s t (Gave note ∷ rest) h → Story m h
-    → IsReady m s t note rest
+    → MayOpen m s t note rest
 opens s t note rest h stands story =
     let low : note.txn.lane < s.lanes = stands.within.0.0 in
     let l = lane_there h s.lanes note.txn.lane stands.as_many.1 low in

@@ -28,13 +28,13 @@ no_sooner give take time (p ∷ ps) (g ∷ gb) ga (k ∷ kb) ka eg ek later kb_b
     let h : length kb ≤ length gb = no_sooner give take time ps gb ga kb ka (cc) (cc) later.1 kb_by.1 ga_from in omega arith
 
 -- a list of deeds, cut where what they are is cut
-pub record Cut (ds : List TimedDeed) (before after : List Deed) : Type 0 where
+pub record TimedCut (ds : List TimedDeed) (before after : List Deed) : Type 0 where
   pub first : List TimedDeed
   pub last : List TimedDeed
   pub both : ds ≡ first ++ last
   pub first_are : whats first ≡ before
 
-pub cut_at : (ds : List TimedDeed) (before after : List Deed) → whats ds ≡ before ++ after → Cut ds before after
+pub cut_at : (ds : List TimedDeed) (before after : List Deed) → whats ds ≡ before ++ after → TimedCut ds before after
 cut_at ds [] after e = record { first = []; last = ds; both = refl; first_are = refl }
 cut_at [] (x ∷ before) after e = absurd (cc)
 cut_at (d ∷ ds) (x ∷ before) after e =

@@ -14,7 +14,7 @@ use Rattle.mail_runs.proofs.Takes.{takes}
 use Rattle.mail_runs.proofs.Tells.{tells}
 use Rattle.mail_runs.proofs.Hears.{hears}
 use Rattle.mail_runs.proofs.Starts.{IsPlayed, begins}
-use Rattle.mail_runs.proofs.Closes.{HasEnded, ends}
+use Rattle.mail_runs.proofs.Closes.{AllHaveEnded, ends}
 
 play : {m : Manner} (s : Server) (t : Threads) (d : Deed) (rest : List Deed) → Next m s t (d ∷ rest) → Next m s t rest
 play s t (Gave note) rest next = gives s t note rest next.house next.stands next.story
@@ -26,7 +26,7 @@ played : {m : Manner} (s : Server) (t : Threads) (deeds : List Deed) → Next m 
 played s t [] next = next
 played s t (d ∷ rest) next = played s t rest (play s t d rest next)
 
-all_played : (m : Manner) (s : Server) (t : Threads) (deeds : List Deed) → IsPlayed m s t deeds → HasEnded m s t
+all_played : (m : Manner) (s : Server) (t : Threads) (deeds : List Deed) → IsPlayed m s t deeds → AllHaveEnded m s t
 all_played m s t deeds p = ends s t (played s t deeds (begins m s t deeds p))
 
 -- a channel with a place for each deed has room

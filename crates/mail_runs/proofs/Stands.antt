@@ -15,7 +15,7 @@ use Rattle.mail_runs.specs.Courses.{Server, Spooled, Course, TakesAll}
 use Rattle.mail_runs.specs.Histories.{Threads, RiseAbove, IsWithin, TakesGiven, HearsTold}
 use Rattle.mail_runs.specs.Ordered.{done_by, FindsRoom}
 use Rattle.mail_runs.proofs.Manners.{Manner, Owed}
-use Rattle.mail_runs.proofs.Exchanges.{Keeps}
+use Rattle.mail_runs.proofs.Exchanges.{KeepsExchange}
 
 -- what a mailbox's spool holds, and whether its worker is faulty
 abbrev pub spooled : Box → Spooled
@@ -25,14 +25,14 @@ abbrev pub in_the_end : Course → Spooled
 in_the_end course = record { bytes = course.spool; faulty = course.faulty }
 
 -- what is left of a worker's deeds: the slip of the copy in hand, and the copies that it has yet to take
-abbrev pub Begins : ℕ → List Deed → List Deed → Option Copy → Type 0
-Begins b all turns None = all ≡ turns
-Begins b all turns (Some copy) = (copy.released ≡ true) × (all ≡ Told (slip_of b copy.post.note (outcome_of copy)) ∷ turns)
+abbrev pub BeginsCopy : ℕ → List Deed → List Deed → Option Copy → Type 0
+BeginsCopy b all turns None = all ≡ turns
+BeginsCopy b all turns (Some copy) = (copy.released ≡ true) × (all ≡ Told (slip_of b copy.post.note (outcome_of copy)) ∷ turns)
 
 pub record WorkLeft (s : Server) (b : ℕ) (course : Course) (left : List Deed) (box : Box) : Type 0 where
   pub notes : List Note
   pub outcomes : List Outcome
-  pub program : Begins b (worked_by b left) (turns_of b notes outcomes) box.hand
+  pub program : BeginsCopy b (worked_by b left) (turns_of b notes outcomes) box.hand
   pub queue : notes_of (drop box.taken box.accepted) ++ given_to b left ≡ notes
   pub takes : TakesAll s notes outcomes (spooled box) (in_the_end course)
 
@@ -56,7 +56,7 @@ pub record IsIdle (m : Manner) (k : ℕ) (left : List Deed) (lane : Lane) : Type
   pub no_hold : lane.holds ≡ []
   pub gives : given_by k left ≡ flat_map (copies k) ts
   pub rise : RiseAbove lane.number ts
-  pub keeps : Owed m → Keeps m.room k [] ts lane.gather (done_by k left)
+  pub keeps : Owed m → KeepsExchange m.room k [] ts lane.gather (done_by k left)
 
 -- a lane with a message of which copies are left
 pub record IsGiving (m : Manner) (k : ℕ) (left : List Deed) (lane : Lane) : Type 0 where
@@ -71,7 +71,7 @@ pub record IsGiving (m : Manner) (k : ℕ) (left : List Deed) (lane : Lane) : Ty
   pub message : slice_get lane.messages at ≡ Some (sealed_up_to key t.number t.message place)
   pub gives : given_by k left ≡ copies_from k t place (box ∷ boxes) ++ flat_map (copies k) ts
   pub rise : RiseAbove lane.number ts
-  pub keeps : Owed m → Keeps m.room k (copies_from k t place (box ∷ boxes)) ts lane.gather (done_by k left)
+  pub keeps : Owed m → KeepsExchange m.room k (copies_from k t place (box ∷ boxes)) ts lane.gather (done_by k left)
 
 -- a lane
 pub record LaneStands (m : Manner) (k : ℕ) (heard : List Slip) (left : List Deed) (lane : Lane) : Type 0 where

@@ -21,7 +21,7 @@ use Rattle.mail_runs.specs.Histories.{Threads, TakesGiven}
 use Rattle.mail_runs.proofs.Manners.{Manner}
 use Rattle.mail_runs.proofs.Parts.{set_twice, passes, same_number}
 use Rattle.mail_runs.proofs.Story.{Story, goes_on, may_release}
-use Rattle.mail_runs.proofs.Stands.{Begins, BoxStands, DepotStands, Stands, spooled, in_the_end, free_slot}
+use Rattle.mail_runs.proofs.Stands.{BeginsCopy, BoxStands, DepotStands, Stands, spooled, in_the_end, free_slot}
 use Rattle.mail_runs.proofs.Frames.{flows_on, depot_past}
 use Rattle.mail_runs.proofs.Changes.{one_box, no_lane, as_many_set, box_there}
 use Rattle.mail_runs.proofs.Next.{Next}
@@ -61,7 +61,7 @@ turn_free s b course note left waiting (n ∷ notes) (outcome ∷ outcomes) old 
 
 turn_of : (s : Server) (b : ℕ) (course : Course) (note : Note) (left : List Deed) (waiting notes : List Note) (outcomes : List Outcome) (old : Spooled)
     (hand : Option Copy)
-    → Begins b (Took note ∷ left) (turns_of b notes outcomes) hand → waiting ≡ notes → TakesAll s notes outcomes old (in_the_end course)
+    → BeginsCopy b (Took note ∷ left) (turns_of b notes outcomes) hand → waiting ≡ notes → TakesAll s notes outcomes old (in_the_end course)
     → Turn s b course note left waiting old hand
 turn_of s b course note left waiting notes outcomes old None begins queue takes = turn_free s b course note left waiting notes outcomes old begins queue takes
 turn_of s b course note left waiting notes outcomes old (Some copy) begins queue takes =
@@ -81,7 +81,7 @@ turn_next s capacity course note rest box stands =
     let w = stands.work in
     let its : worked_by b (Took note ∷ rest) ≡ Took note ∷ worked_by b rest = passes (is_of_worker b) (Took note) rest (same_number b b refl) in
     turn_of s b course note (worked_by b rest) (notes_of (drop box.taken box.accepted) ++ given_to b rest) w.notes w.outcomes (spooled box) box.hand
-    (subst (λ l. Begins b l (turns_of b w.notes w.outcomes) box.hand) its w.program) w.queue w.takes
+    (subst (λ l. BeginsCopy b l (turns_of b w.notes w.outcomes) box.hand) its w.program) w.queue w.takes
 
 -- the copy that the worker takes, and those that wait after it
 record IsOldest (note : Note) (given notes : List Note) (box : Box) : Type 0 where

@@ -18,7 +18,7 @@ use Rattle.mail_runs.specs.Histories.{Threads}
 use Rattle.mail_runs.proofs.Manners.{Manner}
 use Rattle.mail_runs.proofs.Parts.{passes, same_number}
 use Rattle.mail_runs.proofs.Story.{Story, goes_on, finds_room}
-use Rattle.mail_runs.proofs.Stands.{Begins, BoxStands, LaneStands, Stands}
+use Rattle.mail_runs.proofs.Stands.{BeginsCopy, BoxStands, LaneStands, Stands}
 use Rattle.mail_runs.proofs.Frames.{flows_on, tells_on, depot_past, gives_still}
 use Rattle.mail_runs.proofs.Changes.{one_box, one_lane, as_many_set, box_there, lane_there}
 use Rattle.mail_runs.proofs.Next.{Next}
@@ -38,7 +38,7 @@ no_turn b slip left (note ∷ notes) [] e = cc
 no_turn b slip left (note ∷ notes) (outcome ∷ outcomes) e = cc
 
 telling : (b : ℕ) (slip : Slip) (left : List Deed) (notes : List Note) (outcomes : List Outcome) (hand : Option Copy)
-    → Begins b (Told slip ∷ left) (turns_of b notes outcomes) hand
+    → BeginsCopy b (Told slip ∷ left) (turns_of b notes outcomes) hand
     → Telling b slip left (turns_of b notes outcomes) hand
 telling b slip left notes outcomes None begins = absurd (no_turn b slip left notes outcomes begins)
 telling b slip left notes outcomes (Some copy) begins =
@@ -52,7 +52,7 @@ of_box s capacity course slip rest box stands =
     let b : ℕ = slip.worker in
     let w = stands.work in
     let its : worked_by b (Told slip ∷ rest) ≡ Told slip ∷ worked_by b rest = passes (is_of_worker b) (Told slip) rest (same_number b b refl) in
-    let begins = subst (λ l. Begins b l (turns_of b w.notes w.outcomes) box.hand) its w.program in
+    let begins = subst (λ l. BeginsCopy b l (turns_of b w.notes w.outcomes) box.hand) its w.program in
     telling b slip (worked_by b rest) w.notes w.outcomes box.hand begins
 
 -- its hand is free then

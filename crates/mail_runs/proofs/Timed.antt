@@ -15,9 +15,10 @@ use Rattle.mail_runs.specs.Histories.{Threads, IsWithin, TakesGiven, HearsTold, 
 use Rattle.mail_runs.specs.Timed.{TimedDeed, Passed, Timed, whats, those, is_of_lane, gives_to, takes_from, tells_to, hears_from, accepted_by, taken_of}
 use Rattle.mail_runs.specs.Timed.{AreTimed}
 use Rattle.mail_runs.proofs.Parts.{passes, fails, same_number, other_number}
-use Rattle.mail_runs.proofs.ByTime.{upto, filter_apart, filter_within, all_filter, all_both, all_upto, filter_upto, upto_same, here, Rises, whole, all_at_time}
-use Rattle.mail_runs.proofs.ByTime.{none_at_time, only_at_time, HasOwner, parts_make, ats, ClimbsTo, climbs_lists, climbs_pair, climbs_until}
-use Rattle.mail_runs.proofs.Parted.{at, Cut, cut_at, Parted, parted, no_more_taken}
+use Rattle.mail_runs.proofs.ByTime.{upto, filter_apart, filter_within, all_filter, all_both, all_upto, filter_upto, upto_same, here, TimesRise, whole}
+use Rattle.mail_runs.proofs.ByTime.{all_at_time}
+use Rattle.mail_runs.proofs.ByTime.{none_at_time, only_at_time, BelongsToOne, parts_make, ats, ClimbsTo, climbs_lists, climbs_pair, climbs_until}
+use Rattle.mail_runs.proofs.Parted.{at, TimedCut, cut_at, Parted, parted, no_more_taken}
 use Rattle.mail_runs.proofs.OneLane.{many}
 
 -- deeds that pass a test, and what they are
@@ -258,7 +259,7 @@ slips_heard (p ∷ ps) = ap (λ l. p.what ∷ l) (slips_heard ps)
 
 -- each is of one of the lanes, or of one of the workers, since who took it is within the server
 lanes_own : (s : Server) (ps : List (Passed Note)) → AllByRecursion (λ (d : TimedDeed). IsWithin s d.what) (taken_of Took ps)
-    → AllByRecursion (HasOwner at s.lanes (λ k d. is_of_lane k d.what)) (accepted_by Gave ps)
+    → AllByRecursion (BelongsToOne at s.lanes (λ k d. is_of_lane k d.what)) (accepted_by Gave ps)
 lanes_own s [] all = tt
 lanes_own s (p ∷ ps) all = (
   record {
@@ -271,7 +272,7 @@ lanes_own s (p ∷ ps) all = (
 )
 
 workers_own : (s : Server) (ps : List (Passed Slip)) → AllByRecursion (λ (d : TimedDeed). IsWithin s d.what) (taken_of Heard ps)
-    → AllByRecursion (HasOwner at s.boxes (λ b d. is_of_worker b d.what)) (accepted_by Told ps)
+    → AllByRecursion (BelongsToOne at s.boxes (λ b d. is_of_worker b d.what)) (accepted_by Told ps)
 workers_own s [] all = tt
 workers_own s (p ∷ ps) all = (
   record {
@@ -300,7 +301,7 @@ module _ (s : Server) (t : Threads) (x : Timed) (h : AreTimed s t x) where
   abbrev passing : (Deed → Bool) → TimedDeed → Bool
   passing test d = test d.what
 
-  made_of : (test : Deed → Bool) (got : List TimedDeed) → Rises at 0 h.agree.until got → ((n : ℕ) → those test (at_time n) ≡ here at n got)
+  made_of : (test : Deed → Bool) (got : List TimedDeed) → TimesRise at 0 h.agree.until got → ((n : ℕ) → those test (at_time n) ≡ here at n got)
       → those test all ≡ got
   made_of test got rises each =
       filter_upto (passing test) (h.agree.until + 1) at_time
@@ -335,7 +336,7 @@ module _ (s : Server) (t : Threads) (x : Timed) (h : AreTimed s t x) where
 
   copies_accepted : (b : ℕ) → b < s.boxes → those (gives_to b) all ≡ accepted_by Gave (x.copies b)
   copies_accepted b low =
-      let owners : AllByRecursion (HasOwner at s.lanes (λ k d. is_of_lane k d.what)) (accepted_by Gave (x.copies b)) =
+      let owners : AllByRecursion (BelongsToOne at s.lanes (λ k d. is_of_lane k d.what)) (accepted_by Gave (x.copies b)) =
       lanes_own s (x.copies b) (subst (λ l. AllByRecursion (λ (d : TimedDeed). IsWithin s d.what) l) (h.agree.took b low)
       (all_filter (λ (d : TimedDeed). IsWithin s d.what) (passing (takes_from b)) (x.workers b)
       (all_whats (IsWithin s) (x.workers b) (h.workers_within b low)))) in
@@ -347,7 +348,7 @@ module _ (s : Server) (t : Threads) (x : Timed) (h : AreTimed s t x) where
 
   slips_accepted : (k : ℕ) → k < s.lanes → those (tells_to k) all ≡ accepted_by Told (x.slips k)
   slips_accepted k low =
-      let owners : AllByRecursion (HasOwner at s.boxes (λ b d. is_of_worker b d.what)) (accepted_by Told (x.slips k)) =
+      let owners : AllByRecursion (BelongsToOne at s.boxes (λ b d. is_of_worker b d.what)) (accepted_by Told (x.slips k)) =
       workers_own s (x.slips k) (subst (λ l. AllByRecursion (λ (d : TimedDeed). IsWithin s d.what) l) (h.agree.heard k low)
       (all_filter (λ (d : TimedDeed). IsWithin s d.what) (passing (hears_from k)) (x.lanes k) (all_whats (IsWithin s) (x.lanes k) (h.lanes_within k low)))) in
       made_of (tells_to k) (accepted_by Told (x.slips k)) (h.agree.slips_rise k low) (λ n.
@@ -405,7 +406,7 @@ module _ (s : Server) (t : Threads) (x : Timed) (h : AreTimed s t x) where
 
   taken_given : (b : ℕ) → b < s.boxes → TakesGiven b 0 (whats all)
   taken_given b low before after whole =
-      let c : Cut all before after = cut_at all before after whole in
+      let c : TimedCut all before after = cut_at all before after whole in
       let few : length (those (takes_from b) c.first) ≤ length (those (gives_to b) c.first) =
       no_more_taken Gave Took (gives_to b) (takes_from b) (x.copies b) c.first c.last (copies_parted b low c.first c.last c.both)
       (h.agree.copies_later b low) in
@@ -417,7 +418,7 @@ module _ (s : Server) (t : Threads) (x : Timed) (h : AreTimed s t x) where
 
   heard_told : (k : ℕ) → k < s.lanes → HearsTold k 0 (whats all)
   heard_told k low before after whole =
-      let c : Cut all before after = cut_at all before after whole in
+      let c : TimedCut all before after = cut_at all before after whole in
       let few : length (those (hears_from k) c.first) ≤ length (those (tells_to k) c.first) =
       no_more_taken Told Heard (tells_to k) (hears_from k) (x.slips k) c.first c.last (slips_parted k low c.first c.last c.both)
       (h.agree.slips_later k low) in

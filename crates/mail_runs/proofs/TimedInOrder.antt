@@ -12,7 +12,7 @@ use Rattle.mail_runs.specs.Ordered.{AreExchanges, FindsRoom, IsOrderlyHistory, M
 use Rattle.mail_runs.proofs.Parts.{passes, same_number}
 use Rattle.mail_runs.proofs.Frames.{given_to-append, taken_by-append}
 use Rattle.mail_runs.proofs.ByTime.{ats}
-use Rattle.mail_runs.proofs.Parted.{at, Cut, cut_at, Parted}
+use Rattle.mail_runs.proofs.Parted.{at, TimedCut, cut_at, Parted}
 use Rattle.mail_runs.proofs.Timed.{whats_those, gifts, takings, all, of_lane, copies_parted, history}
 
 -- what was accepted by a time is no more than the capacity and what was taken by then
@@ -67,7 +67,7 @@ module _ (room capacity : ℕ) (s : Server) (t : Threads) (x : Timed) (h : AreTi
   has_room b low before after note whole to =
       let ds : List TimedDeed = all s t x h.timed in
       let more : List Deed = before ++ Gave note ∷ [] in
-      let c : Cut ds more after = cut_at ds more after (whole ∙ sym (append_assoc before (Gave note ∷ []) after)) in
+      let c : TimedCut ds more after = cut_at ds more after (whole ∙ sym (append_assoc before (Gave note ∷ []) after)) in
       let few : length (those (gives_to b) c.first) ≤ capacity + length (those (takes_from b) c.first) =
       never_fuller capacity b (x.copies b) c.first c.last (copies_parted s t x h.timed b low c.first c.last c.both) (h.makes_room b low) in
       let took : length (taken_by b more) ≡ length (those (takes_from b) c.first) = sym (ap (λ l. length (taken_by b l)) c.first_are)

@@ -10,13 +10,13 @@ use Rattle.mbox_check.specs.Form.{IsBad, IsFaultOf}
 use Rattle.mbox_check.specs.SoFar.{IsReadSoFar, ReadsOn, BreaksIn}
 
 -- what the reader had is what came, and then what it has
-pub record IsReadUpTo (old new : Option (List ℕ)) (form : FormCheck) : Type 0 where
+pub record IsCheckedUpTo (old new : Option (List ℕ)) (form : FormCheck) : Type 0 where
   pub prefix : List ℕ
   pub came : Consumes old new prefix
   pub read : IsReadSoFar prefix form
 
-pub read_more : (old mid new : Option (List ℕ)) (form next : FormCheck) (piece : List ℕ) → IsReadUpTo old mid form → Consumes mid new piece
-    → ReadsOn form next piece → IsReadUpTo old new next
+pub read_more : (old mid new : Option (List ℕ)) (form next : FormCheck) (piece : List ℕ) → IsCheckedUpTo old mid form → Consumes mid new piece
+    → ReadsOn form next piece → IsCheckedUpTo old new next
 read_more old mid new form next piece r c h =
     record { prefix = r.prefix ++ piece; came = Consumes-trans old mid new r.prefix piece r.came c; read = h.goes r.prefix r.read }
 
@@ -34,7 +34,7 @@ all_read (Some xs) (Some ys) None prefix form p q e s = absurd q
 all_read (Some xs) (Some ys) (Some zs) prefix form p q e s =
     subst (λ (l : List ℕ). IsReadSoFar l form) (sym (p ∙ ap (λ (l : List ℕ). prefix ++ l) (q ∙ e) ∙ append-nil prefix)) s
 
-pub read_end : (old mid new : Option (List ℕ)) (form : FormCheck) (n : ℕ) (buffer : List ℕ) → IsReadUpTo old mid form
+pub read_end : (old mid new : Option (List ℕ)) (form : FormCheck) (n : ℕ) (buffer : List ℕ) → IsCheckedUpTo old mid form
     → Consumes mid new (take n buffer) × (n ≡ 0 → 0 < length buffer → IsAtEnd new) → n ≡ 0 → 0 < length buffer → IsAllRead old form
 read_end old mid new form n buffer r c e some =
     all_read old mid new r.prefix form r.came (subst (λ k. Consumes mid new (take k buffer)) e c.0) (c.1 e some) r.read
@@ -51,7 +51,7 @@ broken_at : (xs : List ℕ) (new : Option (List ℕ)) (form : FormCheck) (prefix
 broken_at xs None form prefix piece bad p s h = absurd p
 broken_at xs (Some ys) form prefix piece bad p s h = subst (λ (l : List ℕ). IsBad l bad) (sym (p ∙ append_assoc prefix piece ys)) (h.goes prefix ys s)
 
-pub read_broken : (old mid new : Option (List ℕ)) (form : FormCheck) (piece : List ℕ) (bad : BadForm) → IsReadUpTo old mid form → Consumes mid new piece
+pub read_broken : (old mid new : Option (List ℕ)) (form : FormCheck) (piece : List ℕ) (bad : BadForm) → IsCheckedUpTo old mid form → Consumes mid new piece
     → BreaksIn form piece bad → IsFaultOf old (Form bad)
 read_broken None mid new form piece bad r c h = tt
 read_broken (Some xs) mid new form piece bad r c h =

@@ -27,13 +27,13 @@ pub no_lf : (s : List ℕ) → Nowhere (Passes (is_byte 10) s) 0 (length s) → 
 no_lf s none = no_lf_within s (λ j q. none j (omega arith) q)
 
 -- the first LF of the piece
-pub record IsEnd (piece : List ℕ) (n : ℕ) : Type 0 where
+pub record IsEndOfPiece (piece : List ℕ) (n : ℕ) : Type 0 where
   pub plain : has_byte (take n piece) lf ≡ false
   pub high : n < length piece
   pub prefix : take (n + 1) piece ≡ take n piece ++ lf ∷ []
   pub back : drop n piece ≡ lf ∷ drop (n + 1) piece
 
-pub IsEnd-found : (s : List ℕ) (k : ℕ) → NoneBefore (Passes (is_byte 10) s) 0 (length s) k → Passes (is_byte 10) s k → IsEnd s k
+pub IsEnd-found : (s : List ℕ) (k : ℕ) → NoneBefore (Passes (is_byte 10) s) 0 (length s) k → Passes (is_byte 10) s k → IsEndOfPiece s k
 IsEnd-found s k none here = let is = eqb-true (slice_index s k) lf here in record {
   plain = no_lf_before s k (λ j q. none.before j (omega arith) q);
   high = none.high;
@@ -41,7 +41,7 @@ IsEnd-found s k none here = let is = eqb-true (slice_index s k) lf here in recor
   back = drop_more s k 0 none.high ∙ ap (λ (b : ℕ). b ∷ drop (k + 1) s) is;
 }
 
-whole : (piece : List ℕ) (n : ℕ) → IsEnd piece n → piece ≡ take n piece ++ lf ∷ drop (n + 1) piece
+whole : (piece : List ℕ) (n : ℕ) → IsEndOfPiece piece n → piece ≡ take n piece ++ lf ∷ drop (n + 1) piece
 whole piece n end = sym (take-append-drop n piece) ∙ ap (λ (l : List ℕ). take n piece ++ l) end.back
 
 plain_prefix : (a b : List ℕ) → has_byte (a ++ b) lf ≡ false → has_byte a lf ≡ false
@@ -49,7 +49,7 @@ plain_prefix [] b e = refl
 plain_prefix (c ∷ a) b e = let parts = or_parts (c == lf) (has_byte (a ++ b) lf) e in or_from (c == lf) (has_byte a lf) parts.0 (plain_prefix a b parts.1)
 
 -- with LF alone
-pub ends_lf : (piece : List ℕ) (n : ℕ) (rest : List ℕ) → IsEnd piece n → EndsPlainly (take n piece)
+pub ends_lf : (piece : List ℕ) (n : ℕ) (rest : List ℕ) → IsEndOfPiece piece n → EndsPlainly (take n piece)
     → take (n + 1) piece ++ quoted_text (unix (drop (n + 1) piece ++ rest)) ≡ line_rest (unix (piece ++ rest))
 ends_lf piece n rest end free =
     let line = take n piece in
@@ -61,7 +61,7 @@ ends_lf piece n rest end free =
     ∙ ap (λ (l : List ℕ). line_rest (unix (l ++ rest))) (sym (whole piece n end))
 
 -- up to an LF alone
-pub ends_at_lf : (piece : List ℕ) (n : ℕ) (rest : List ℕ) → IsEnd piece n → EndsPlainly (take n piece)
+pub ends_at_lf : (piece : List ℕ) (n : ℕ) (rest : List ℕ) → IsEndOfPiece piece n → EndsPlainly (take n piece)
     → take n piece ++ line_rest (unix (drop n piece ++ rest)) ≡ line_rest (unix (piece ++ rest))
 ends_at_lf piece n rest end free =
     let line = take n piece in
@@ -72,10 +72,10 @@ ends_at_lf piece n rest end free =
     ∙ ap (λ (l : List ℕ). line_rest (unix (l ++ rest))) (sym (whole piece n end))
 
 -- with CRLF
-crlf_whole : (piece text : List ℕ) (n : ℕ) → IsEnd piece n → take n piece ≡ text ++ cr ∷ [] → piece ≡ text ++ cr ∷ lf ∷ drop (n + 1) piece
+crlf_whole : (piece text : List ℕ) (n : ℕ) → IsEndOfPiece piece n → take n piece ≡ text ++ cr ∷ [] → piece ≡ text ++ cr ∷ lf ∷ drop (n + 1) piece
 crlf_whole piece text n end e = whole piece n end ∙ ap (λ (l : List ℕ). l ++ lf ∷ drop (n + 1) piece) e ∙ append_assoc text (cr ∷ []) (lf ∷ drop (n + 1) piece)
 
-pub crlf_place : (piece text : List ℕ) (n : ℕ) → IsEnd piece n → take n piece ≡ text ++ cr ∷ [] → n ≡ length text + 1
+pub crlf_place : (piece text : List ℕ) (n : ℕ) → IsEndOfPiece piece n → take n piece ≡ text ++ cr ∷ [] → n ≡ length text + 1
 crlf_place piece text n end e =
     let high = end.high in
     let len = length-take n piece in
@@ -83,7 +83,7 @@ crlf_place piece text n end e =
     let sum = length-append text (cr ∷ []) in
     omega (arith, high, len, same, sum)
 
-pub ends_crlf : (piece text : List ℕ) (n : ℕ) (rest : List ℕ) → IsEnd piece n → take n piece ≡ text ++ cr ∷ []
+pub ends_crlf : (piece text : List ℕ) (n : ℕ) (rest : List ℕ) → IsEndOfPiece piece n → take n piece ≡ text ++ cr ∷ []
     → (take (length text) piece ++ []) ++ line_rest (unix (drop n piece ++ rest)) ≡ line_rest (unix (piece ++ rest))
 ends_crlf piece text n rest end e =
     let back = drop (n + 1) piece in

@@ -8,7 +8,7 @@ use Rattle.mbox_record.specs.Writing.{line_rest}
 use Rattle.mbox_record.specs.Steps.{IsWriterRun}
 use Rattle.mbox_record.proofs.Rests.{not_true}
 use Rattle.mbox_record.proofs.Words.{plain_first}
-use Rattle.mbox_record.proofs.Ends.{IsEnd}
+use Rattle.mbox_record.proofs.Ends.{IsEndOfPiece}
 
 pub same_text : (text more goal : List ℕ) → (text ++ []) ++ more ≡ goal → text ++ more ≡ goal
 same_text text more goal e = ap (λ (l : List ℕ). l ++ more) (sym (append-nil text)) ∙ e
@@ -20,7 +20,7 @@ plain_text (b ∷ piece) rest some p q =
     plain_first b (piece ++ rest) (not_true (b == 62) (λ t. p (eqb-true b 62 t))) (not_true (70 == b) (λ t. q (sym (eqb-true 70 b t))))
 
 -- from a line's start, up to its LF
-pub run_at_start : (piece : List ℕ) (len n : ℕ) → IsEnd piece n → len ≤ n
+pub run_at_start : (piece : List ℕ) (len n : ℕ) → IsEndOfPiece piece n → len ≤ n
     → slice_index_or piece 0 0 ≢ 62 → slice_index_or piece 0 0 ≢ 70
     → ((rest : List ℕ) → take len piece ++ line_rest (unix (drop n piece ++ rest)) ≡ line_rest (unix (piece ++ rest)))
     → IsWriterRun Start piece len n

@@ -2,7 +2,7 @@ use Rattle.std.proofs.Common.{vec_items, vec_capacity}
 use Rattle.std.specs.Vec.Iter.{into_iter_items}
 use Rattle.thread_crew.specs.Grid.{lists}
 use Rattle.lmtp_threads.specs.Tasks.{tally_of}
-use Rattle.lmtp_threads.proofs.TakenApart.{IsApart, IsTold}
+use Rattle.lmtp_threads.proofs.TakenApart.{IsApart, TellsAny}
 use Rattle.lmtp_threads.proofs.workers.WorkerReports.take_all.Given as goal
 
 -- the first reports are taken apart
@@ -15,5 +15,5 @@ invariant-loop-report g l =
       spools : IsApart (λ r. r.spool) (vec_items l.ends.spools) (vec_capacity l.ends.spools) rest all;
       gates : IsApart (λ r. r.gate) (vec_items l.ends.gates) (vec_capacity l.ends.gates) rest all;
       tallies : IsApart (λ r. tally_of r.taken r.stored r.over r.in_use r.faulty) (vec_items l.ends.tallies) (vec_capacity l.ends.tallies) rest all;
-      lost : IsTold (λ r. r.lost) l.ends.lost rest all;
+      lost : TellsAny (λ r. r.lost) l.ends.lost rest all;
     }
