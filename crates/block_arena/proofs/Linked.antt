@@ -124,7 +124,7 @@ links_some : (key : Key) (depot : d.Depot) (a : ArenaFields) (run : Run) → See
 links_some key depot a run s has some =
     let was : slice_get a.slots key.slot ≡ Some (slot_at key.generation (Draft run)) = stands key depot a (Draft run) s (λ e. cc) in
     let l : IsLastFreed a.next a.free a.free_count (run.blocks - 1) run.first run.last =
-      last_in key depot a (Draft run) run s (draft_owns a.store a.next run) has in
+    last_in key depot a (Draft run) run s (draft_owns a.store a.next run) has in
     let one : suc (run.blocks - 1) ≡ run.blocks = omega (arith, has) in
     let more : suc (run.blocks - 1) + 1 ≡ run.blocks + 1 = omega (arith, has) in
     let there : occurrences run.last (chain run.blocks a.next run.first) ≡ 1 = ap (λ k. occurrences run.last (chain k a.next run.first)) (sym one) ∙ l.there in

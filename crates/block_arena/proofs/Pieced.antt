@@ -71,7 +71,7 @@ pub put_last : (key : Key) (depot : d.Depot) (a : ArenaFields) (run : Run) (n : 
     → PieceIsPut key depot n bytes (record a { store = store'; slots = slice_set a.slots key.slot slot })
 put_last key depot a run n bytes store' slot k some is e =
     let f : FillsBlock a.store run n (take n bytes) (get_or a.store run.last [])
-      (with_piece (get_or a.store run.last []) (run.length % BLOCK_SIZE) (take n bytes)) =
+    (with_piece (get_or a.store run.last []) (run.length % BLOCK_SIZE) (take n bytes)) =
     filled_by key depot a run n bytes (get_or a.store run.last []) (with_piece (get_or a.store run.last []) (run.length % BLOCK_SIZE) (take n bytes)) [] k.sees
     some (omega (arith, k.least)) (omega (arith, k.least)) refl refl in
     subst (λ (x : Slot). PieceIsPut key depot n bytes (record a { store = store'; slots = slice_set a.slots key.slot x })) (sym e)

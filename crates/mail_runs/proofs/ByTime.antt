@@ -232,7 +232,7 @@ module _ {A : Type 0} (at : A → ℕ) where
       (λ (none : here t got ≡ []). upto_none n (λ i. filter (mine i) (here t got)) (λ i below. ap (filter (mine i)) none) ∙ sym none)
       (λ (one : (x : A) × (here t got ≡ x ∷ [])).
       let o : BelongsToOne n mine one.0 × ⊤ =
-        subst (λ l. AllByRecursion (BelongsToOne n mine) l) one.1 (all_filter (BelongsToOne n mine) (λ x. at x == t) got owners) in
+      subst (λ l. AllByRecursion (BelongsToOne n mine) l) one.1 (all_filter (BelongsToOne n mine) (λ x. at x == t) got owners) in
       ap (λ l. upto n (λ i. filter (mine i) l)) one.1 ∙ owned n mine one.0 o.0 ∙ sym one.1)
       (one? lo hi t got r)
 
