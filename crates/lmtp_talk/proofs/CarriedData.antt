@@ -14,7 +14,7 @@ use Rattle.lmtp_wire.specs.Wire.{IsAfter}
 use Rattle.lmtp_wire.specs.declared.dot.Fed.{Fed}
 use Rattle.lmtp_wire.specs.declared.dot.Dot.{Dot}
 use Rattle.lmtp_wire.specs.Dot.{HasMade, DataGoesOn}
-use Rattle.lmtp_wire.specs.DataPlace.{IsDataEnd}
+use Rattle.lmtp_wire.specs.DataState.{IsDataEnd}
 use Rattle.lmtp_talk.specs.declared.dialogue.Dialogue.{Dialogue}
 use Rattle.lmtp_talk.specs.Peer.{PeerState}
 use Rattle.lmtp_talk.specs.TalkState.{QuitsWith, Comes, InLine, InData, IsInside, IsSoFar, talk_state, beginning}

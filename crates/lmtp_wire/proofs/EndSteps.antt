@@ -3,7 +3,7 @@ use Rattle.std.proofs.Common.{◌≡◌, ℕ, zero, suc, ◌+◌, List, ◌∷�
 use Rattle.std.specs.Prelude.{option_map}
 use Rattle.mail_world.specs.Text.{cr, lf, place_of}
 use Rattle.mail_world.specs.Data.{dot, end_of_data}
-use Rattle.lmtp_wire.specs.DataPlace.{moved}
+use Rattle.lmtp_wire.specs.DataState.{moved}
 
 abbrev pub end_in : List ℕ → Option ℕ
 end_in text = place_of end_of_data text

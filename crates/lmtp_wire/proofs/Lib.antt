@@ -1,6 +1,6 @@
 pub mod EndSteps
 pub mod LastBytes
-pub mod PlaceSteps
+pub mod StateSteps
 pub mod Content
 pub mod Takes
 pub mod Finding

@@ -5,10 +5,10 @@ use Rattle.std.proofs.lemmas.List.{take_more, take_more_set, drop-drop}
 use Rattle.std.proofs.Math.Seq.{take-add}
 use Rattle.mail_world.specs.Data.{shown}
 use Rattle.lmtp_wire.specs.declared.dot.Dot.{Dot}
-use Rattle.lmtp_wire.specs.declared.dot.DataPlace.{DataPlace}
-use Rattle.lmtp_wire.specs.DataPlace.{in_doubt, place_after, is_undotted, IsAtPlace, IsDataEnd}
+use Rattle.lmtp_wire.specs.declared.dot.DataState.{DataState}
+use Rattle.lmtp_wire.specs.DataState.{in_doubt, state_after, is_undotted, IsInState, IsDataEnd}
 use Rattle.lmtp_wire.specs.Dot.{HasMade, HasFed, owed_bytes}
-use Rattle.lmtp_wire.proofs.PlaceSteps.{stands_none, Adds, adds_run}
+use Rattle.lmtp_wire.proofs.StateSteps.{stands_none, Adds, adds_run}
 
 pub drop-later : (i j : ℕ) (xs ys : List ℕ) → i ≤ j → drop i xs ≡ drop i ys → drop j xs ≡ drop j ys
 drop-later i j xs ys h e =
@@ -26,7 +26,7 @@ all_made dot taken made none h = h.shows ∙ ap (λ o. made ++ owed_bytes o) non
 
 -- a byte
 pub takes_byte : (old new : Dot) (piece out out' : List ℕ) (used m m' : ℕ) (add : List ℕ) → old.owed ≡ None → used < length piece
-    → ((taken : List ℕ) → IsAtPlace old.place taken → Adds new.place taken (get_or piece used 0) add)
+    → ((taken : List ℕ) → IsInState old.state taken → Adds new.state taken (get_or piece used 0) add)
     → take m' out' ++ owed_bytes new.owed ≡ take m out ++ add
     → (taken made : List ℕ) → HasMade old (taken ++ take used piece) (made ++ take m out) → HasMade new (taken ++ take (used + 1) piece) (made ++ take m' out')
 takes_byte old new piece out out' used m m' add none within adds bytes taken made h =
@@ -34,10 +34,10 @@ takes_byte old new piece out out' used m m' add none within adds bytes taken mad
     let one = adds now h.stands in
     let more : now ++ get_or piece used 0 ∷ [] ≡ taken ++ take (used + 1) piece =
     append_assoc taken (take used piece) (get_or piece used 0 ∷ []) ∙ ap (λ l. taken ++ l) (sym (take_more piece used 0 within)) in
-    let P : List ℕ → Type 0 = λ l. IsAtPlace new.place l in
-    let stands : IsAtPlace new.place (taken ++ take (used + 1) piece) = subst P more one.stands in
+    let P : List ℕ → Type 0 = λ l. IsInState new.state l in
+    let stands : IsInState new.state (taken ++ take (used + 1) piece) = subst P more one.stands in
     record {
-      goes_on = stands_none new.place (taken ++ take (used + 1) piece) stands;
+      goes_on = stands_none new.state (taken ++ take (used + 1) piece) stands;
       shows = ap shown (sym more) ∙ one.shows ∙ ap (λ l. l ++ add) (all_made old now (made ++ take m out) none h)
           ∙ append_assoc made (take m out) add ∙ ap (λ l. made ++ l) (sym bytes) ∙ sym (append_assoc made (take m' out') (owed_bytes new.owed));
       stands = stands;
@@ -45,7 +45,7 @@ takes_byte old new piece out out' used m m' add none within adds bytes taken mad
 
 -- the last byte
 pub takes_last : (old : Dot) (piece out : List ℕ) (used m : ℕ) → old.owed ≡ None → used < length piece
-    → ((taken : List ℕ) → IsAtPlace old.place taken → IsDataEnd (taken ++ get_or piece used 0 ∷ []) (shown taken))
+    → ((taken : List ℕ) → IsInState old.state taken → IsDataEnd (taken ++ get_or piece used 0 ∷ []) (shown taken))
     → (taken made : List ℕ) → HasMade old (taken ++ take used piece) (made ++ take m out) → IsDataEnd (taken ++ take (used + 1) piece) (made ++ take m out)
 takes_last old piece out used m none within ends taken made h =
     let now : List ℕ = taken ++ take used piece in
@@ -56,19 +56,19 @@ takes_last old piece out used m none within ends taken made h =
     subst P more (subst Q (all_made old now (made ++ take m out) none h) (ends now h.stands))
 
 -- a run of content
-pub takes_run : (old new : Dot) (piece out out' : List ℕ) (used n m m' : ℕ) (run : List ℕ) → old.owed ≡ None → new.owed ≡ None → in_doubt old.place ≡ []
-    → new.place ≡ place_after old.place run → run ≡ take n (drop used piece) → is_undotted old.place run ≡ true → take m' out' ≡ take m out ++ run
+pub takes_run : (old new : Dot) (piece out out' : List ℕ) (used n m m' : ℕ) (run : List ℕ) → old.owed ≡ None → new.owed ≡ None → in_doubt old.state ≡ []
+    → new.state ≡ state_after old.state run → run ≡ take n (drop used piece) → is_undotted old.state run ≡ true → take m' out' ≡ take m out ++ run
     → (taken made : List ℕ) → HasMade old (taken ++ take used piece) (made ++ take m out) → HasMade new (taken ++ take (used + n) piece) (made ++ take m' out')
-takes_run old new piece out out' used n m m' run none none' settled place is content bytes taken made h =
+takes_run old new piece out out' used n m m' run none none' settled state is content bytes taken made h =
     let now : List ℕ = taken ++ take used piece in
-    let all = adds_run old.place now run settled content h.stands in
+    let all = adds_run old.state now run settled content h.stands in
     let more : now ++ run ≡ taken ++ take (used + n) piece =
     append_assoc taken (take used piece) run ∙ ap (λ l. taken ++ (take used piece ++ l)) is ∙ ap (λ l. taken ++ l) (sym (take-add used n piece)) in
-    let Q : List ℕ → Type 0 = λ l. IsAtPlace (place_after old.place run) l in
-    let R : DataPlace → Type 0 = λ p. IsAtPlace p (taken ++ take (used + n) piece) in
-    let stands : IsAtPlace new.place (taken ++ take (used + n) piece) = subst R (sym place) (subst Q more all.stands) in
+    let Q : List ℕ → Type 0 = λ l. IsInState (state_after old.state run) l in
+    let R : DataState → Type 0 = λ p. IsInState p (taken ++ take (used + n) piece) in
+    let stands : IsInState new.state (taken ++ take (used + n) piece) = subst R (sym state) (subst Q more all.stands) in
     record {
-      goes_on = stands_none new.place (taken ++ take (used + n) piece) stands;
+      goes_on = stands_none new.state (taken ++ take (used + n) piece) stands;
       shows = ap shown (sym more) ∙ all.shows ∙ ap (λ l. l ++ run) (all_made old now (made ++ take m out) none h)
           ∙ append_assoc made (take m out) run ∙ ap (λ l. made ++ l) (sym bytes) ∙ sym (append-nil (made ++ take m' out'))
           ∙ ap (λ o. (made ++ take m' out') ++ owed_bytes o) (sym none');

@@ -4,7 +4,7 @@ use Rattle.std.specs.Prelude.{List, [], ◌∷◌, ◌++◌, length, take, drop}
 use Rattle.mail_world.specs.Data.{data_end, shown}
 use Rattle.lmtp_wire.specs.declared.dot.Dot.{Dot}
 use Rattle.lmtp_wire.specs.declared.dot.Fed.{Fed}
-use Rattle.lmtp_wire.specs.DataPlace.{IsAtPlace, IsDataEnd}
+use Rattle.lmtp_wire.specs.DataState.{IsInState, IsDataEnd}
 
 -- a byte, if there is one
 abbrev pub owed_bytes : Option ℕ → List ℕ
@@ -15,7 +15,7 @@ owed_bytes (Some byte) = byte ∷ []
 pub record HasMade (dot : Dot) (taken made : List ℕ) : Type 0 where
   pub goes_on : data_end taken ≡ None
   pub shows : shown taken ≡ made ++ owed_bytes dot.owed
-  pub stands : IsAtPlace dot.place taken
+  pub stands : IsInState dot.state taken
 
 -- the data has ended, or goes on
 abbrev pub HasFed : Dot → List ℕ → List ℕ → Bool → Type 0
@@ -28,7 +28,7 @@ pub record PutsAfter (old new : Dot) (out_old out_new : List ℕ) (made result :
   pub kept : made ≤ result
   pub rest : drop result out_new ≡ drop result out_old
   pub owes : result < length out_new → new.owed ≡ None
-  pub same : new.place ≡ old.place
+  pub same : new.state ≡ old.state
   pub put : take result out_new ++ owed_bytes new.owed ≡ take made out_old ++ bytes
 
 -- more may be taken: the piece has a further byte, `out` has room, and nothing is owed

@@ -1,4 +1,4 @@
 pub mod Wire
-pub mod DataPlace
+pub mod DataState
 pub mod Dot
 pub mod Runs

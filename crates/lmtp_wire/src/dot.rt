@@ -2,7 +2,7 @@
 
 ghost use Rattle.std.specs.Prelude.{◌≡◌, ℕ, ◌+◌, ◌<◌, ◌≤◌, Bool, true, List, [], ◌∷◌, ◌++◌, length, take, drop};
 ghost use Rattle.mail_world.specs.Text.{cr};
-ghost use Rattle.lmtp_wire.specs.DataPlace.{in_doubt, is_start, place_next, place_after, is_undotted, effect_of};
+ghost use Rattle.lmtp_wire.specs.DataState.{in_doubt, is_start, state_next, state_after, is_undotted, effect_of};
 ghost use Rattle.lmtp_wire.specs.Dot.{HasMade, Feeds, PutsAfter, MayTake, TakesOn, owed_bytes};
 
 use memchr::memchr;
@@ -26,7 +26,7 @@ pub struct Fed {
 
 /// How much of the end of data came last.
 #[derive(Clone, Copy, Debug, PartialEq, Eq)]
-enum DataPlace {
+enum DataState {
     /// Nothing of it.
     InText,
     /// CR.
@@ -42,11 +42,11 @@ enum DataPlace {
 /// What a byte adds to the message, and where it leaves the data.
 #[derive(Clone, Copy, Debug, PartialEq, Eq)]
 enum Effect {
-    Nothing(DataPlace),
+    Nothing(DataState),
     /// The byte itself.
-    Byte(DataPlace),
+    Byte(DataState),
     /// The CR that was held back, and the byte.
-    HeldCr(DataPlace),
+    HeldCr(DataState),
     /// Nothing: the data has ended.
     End,
 }
@@ -54,7 +54,7 @@ enum Effect {
 /// Where the bytes of data stand: how much of the end of data came last, and a byte that had no room.
 #[derive(Drop)]
 pub struct Dot {
-    place: DataPlace,
+    state: DataState,
     owed: Option<u8>,
 }
 
@@ -64,7 +64,7 @@ impl Dot {
         ensures { HasMade result [] [] }
     {
         Dot {
-            place: DataPlace::LineStart,
+            state: DataState::LineStart,
             owed: None,
         }
     }
@@ -114,11 +114,11 @@ impl Dot {
         requires { MayTake self.old piece.now out.old fed }
         ensures { TakesOn self.old self.new piece.now out.old out.new fed result }
     {
-        match self.place {
-            DataPlace::InText | DataPlace::AfterCr | DataPlace::LineStart => self.take_run(
+        match self.state {
+            DataState::InText | DataState::AfterCr | DataState::LineStart => self.take_run(
                 piece, out, fed,
             ),
-            DataPlace::AfterDot | DataPlace::AfterDotCr => self.take_byte(piece, out, fed),
+            DataState::AfterDot | DataState::AfterDotCr => self.take_byte(piece, out, fed),
         }
     }
 
@@ -126,17 +126,17 @@ impl Dot {
     // than there is room for, so that nothing is searched twice.
     fn take_run(&mut self, piece: &[u8], out: &mut [u8], fed: Fed) -> Fed
         requires may { MayTake self.old piece.now out.old fed }
-        requires place { in_doubt self.old.place ≡ [] }
+        requires state { in_doubt self.old.state ≡ [] }
         ensures { TakesOn self.old self.new piece.now out.old out.new fed result }
     {
         let room = (piece.len() - fed.used).min(out.len() - fed.made);
         let ahead = &piece[fed.used..fed.used + room];
-        let run = content_len(self.place, ahead);
+        let run = content_len(self.state, ahead);
         if run == 0 {
             return self.take_byte(piece, out, fed);
         }
         let made = fed.made + run;
-        self.place = place_after(self.place, &ahead[..run]);
+        self.state = state_after(self.state, &ahead[..run]);
         out[fed.made..made].copy_from_slice(&ahead[..run]);
         Fed {
             used: fed.used + run,
@@ -151,17 +151,17 @@ impl Dot {
     {
         let byte = piece[fed.used];
         let used = fed.used + 1;
-        match step(self.place, byte) {
-            Effect::Nothing(place) => {
-                self.place = place;
+        match step(self.state, byte) {
+            Effect::Nothing(state) => {
+                self.state = state;
                 Fed {
                     used,
                     made: fed.made,
                     ended: false,
                 }
             }
-            Effect::Byte(place) => {
-                self.place = place;
+            Effect::Byte(state) => {
+                self.state = state;
                 out[fed.made] = byte;
                 Fed {
                     used,
@@ -169,8 +169,8 @@ impl Dot {
                     ended: false,
                 }
             }
-            Effect::HeldCr(place) => {
-                self.place = place;
+            Effect::HeldCr(state) => {
+                self.state = state;
                 let made = self.release(byte, out, fed.made);
                 Fed {
                     used,
@@ -203,14 +203,14 @@ impl Dot {
 }
 
 // How many bytes of a text are content as they stand: all before the first dot that a line starts with.
-fn content_len(place: DataPlace, text: &[u8]) -> usize
+fn content_len(state: DataState, text: &[u8]) -> usize
     ensures within { result ≤ length text.now }
-    ensures content { is_undotted place (take result text.now) ≡ true }
+    ensures content { is_undotted state (take result text.now) ≡ true }
 {
     let mut seen = 0;
     while let Some(n) = memchr(DOT, &text[seen..]) {
         let dot = seen + n;
-        if is_start(place_after(place, &text[..dot])) {
+        if is_start(state_after(state, &text[..dot])) {
             return dot;
         }
         seen = dot + 1;
@@ -219,54 +219,54 @@ fn content_len(place: DataPlace, text: &[u8]) -> usize
 }
 
 // Where data stands after a run of content, which its last two bytes tell.
-fn place_after(place: DataPlace, run: &[u8]) -> DataPlace
-    ensures { result ≡ place_after place run.now }
+fn state_after(state: DataState, run: &[u8]) -> DataState
+    ensures { result ≡ state_after state run.now }
 {
     match run {
-        [] => place,
-        [byte] => place_next(place, *byte),
-        [.., before, byte] => place_next(place_next(DataPlace::InText, *before), *byte),
+        [] => state,
+        [byte] => state_next(state, *byte),
+        [.., before, byte] => state_next(state_next(DataState::InText, *before), *byte),
     }
 }
 
 // Whether a line starts there.
-fn is_start(place: DataPlace) -> bool
-    ensures { result ≡ is_start place }
+fn is_start(state: DataState) -> bool
+    ensures { result ≡ is_start state }
 {
-    matches!(place, DataPlace::LineStart)
+    matches!(state, DataState::LineStart)
 }
 
 // What a byte makes of the message, and where it leaves the data.
-fn step(place: DataPlace, byte: u8) -> Effect
-    ensures { result ≡ effect_of place byte }
+fn step(state: DataState, byte: u8) -> Effect
+    ensures { result ≡ effect_of state byte }
 {
-    match place {
-        DataPlace::InText | DataPlace::AfterCr => Effect::Byte(place_next(place, byte)),
-        DataPlace::LineStart => match byte {
-            DOT => Effect::Nothing(DataPlace::AfterDot),
-            _ => Effect::Byte(place_next(place, byte)),
+    match state {
+        DataState::InText | DataState::AfterCr => Effect::Byte(state_next(state, byte)),
+        DataState::LineStart => match byte {
+            DOT => Effect::Nothing(DataState::AfterDot),
+            _ => Effect::Byte(state_next(state, byte)),
         },
-        DataPlace::AfterDot => match byte {
-            CR => Effect::Nothing(DataPlace::AfterDotCr),
-            _ => Effect::Byte(place_next(place, byte)),
+        DataState::AfterDot => match byte {
+            CR => Effect::Nothing(DataState::AfterDotCr),
+            _ => Effect::Byte(state_next(state, byte)),
         },
-        DataPlace::AfterDotCr => match byte {
+        DataState::AfterDotCr => match byte {
             LF => Effect::End,
-            _ => Effect::HeldCr(place_next(place, byte)),
+            _ => Effect::HeldCr(state_next(state, byte)),
         },
     }
 }
 
 // Where data stands after a byte of content.
-fn place_next(place: DataPlace, byte: u8) -> DataPlace
-    ensures { result ≡ place_next place byte }
+fn state_next(state: DataState, byte: u8) -> DataState
+    ensures { result ≡ state_next state byte }
 {
     match byte {
-        CR => DataPlace::AfterCr,
-        LF => match place {
-            DataPlace::AfterCr | DataPlace::AfterDotCr => DataPlace::LineStart,
-            DataPlace::InText | DataPlace::LineStart | DataPlace::AfterDot => DataPlace::InText,
+        CR => DataState::AfterCr,
+        LF => match state {
+            DataState::AfterCr | DataState::AfterDotCr => DataState::LineStart,
+            DataState::InText | DataState::LineStart | DataState::AfterDot => DataState::InText,
         },
-        _ => DataPlace::InText,
+        _ => DataState::InText,
     }
 }

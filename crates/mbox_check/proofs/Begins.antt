@@ -1,4 +1,4 @@
--- What holds at each place: a mailbox begins with the text, and where it isn't one.
+-- What holds in each state: a mailbox begins with the text, and where it isn't one.
 use Rattle.std.proofs.Common.{◌≡◌, ℕ, true, false, ◌==◌, List, [], ◌∷◌, ◌++◌, Option, Some, None, sym, ap, subst, ◌∙◌, refl, append_assoc, append-nil}
 use Rattle.std.proofs.Common.{true≢false}
 use Rattle.std.specs.Prelude.{codes}
@@ -7,12 +7,12 @@ use Rattle.mail_world.specs.Reading.{Letter, AreLetters, written}
 use Rattle.mail_world.proofs.OneLine.{literal}
 use Rattle.mbox_record.specs.Letters.{is_boundary}
 use Rattle.mbox_record.proofs.Bodies.{begins_from}
-use Rattle.mbox_check.specs.declared.place.Part.{Part}
-use Rattle.mbox_check.specs.declared.place.Part.TheVariants.{Nothing, F, Fr, Fro, From}
-use Rattle.mbox_check.specs.declared.place.FormPlace.{FormPlace}
-use Rattle.mbox_check.specs.declared.place.FormPlace.TheVariants.{Start, Open, Line, Inside}
+use Rattle.mbox_check.specs.declared.state.Part.{Part}
+use Rattle.mbox_check.specs.declared.state.Part.TheVariants.{Nothing, F, Fr, Fro, From}
+use Rattle.mbox_check.specs.declared.state.FormState.{FormState}
+use Rattle.mbox_check.specs.declared.state.FormState.TheVariants.{Start, Open, Line, Inside}
 use Rattle.mbox_check.specs.Form.{IsMailboxOf, BeginsMailbox}
-use Rattle.mbox_check.specs.Places.{part_text, next_byte, longer_part, is_nothing, is_whole}
+use Rattle.mbox_check.specs.States.{part_text, next_byte, longer_part, is_nothing, is_whole}
 use Rattle.mbox_check.specs.SoFar.{EndsInLine, IsBody, IsOpen, IsLine, IsInsideLine, EndsAt}
 use Rattle.mbox_check.proofs.Bodies.{ends_after, text_short, line_short, body_line, body_ended, body_first, body_begins, begins_shorter, body_begins_mailbox}
 
@@ -127,7 +127,7 @@ part_begins text letters part are e =
     sym (append_assoc text (part_text part) rest ∙ ap (λ (l : List ℕ). text ++ l) (part_whole part)) in
     begins_shorter (text ++ part_text part) rest (subst BeginsMailbox whole (body_begins_mailbox _ _ (body_first text letters [] are e (literal [] refl))))
 
-pub at_begins : (place : FormPlace) (text : List ℕ) (n : ℕ) → EndsAt text n place → BeginsMailbox text
+pub at_begins : (state : FormState) (text : List ℕ) (n : ℕ) → EndsAt text n state → BeginsMailbox text
 at_begins (Start part) text n at = subst BeginsMailbox (sym at.1) (part_begins [] [] part tt refl)
 at_begins (Open part) text n at =
     let ended = body_ended at.before n at.body in
@@ -146,7 +146,7 @@ line_part_short Fr text n l letters m = text_short text (ends_in_part Fr text (l
 line_part_short Fro text n l letters m = text_short text (ends_in_part Fro text (l.before ++ lf ∷ []) l.whole refl) letters m
 line_part_short From text n l letters m = text_short text (ends_in_part From text (l.before ++ lf ∷ []) l.whole refl) letters m
 
-pub at_short : (place : FormPlace) (text : List ℕ) (n : ℕ) → EndsAt text n place → is_whole place ≡ false → (letters : List Letter)
+pub at_short : (state : FormState) (text : List ℕ) (n : ℕ) → EndsAt text n state → is_whole state ≡ false → (letters : List Letter)
     → IsMailboxOf text letters → ⊥
 at_short (Start part) text n at e = text_short text (ends_in_part part text [] at.1 e)
 at_short (Open part) text n at e = text_short text (ends_in_part part text (at.before ++ lf ∷ []) at.whole e)

@@ -7,12 +7,12 @@ use Rattle.mail_world.specs.Counts.{counted}
 use Rattle.mail_world.specs.Text.{lf}
 use Rattle.mail_world.specs.Reading.{Letter, written}
 use Rattle.mbox_record.specs.Letters.{is_boundary}
-use Rattle.mbox_check.specs.declared.place.Part.{Part}
-use Rattle.mbox_check.specs.declared.place.FormPlace.{FormPlace}
-use Rattle.mbox_check.specs.declared.place.FormPlace.TheVariants.{Start, Open, Line, Inside}
+use Rattle.mbox_check.specs.declared.state.Part.{Part}
+use Rattle.mbox_check.specs.declared.state.FormState.{FormState}
+use Rattle.mbox_check.specs.declared.state.FormState.TheVariants.{Start, Open, Line, Inside}
 use Rattle.mbox_check.specs.declared.fault.BadForm.TheVariants.{NoFromLine, NoEmptyLine}
 use Rattle.mbox_check.specs.Form.{IsMailboxOf, BeginsMailbox, BreaksAt, IsBad}
-use Rattle.mbox_check.specs.Places.{part_text, next_byte, longer_part, is_whole, bad_at}
+use Rattle.mbox_check.specs.States.{part_text, next_byte, longer_part, is_whole, bad_at}
 use Rattle.mbox_check.specs.SoFar.{IsLine, EndsAt}
 use Rattle.mbox_check.proofs.MailLines.{from_after}
 use Rattle.mbox_record.proofs.Mailboxes.{boundary-letters}
@@ -47,8 +47,8 @@ breaks_end text begins short = record {
 
 -- ---- at the end
 
-pub bad_end : (place : FormPlace) (text : List ℕ) (n taken : ℕ) → taken ≡ counted (length text) → EndsAt text n place → is_whole place ≡ false
-    → IsBad text (bad_at place taken)
+pub bad_end : (state : FormState) (text : List ℕ) (n taken : ℕ) → taken ≡ counted (length text) → EndsAt text n state → is_whole state ≡ false
+    → IsBad text (bad_at state taken)
 bad_end (Start part) text n taken t at e =
     (start_bad part text at.1 e, (length text, t, breaks_end text (at_begins (Start part) text n at) (at_short (Start part) text n at e)))
 bad_end (Open part) text n taken t at e =

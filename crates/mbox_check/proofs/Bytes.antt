@@ -8,14 +8,14 @@ use Rattle.mail_world.specs.Text.{lf, IsOneLine}
 use Rattle.mail_world.specs.Reading.{Letter, AreLetters, written}
 use Rattle.mail_world.proofs.OneLine.{one_line-cons, one_line-append, literal}
 use Rattle.mbox_record.specs.Letters.{is_boundary}
-use Rattle.mbox_check.specs.declared.place.Part.{Part}
-use Rattle.mbox_check.specs.declared.place.Part.TheVariants.{Nothing, F, Fr, Fro, From}
-use Rattle.mbox_check.specs.declared.place.FormPlace.{FormPlace}
-use Rattle.mbox_check.specs.declared.place.FormPlace.TheVariants.{Start, Open, Line, Inside}
-use Rattle.mbox_check.specs.declared.place.Effect.{Effect}
-use Rattle.mbox_check.specs.declared.place.Effect.TheVariants.{To, Begin, Break}
+use Rattle.mbox_check.specs.declared.state.Part.{Part}
+use Rattle.mbox_check.specs.declared.state.Part.TheVariants.{Nothing, F, Fr, Fro, From}
+use Rattle.mbox_check.specs.declared.state.FormState.{FormState}
+use Rattle.mbox_check.specs.declared.state.FormState.TheVariants.{Start, Open, Line, Inside}
+use Rattle.mbox_check.specs.declared.state.Effect.{Effect}
+use Rattle.mbox_check.specs.declared.state.Effect.TheVariants.{To, Begin, Break}
 use Rattle.mbox_check.specs.Form.{IsBad}
-use Rattle.mbox_check.specs.Places.{part_text, next_byte, longer_part, is_nothing, line_place, start_with, open_with, line_with, effect_at, bad_at}
+use Rattle.mbox_check.specs.States.{part_text, next_byte, longer_part, is_nothing, line_state, start_with, open_with, line_with, effect_at, bad_at}
 use Rattle.mbox_check.specs.SoFar.{EndsInLine, IsBody, IsOpen, IsLine, IsInsideLine, EndsAt}
 use Rattle.mbox_record.proofs.Mailboxes.{boundary-letters}
 use Rattle.mbox_check.proofs.Bodies.{ends_after, line_ends, body_line, body_ended, body_first}
@@ -23,8 +23,8 @@ use Rattle.mbox_check.proofs.Begins.{part_one, part_grown, part_else, ends_in_pa
 use Rattle.mbox_check.proofs.Breaks.{start_breaks, line_breaks}
 
 -- the text with the byte
-abbrev pub LeadsTo : FormPlace → List ℕ → ℕ → ℕ → Effect → Type 0
-LeadsTo from text n b (To place) = EndsAt (text ++ b ∷ []) n place
+abbrev pub LeadsTo : FormState → List ℕ → ℕ → ℕ → Effect → Type 0
+LeadsTo from text n b (To state) = EndsAt (text ++ b ∷ []) n state
 LeadsTo from text n b Begin = EndsAt (text ++ b ∷ []) (suc n) Inside
 LeadsTo from text n b Break = (more : List ℕ) (taken : ℕ) → taken ≡ counted (length text) → IsBad (text ++ b ∷ more) (bad_at from taken)
 
@@ -117,7 +117,7 @@ started_byte part text n b s e true f =
     subst (λ c. EndsAt (text ++ c ∷ []) n (cond (is_nothing part) (Open Nothing) (Line Nothing))) (sym (eqb-true b lf f)) (started_lf part text n s)
 started_byte part text n b s e false f = started_else part text n b s e f
 
--- ---- at each place
+-- ---- in each state
 
 start_option : (part : Part) (text : List ℕ) (n b : ℕ) → EndsAt text n (Start part) → next_byte part ≡ b → (o : Option Part) → longer_part part ≡ o
     → LeadsTo (Start part) text n b (start_with o)
@@ -139,7 +139,7 @@ open_option part text n b at e None f =
     (part_grown part text (at.before ++ lf ∷ []) b None at.whole e f)
 
 open_byte : (part : Part) (text : List ℕ) (n b : ℕ) → IsOpen text n part → (t : Bool) → (next_byte part == b) ≡ t
-    → LeadsTo (Open part) text n b (cond t (open_with (longer_part part)) (To (line_place part b)))
+    → LeadsTo (Open part) text n b (cond t (open_with (longer_part part)) (To (line_state part b)))
 open_byte part text n b at true e = open_option part text n b at (eqb-true (next_byte part) b e) (longer_part part) refl
 open_byte part text n b at false e = started_byte part text n b (open_started text n part at) e (b == lf) refl
 
@@ -150,11 +150,11 @@ line_option part text n b at e (Some more) f =
 line_option part text n b at e None f = λ more taken t. line_breaks part text more n b taken t at e f
 
 line_byte : (part : Part) (text : List ℕ) (n b : ℕ) → IsLine text n part → (t : Bool) → (next_byte part == b) ≡ t
-    → LeadsTo (Line part) text n b (cond t (line_with (longer_part part)) (To (line_place part b)))
+    → LeadsTo (Line part) text n b (cond t (line_with (longer_part part)) (To (line_state part b)))
 line_byte part text n b at true e = line_option part text n b at (eqb-true (next_byte part) b e) (longer_part part) refl
 line_byte part text n b at false e = started_byte part text n b (line_started text n part at) e (b == lf) refl
 
-pub byte_leads : (place : FormPlace) (text : List ℕ) (n b : ℕ) → EndsAt text n place → LeadsTo place text n b (effect_at place b)
+pub byte_leads : (state : FormState) (text : List ℕ) (n b : ℕ) → EndsAt text n state → LeadsTo state text n b (effect_at state b)
 byte_leads (Start part) text n b at = start_byte part text n b at (next_byte part == b) refl
 byte_leads (Open part) text n b at = open_byte part text n b at (next_byte part == b) refl
 byte_leads (Line part) text n b at = line_byte part text n b at (next_byte part == b) refl

@@ -10,13 +10,13 @@ use Rattle.mail_world.specs.Text.{lf, IsOneLine}
 use Rattle.mbox_record.proofs.LineCuts.{IsLineCut-found, has_no_lf}
 use Rattle.mbox_check.specs.declared.fault.BadForm.{BadForm}
 use Rattle.mbox_check.specs.declared.form.FormCheck.{FormCheck}
-use Rattle.mbox_check.specs.declared.place.Part.{Part}
-use Rattle.mbox_check.specs.declared.place.Part.TheVariants.{Nothing, F, Fr, Fro, From}
-use Rattle.mbox_check.specs.declared.place.FormPlace.{FormPlace}
-use Rattle.mbox_check.specs.declared.place.FormPlace.TheVariants.{Start, Open, Line, Inside}
-use Rattle.mbox_check.specs.declared.place.Effect.TheVariants.{To, Begin, Break}
+use Rattle.mbox_check.specs.declared.state.Part.{Part}
+use Rattle.mbox_check.specs.declared.state.Part.TheVariants.{Nothing, F, Fr, Fro, From}
+use Rattle.mbox_check.specs.declared.state.FormState.{FormState}
+use Rattle.mbox_check.specs.declared.state.FormState.TheVariants.{Start, Open, Line, Inside}
+use Rattle.mbox_check.specs.declared.state.Effect.TheVariants.{To, Begin, Break}
 use Rattle.mbox_check.specs.Form.{IsMailboxOf, IsBad, IsLetterCount}
-use Rattle.mbox_check.specs.Places.{part_text, is_nothing, is_whole, effect_at, bad_at}
+use Rattle.mbox_check.specs.States.{part_text, is_nothing, is_whole, effect_at, bad_at}
 use Rattle.mbox_check.specs.SoFar.{IsInsideLine, IsLine, EndsAt, IsReadSoFar, ReadsOn, BreaksIn}
 use Rattle.mbox_check.proofs.Bodies.{body_ended}
 use Rattle.mbox_check.proofs.Breaks.{bad_end}
@@ -32,31 +32,31 @@ one_more letters n e = omega arith
 
 -- ---- a byte
 
-pub byte_to : (form : FormCheck) (b : ℕ) (place : FormPlace) → effect_at form.place b ≡ To place
-    → ReadsOn form (record form { place = place; taken = counted (form.taken + 1) }) (b ∷ [])
-byte_to form b place e = record {
+pub byte_to : (form : FormCheck) (b : ℕ) (state : FormState) → effect_at form.state b ≡ To state
+    → ReadsOn form (record form { state = state; taken = counted (form.taken + 1) }) (b ∷ [])
+byte_to form b state e = record {
   goes = λ prefix s. record {
     n = s.n;
     count = s.count;
     taken = taken_on prefix (b ∷ []) form.taken 1 s.taken refl;
-    at = subst (λ x. LeadsTo form.place prefix s.n b x) e (byte_leads form.place prefix s.n b s.at);
+    at = subst (λ x. LeadsTo form.state prefix s.n b x) e (byte_leads form.state prefix s.n b s.at);
   };
 }
 
-pub byte_begin : (form : FormCheck) (b : ℕ) → effect_at form.place b ≡ Begin
-    → ReadsOn form (record form { letters = counted (form.letters + 1); place = Inside; taken = counted (form.taken + 1) }) (b ∷ [])
+pub byte_begin : (form : FormCheck) (b : ℕ) → effect_at form.state b ≡ Begin
+    → ReadsOn form (record form { letters = counted (form.letters + 1); state = Inside; taken = counted (form.taken + 1) }) (b ∷ [])
 byte_begin form b e = record {
   goes = λ prefix s. record {
     n = suc s.n;
     count = one_more form.letters s.n s.count;
     taken = taken_on prefix (b ∷ []) form.taken 1 s.taken refl;
-    at = subst (λ x. LeadsTo form.place prefix s.n b x) e (byte_leads form.place prefix s.n b s.at);
+    at = subst (λ x. LeadsTo form.state prefix s.n b x) e (byte_leads form.state prefix s.n b s.at);
   };
 }
 
-pub byte_break : (form : FormCheck) (b : ℕ) → effect_at form.place b ≡ Break → BreaksIn form (b ∷ []) (bad_at form.place form.taken)
+pub byte_break : (form : FormCheck) (b : ℕ) → effect_at form.state b ≡ Break → BreaksIn form (b ∷ []) (bad_at form.state form.taken)
 byte_break form b e = record {
-  goes = λ prefix more s. subst (λ x. LeadsTo form.place prefix s.n b x) e (byte_leads form.place prefix s.n b s.at) more form.taken s.taken;
+  goes = λ prefix more s. subst (λ x. LeadsTo form.state prefix s.n b x) e (byte_leads form.state prefix s.n b s.at) more form.taken s.taken;
 }
 
 -- ---- a line's rest
@@ -70,9 +70,9 @@ inside_on : (text piece : List ℕ) (n : ℕ) → 0 < length piece → IsInsideL
 inside_on text [] n some i one = absurd (omega arith)
 inside_on text (b ∷ piece) n some i one = inside_more text n b piece i one
 
-pub line_taken : (form : FormCheck) (text : List ℕ) (k : ℕ) → form.place ≡ Inside → NoneBefore (Passes (is_byte 10) text) 0 (length text) k
+pub line_taken : (form : FormCheck) (text : List ℕ) (k : ℕ) → form.state ≡ Inside → NoneBefore (Passes (is_byte 10) text) 0 (length text) k
     → Passes (is_byte 10) text k
-    → ReadsOn form (record form { place = Line Nothing; taken = counted (form.taken + (k + 1)) }) (take (k + 1) text)
+    → ReadsOn form (record form { state = Line Nothing; taken = counted (form.taken + (k + 1)) }) (take (k + 1) text)
 line_taken form text k e none here =
     let cut = IsLineCut-found text k none here in
     let high : k < length text = none.high in
@@ -88,8 +88,8 @@ line_taken form text k e none here =
       };
     }
 
-pub rest_taken : (form : FormCheck) (text : List ℕ) → form.place ≡ Inside → 0 < length text → Nowhere (Passes (is_byte 10) text) 0 (length text)
-    → ReadsOn form (record form { place = Inside; taken = counted (form.taken + length text) }) (take (length text) text)
+pub rest_taken : (form : FormCheck) (text : List ℕ) → form.state ≡ Inside → 0 < length text → Nowhere (Passes (is_byte 10) text) 0 (length text)
+    → ReadsOn form (record form { state = Inside; taken = counted (form.taken + length text) }) (take (length text) text)
 rest_taken form text e some none =
     let whole : take (length text) text ≡ text = take_all (length text) text (omega arith) in
     record {
@@ -138,7 +138,7 @@ nothing_text Fr e = absurd (false≢true e)
 nothing_text Fro e = absurd (false≢true e)
 nothing_text From e = absurd (false≢true e)
 
-whole_at : (place : FormPlace) (text : List ℕ) (n letters : ℕ) → letters ≡ counted n → EndsAt text n place → is_whole place ≡ true → IsLetterCount text letters
+whole_at : (state : FormState) (text : List ℕ) (n letters : ℕ) → letters ≡ counted n → EndsAt text n state → is_whole state ≡ true → IsLetterCount text letters
 whole_at (Start part) text n letters e at f =
     ([], record { are = tt; whole = sym (at.1 ∙ nothing_text part f) }, e ∙ ap (λ k. counted k) at.0)
 whole_at (Open part) text n letters e at f =
@@ -149,8 +149,8 @@ whole_at (Open part) text n letters e at f =
 whole_at (Line part) text n letters e at f = absurd (false≢true f)
 whole_at Inside text n letters e at f = absurd (false≢true f)
 
-pub end_count : (form : FormCheck) → is_whole form.place ≡ true → (text : List ℕ) → IsReadSoFar text form → IsLetterCount text form.letters
-end_count form f text s = whole_at form.place text s.n form.letters s.count s.at f
+pub end_count : (form : FormCheck) → is_whole form.state ≡ true → (text : List ℕ) → IsReadSoFar text form → IsLetterCount text form.letters
+end_count form f text s = whole_at form.state text s.n form.letters s.count s.at f
 
-pub end_bad : (form : FormCheck) → is_whole form.place ≡ false → (text : List ℕ) → IsReadSoFar text form → IsBad text (bad_at form.place form.taken)
-end_bad form f text s = bad_end form.place text s.n form.taken s.taken s.at f
+pub end_bad : (form : FormCheck) → is_whole form.state ≡ false → (text : List ℕ) → IsReadSoFar text form → IsBad text (bad_at form.state form.taken)
+end_bad form f text s = bad_end form.state text s.n form.taken s.taken s.at f

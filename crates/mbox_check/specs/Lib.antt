@@ -1,3 +1,3 @@
 pub mod Form
-pub mod Places
+pub mod States
 pub mod SoFar

@@ -8,11 +8,11 @@ use Rattle.mail_world.specs.Reading.{Letter, AreLetters, written}
 use Rattle.mbox_record.specs.Letters.{is_boundary}
 use Rattle.mbox_check.specs.declared.fault.BadForm.{BadForm}
 use Rattle.mbox_check.specs.declared.form.FormCheck.{FormCheck}
-use Rattle.mbox_check.specs.declared.place.Part.{Part}
-use Rattle.mbox_check.specs.declared.place.FormPlace.{FormPlace}
-use Rattle.mbox_check.specs.declared.place.FormPlace.TheVariants.{Start, Open, Line, Inside}
+use Rattle.mbox_check.specs.declared.state.Part.{Part}
+use Rattle.mbox_check.specs.declared.state.FormState.{FormState}
+use Rattle.mbox_check.specs.declared.state.FormState.TheVariants.{Start, Open, Line, Inside}
 use Rattle.mbox_check.specs.Form.{IsBad}
-use Rattle.mbox_check.specs.Places.{part_text}
+use Rattle.mbox_check.specs.States.{part_text}
 
 -- the last byte isn't LF
 pub record EndsInLine (text : List ℕ) : Type 0 where
@@ -51,8 +51,8 @@ pub record IsInsideLine (text : List ℕ) (n : ℕ) : Type 0 where
   pub begins : (more : List ℕ) → is_boundary (text ++ more) ≡ true
   pub goes : (more : List ℕ) → IsOneLine more → IsBody (text ++ (more ++ lf ∷ [])) n
 
--- the text, in which n letters have begun, ends at the place
-abbrev pub EndsAt : List ℕ → ℕ → FormPlace → Type 0
+-- the text, in which n letters have begun, ends in that state
+abbrev pub EndsAt : List ℕ → ℕ → FormState → Type 0
 EndsAt text n (Start part) = (n ≡ 0) × (text ≡ part_text part)
 EndsAt text n (Open part) = IsOpen text n part
 EndsAt text n (Line part) = IsLine text n part
@@ -62,7 +62,7 @@ pub record IsReadSoFar (text : List ℕ) (form : FormCheck) : Type 0 where
   pub n : ℕ
   pub count : form.letters ≡ counted n
   pub taken : form.taken ≡ counted (length text)
-  pub at : EndsAt text n form.place
+  pub at : EndsAt text n form.state
 
 -- whatever came before, the bytes came after it
 pub record ReadsOn (old new : FormCheck) (bytes : List ℕ) : Type 0 where

@@ -2,11 +2,11 @@
 ghost use Rattle.std.specs.Prelude.{◌≡◌, ◌+◌, ◌<◌, ◌≤◌, ℕ, List, [], ◌∷◌, length, take, IfOk, IfErr, OnOk};
 ghost use Rattle.mail_world.specs.Counts.{counted};
 ghost use Rattle.mbox_check.specs.Form.{IsBad, IsLetterCount};
-ghost use Rattle.mbox_check.specs.Places.{bad_at};
+ghost use Rattle.mbox_check.specs.States.{bad_at};
 ghost use Rattle.mbox_check.specs.SoFar.{IsReadSoFar, ReadsOn, BreaksIn};
 
 use crate::fault::BadForm;
-use crate::place::{Effect, FormPlace, Part, effect_at, is_whole};
+use crate::state::{Effect, FormState, Part, effect_at, is_whole};
 use memchr::memchr;
 
 /// How far the bytes that came have the form of a mailbox.
@@ -15,7 +15,7 @@ pub(crate) struct FormCheck {
     // How many letters have begun, and how many bytes were taken; both stay at 2^64 - 1.
     letters: u64,
     taken: u64,
-    place: FormPlace,
+    state: FormState,
 }
 
 impl FormCheck {
@@ -25,7 +25,7 @@ impl FormCheck {
         FormCheck {
             letters: 0,
             taken: 0,
-            place: FormPlace::Start(Part::Nothing),
+            state: FormState::Start(Part::Nothing),
         }
     }
 
@@ -47,7 +47,7 @@ impl FormCheck {
         ensures ok { IfOk result (λ count. (text : List ℕ) → IsReadSoFar text self.now → IsLetterCount text count) }
         ensures err { IfErr result (λ bad. (text : List ℕ) → IsReadSoFar text self.now → IsBad text bad) }
     {
-        if is_whole(self.place) {
+        if is_whole(self.state) {
             Ok(self.letters)
         } else {
             Err(self.bad())
@@ -61,8 +61,8 @@ impl FormCheck {
         ensures ok { IfOk result (λ n. ReadsOn self.old self.new (take n text.now)) }
         ensures err { IfErr result (λ bad. BreaksIn self.old text.now bad) }
     {
-        match self.place {
-            FormPlace::Inside => Ok(self.rest_of_line(text)),
+        match self.state {
+            FormState::Inside => Ok(self.rest_of_line(text)),
             _ => {
                 self.byte(text[0])?;
                 Ok(1)
@@ -72,18 +72,18 @@ impl FormCheck {
 
     // Takes the line's rest up to its LF, or all of the text, and says how many bytes these are.
     fn rest_of_line(&mut self, text: &[u8]) -> usize
-        requires inside { self.old.place ≡ FormPlace.Inside }
+        requires inside { self.old.state ≡ FormState.Inside }
         requires some { 0 < length text.now }
         ensures within { (1 ≤ result) × (result ≤ length text.now) }
         ensures ok { ReadsOn self.old self.new (take result text.now) }
     {
         match memchr(b'\n', text) {
             Some(at) => {
-                self.go(FormPlace::Line(Part::Nothing), at + 1);
+                self.go(FormState::Line(Part::Nothing), at + 1);
                 at + 1
             }
             None => {
-                self.go(FormPlace::Inside, text.len());
+                self.go(FormState::Inside, text.len());
                 text.len()
             }
         }
@@ -93,9 +93,9 @@ impl FormCheck {
         ensures ok { OnOk result (ReadsOn self.old self.new (byte ∷ [])) }
         ensures err { IfErr result (λ bad. BreaksIn self.old (byte ∷ []) bad) }
     {
-        match effect_at(self.place, byte) {
-            Effect::To(place) => {
-                self.go(place, 1);
+        match effect_at(self.state, byte) {
+            Effect::To(state) => {
+                self.go(state, 1);
                 Ok(())
             }
             Effect::Begin => {
@@ -106,11 +106,11 @@ impl FormCheck {
         }
     }
 
-    // That many bytes lead to the place.
-    fn go(&mut self, place: FormPlace, size: usize)
-        ensures { self.new ≡ record self.old { place = place; taken = counted (self.old.taken + size) } }
+    // That many bytes lead to the state.
+    fn go(&mut self, state: FormState, size: usize)
+        ensures { self.new ≡ record self.old { state = state; taken = counted (self.old.taken + size) } }
     {
-        self.place = place;
+        self.state = state;
         self.taken = self.taken.saturating_add(size as u64);
     }
 
@@ -118,21 +118,21 @@ impl FormCheck {
     fn begin(&mut self)
         ensures { self.new ≡ record self.old {
           letters = counted (self.old.letters + 1);
-          place = FormPlace.Inside;
+          state = FormState.Inside;
           taken = counted (self.old.taken + 1);
         } }
     {
         self.letters = self.letters.saturating_add(1);
-        self.go(FormPlace::Inside, 1);
+        self.go(FormState::Inside, 1);
     }
 
     // What is wrong where the text ends or breaks here.
     fn bad(&self) -> BadForm
-        ensures { result ≡ bad_at self.now.place self.now.taken }
+        ensures { result ≡ bad_at self.now.state self.now.taken }
     {
-        match self.place {
-            FormPlace::Start(_) => BadForm::NoFromLine { place: self.taken },
-            FormPlace::Open(_) | FormPlace::Line(_) | FormPlace::Inside => BadForm::NoEmptyLine {
+        match self.state {
+            FormState::Start(_) => BadForm::NoFromLine { place: self.taken },
+            FormState::Open(_) | FormState::Line(_) | FormState::Inside => BadForm::NoEmptyLine {
                 place: self.taken,
             },
         }

@@ -6,8 +6,8 @@
 
 mod fault;
 mod form;
-mod place;
 mod reading;
+mod state;
 
 pub use fault::{BadForm, CheckFault};
 pub use reading::check_mailbox;

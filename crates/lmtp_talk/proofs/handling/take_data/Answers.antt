@@ -1,7 +1,7 @@
 use Rattle.std.proofs.Common.{List, ℕ, ◌++◌, length, take, subst}
 use Rattle.std.specs.Prelude.{Bool}
 use Rattle.lmtp_wire.specs.Dot.{EndedOr, DataGoesOn}
-use Rattle.lmtp_wire.specs.DataPlace.{IsDataEnd}
+use Rattle.lmtp_wire.specs.DataState.{IsDataEnd}
 use Rattle.lmtp_talk.proofs.CarriedData.{more_of_data, end_of_data}
 use Rattle.lmtp_talk.proofs.handling.take_data.Goals as goal
 

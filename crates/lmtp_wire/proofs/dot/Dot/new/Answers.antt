@@ -1,6 +1,6 @@
-use Rattle.lmtp_wire.specs.declared.dot.DataPlace.TheVariants.{LineStart}
+use Rattle.lmtp_wire.specs.declared.dot.DataState.TheVariants.{LineStart}
 use Rattle.std.proofs.Common.{[]}
-use Rattle.lmtp_wire.proofs.PlaceSteps.{stands_none, stands_first, shown_first}
+use Rattle.lmtp_wire.proofs.StateSteps.{stands_none, stands_first, shown_first}
 use Rattle.lmtp_wire.proofs.dot.Dot.new.Goals as goal
 
 pub returns : goal.returns

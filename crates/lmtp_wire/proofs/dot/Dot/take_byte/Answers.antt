@@ -2,7 +2,7 @@ use Rattle.std.proofs.Common.{[], ◌++◌, ◌+◌, take, ap, refl, arith, rule
 use Rattle.std.proofs.lemmas.List.{drop-set-lt}
 use Rattle.lmtp_wire.specs.Dot.{owed_bytes}
 use Rattle.lmtp_wire.specs.declared.dot.Effect.TheVariants.{Nothing, Byte, HeldCr, End}
-use Rattle.lmtp_wire.proofs.PlaceSteps.{brings_as}
+use Rattle.lmtp_wire.proofs.StateSteps.{brings_as}
 use Rattle.lmtp_wire.proofs.Takes.{takes_byte, takes_last, puts_byte}
 use Rattle.lmtp_wire.proofs.dot.Dot.take_byte.Goals as goal
 
@@ -15,7 +15,7 @@ returns-in-Nothing c = record {
   rest = refl;
   owes = λ _. c.requires.paid;
   comes = takes_byte c.args.self.now _ c.args.piece.now c.args.out.now c.args.out.now c.args.fed.used c.args.fed.made c.args.fed.made []
-      c.requires.paid c.requires.left (brings_as c.args.self.now.place _ (Nothing c.in-Nothing.place) c.in-Nothing.ensures)
+      c.requires.paid c.requires.left (brings_as c.args.self.now.state _ (Nothing c.in-Nothing.state) c.in-Nothing.ensures)
       (ap (λ o. take c.args.fed.made c.args.out.now ++ owed_bytes o) c.requires.paid);
 }
 
@@ -28,7 +28,7 @@ returns-in-Byte c = record {
   rest = drop-set-lt _ c.args.out.now c.args.fed.made _ (omega arith);
   owes = λ _. c.requires.paid;
   comes = takes_byte c.args.self.now _ c.args.piece.now c.args.out.now _ c.args.fed.used c.args.fed.made (c.args.fed.made + 1) _
-      c.requires.paid c.requires.left (brings_as c.args.self.now.place _ (Byte c.in-Byte.place) c.in-Byte.ensures)
+      c.requires.paid c.requires.left (brings_as c.args.self.now.state _ (Byte c.in-Byte.state) c.in-Byte.ensures)
       (puts_byte c.args.out.now c.args.fed.made _ c.args.self.now.owed c.requires.paid c.requires.room);
 }
 
@@ -44,7 +44,7 @@ returns-in-HeldCr c =
       owes = put.ensures.owes;
       comes = takes_byte c.args.self.now put.new.self c.args.piece.now c.args.out.now put.new.out c.args.fed.used c.args.fed.made put.result _
           c.requires.paid c.requires.left
-          (λ taken s. rw put.ensures.same (brings_as c.args.self.now.place _ (HeldCr c.in-HeldCr.place) c.in-HeldCr.ensures taken s))
+          (λ taken s. rw put.ensures.same (brings_as c.args.self.now.state _ (HeldCr c.in-HeldCr.state) c.in-HeldCr.ensures taken s))
           put.ensures.put;
     }
 
@@ -57,5 +57,5 @@ returns-in-End c = record {
   rest = refl;
   owes = λ _. c.requires.paid;
   comes = takes_last c.args.self.now c.args.piece.now c.args.out.now c.args.fed.used c.args.fed.made c.requires.paid c.requires.left
-      (brings_as c.args.self.now.place _ End c.in-End.ensures);
+      (brings_as c.args.self.now.state _ End c.in-End.ensures);
 }

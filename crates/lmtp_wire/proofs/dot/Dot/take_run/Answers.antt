@@ -15,7 +15,7 @@ returns c = record {
   owes = λ _. c.requires.may.paid;
   comes = takes_run c.args.self.now _ c.args.piece.now c.args.out.now _ c.args.fed.used c.content_len-run.result c.args.fed.made
       (c.args.fed.made + c.content_len-run.result) _
-      c.requires.may.paid c.requires.may.paid c.requires.place c.place_after-self.ensures
+      c.requires.may.paid c.requires.may.paid c.requires.state c.state_after-self.ensures
       (take-take _ _ _ (omega (arith, c.content_len-run.ensures.within, length-take {A = ℕ}))) c.content_len-run.ensures.content
       (rw c.copy_from_slice.ensures.after
       (take-put_mid c.args.fed.made _ c.args.out.now _ _ (omega (arith, c.content_len-run.ensures.within, length-take {A = ℕ})) (omega arith)));

@@ -6,7 +6,7 @@ use Rattle.mbox_check.proofs.form.FormCheck.byte.Goals as goal
 pub returns-in-To-clause-ok : goal.returns-in-To-clause-ok
 returns-in-To-clause-ok c =
     subst (λ form. ReadsOn c.args.self.now form (c.args.byte ∷ [])) (sym c.go.ensures)
-    (byte_to c.args.self.now c.args.byte c.in-To.place (sym c.effect_at.ensures ∙ c.in-To.is))
+    (byte_to c.args.self.now c.args.byte c.in-To.state (sym c.effect_at.ensures ∙ c.in-To.is))
 
 pub returns-in-Begin-clause-ok : goal.returns-in-Begin-clause-ok
 returns-in-Begin-clause-ok c =

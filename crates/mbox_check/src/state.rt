@@ -1,6 +1,6 @@
 //! Where a reader of a mailbox stands between two bytes, and where a byte leads it.
 ghost use Rattle.std.specs.Prelude.{◌≡◌};
-ghost use Rattle.mbox_check.specs.Places.{next_byte, longer_part, line_place, is_whole, effect_at};
+ghost use Rattle.mbox_check.specs.States.{next_byte, longer_part, line_state, is_whole, effect_at};
 
 /// What a line has begun with of `From `, where it has begun with nothing else.
 #[derive(Clone, Copy, Debug)]
@@ -14,7 +14,7 @@ pub(crate) enum Part {
 
 /// Where a reader stands.
 #[derive(Clone, Copy, Debug)]
-pub(crate) enum FormPlace {
+pub(crate) enum FormState {
     /// In the first line, which has to be a From line.
     Start(Part),
     /// In a line after an empty one, which may be a From line.
@@ -28,7 +28,7 @@ pub(crate) enum FormPlace {
 /// What comes of a byte.
 #[derive(Clone, Copy, Debug)]
 pub(crate) enum Effect {
-    To(FormPlace),
+    To(FormState),
     /// A letter begins: `From ` is whole.
     Begin,
     /// No mailbox goes on like this.
@@ -61,78 +61,78 @@ fn longer_part(part: Part) -> Option<Part>
 }
 
 // Where a byte leads that doesn't go on with `From `.
-fn line_place(part: Part, byte: u8) -> FormPlace
-    ensures { result ≡ line_place part byte }
+fn line_state(part: Part, byte: u8) -> FormState
+    ensures { result ≡ line_state part byte }
 {
     if byte != b'\n' {
-        return FormPlace::Inside;
+        return FormState::Inside;
     }
     match part {
-        Part::Nothing => FormPlace::Open(Part::Nothing),
-        Part::F | Part::Fr | Part::Fro | Part::From => FormPlace::Line(Part::Nothing),
+        Part::Nothing => FormState::Open(Part::Nothing),
+        Part::F | Part::Fr | Part::Fro | Part::From => FormState::Line(Part::Nothing),
     }
 }
 
-/// What comes of the byte at the place.
-pub(crate) fn effect_at(place: FormPlace, byte: u8) -> Effect
-    ensures { result ≡ effect_at place byte }
+/// What comes of the byte in that state.
+pub(crate) fn effect_at(state: FormState, byte: u8) -> Effect
+    ensures { result ≡ effect_at state byte }
 {
-    match place {
-        FormPlace::Start(part) => start_effect(part, byte),
-        FormPlace::Open(part) => open_effect(part, byte),
-        FormPlace::Line(part) => line_effect(part, byte),
-        FormPlace::Inside => {
+    match state {
+        FormState::Start(part) => start_effect(part, byte),
+        FormState::Open(part) => open_effect(part, byte),
+        FormState::Line(part) => line_effect(part, byte),
+        FormState::Inside => {
             if byte == b'\n' {
-                Effect::To(FormPlace::Line(Part::Nothing))
+                Effect::To(FormState::Line(Part::Nothing))
             } else {
-                Effect::To(FormPlace::Inside)
+                Effect::To(FormState::Inside)
             }
         }
     }
 }
 
 fn start_effect(part: Part, byte: u8) -> Effect
-    ensures { result ≡ effect_at (FormPlace.Start part) byte }
+    ensures { result ≡ effect_at (FormState.Start part) byte }
 {
     if next_byte(part) != byte {
         return Effect::Break;
     }
     match longer_part(part) {
-        Some(part) => Effect::To(FormPlace::Start(part)),
+        Some(part) => Effect::To(FormState::Start(part)),
         None => Effect::Begin,
     }
 }
 
 fn open_effect(part: Part, byte: u8) -> Effect
-    ensures { result ≡ effect_at (FormPlace.Open part) byte }
+    ensures { result ≡ effect_at (FormState.Open part) byte }
 {
     if next_byte(part) != byte {
-        return Effect::To(line_place(part, byte));
+        return Effect::To(line_state(part, byte));
     }
     match longer_part(part) {
-        Some(part) => Effect::To(FormPlace::Open(part)),
+        Some(part) => Effect::To(FormState::Open(part)),
         None => Effect::Begin,
     }
 }
 
 fn line_effect(part: Part, byte: u8) -> Effect
-    ensures { result ≡ effect_at (FormPlace.Line part) byte }
+    ensures { result ≡ effect_at (FormState.Line part) byte }
 {
     if next_byte(part) != byte {
-        return Effect::To(line_place(part, byte));
+        return Effect::To(line_state(part, byte));
     }
     match longer_part(part) {
-        Some(part) => Effect::To(FormPlace::Line(part)),
+        Some(part) => Effect::To(FormState::Line(part)),
         None => Effect::Break,
     }
 }
 
 /// Whether a mailbox may end here.
-pub(crate) fn is_whole(place: FormPlace) -> bool
-    ensures { result ≡ is_whole place }
+pub(crate) fn is_whole(state: FormState) -> bool
+    ensures { result ≡ is_whole state }
 {
     matches!(
-        place,
-        FormPlace::Start(Part::Nothing) | FormPlace::Open(Part::Nothing)
+        state,
+        FormState::Start(Part::Nothing) | FormState::Open(Part::Nothing)
     )
 }

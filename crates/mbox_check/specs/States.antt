@@ -4,12 +4,12 @@ use Rattle.std.specs.Str.{byte}
 use Rattle.mail_world.specs.Text.{lf}
 use Rattle.mbox_check.specs.declared.fault.BadForm.{BadForm}
 use Rattle.mbox_check.specs.declared.fault.BadForm.TheVariants.{NoFromLine, NoEmptyLine}
-use Rattle.mbox_check.specs.declared.place.Part.{Part}
-use Rattle.mbox_check.specs.declared.place.Part.TheVariants.{Nothing, F, Fr, Fro, From}
-use Rattle.mbox_check.specs.declared.place.FormPlace.{FormPlace}
-use Rattle.mbox_check.specs.declared.place.FormPlace.TheVariants.{Start, Open, Line, Inside}
-use Rattle.mbox_check.specs.declared.place.Effect.{Effect}
-use Rattle.mbox_check.specs.declared.place.Effect.TheVariants.{To, Begin, Break}
+use Rattle.mbox_check.specs.declared.state.Part.{Part}
+use Rattle.mbox_check.specs.declared.state.Part.TheVariants.{Nothing, F, Fr, Fro, From}
+use Rattle.mbox_check.specs.declared.state.FormState.{FormState}
+use Rattle.mbox_check.specs.declared.state.FormState.TheVariants.{Start, Open, Line, Inside}
+use Rattle.mbox_check.specs.declared.state.Effect.{Effect}
+use Rattle.mbox_check.specs.declared.state.Effect.TheVariants.{To, Begin, Break}
 
 abbrev pub part_text : Part → List ℕ
 part_text Nothing = []
@@ -42,8 +42,8 @@ is_nothing Fro = false
 is_nothing From = false
 
 -- where a byte leads that doesn't go on with `From `
-abbrev pub line_place : Part → ℕ → FormPlace
-line_place part b = if b == lf then (if is_nothing part then Open Nothing else Line Nothing) else Inside
+abbrev pub line_state : Part → ℕ → FormState
+line_state part b = if b == lf then (if is_nothing part then Open Nothing else Line Nothing) else Inside
 
 abbrev pub start_with : Option Part → Effect
 start_with (Some part) = To (Start part)
@@ -58,21 +58,21 @@ line_with (Some part) = To (Line part)
 line_with None = Break
 
 -- what comes of a byte
-abbrev pub effect_at : FormPlace → ℕ → Effect
+abbrev pub effect_at : FormState → ℕ → Effect
 effect_at (Start part) b = if next_byte part == b then start_with (longer_part part) else Break
-effect_at (Open part) b = if next_byte part == b then open_with (longer_part part) else To (line_place part b)
-effect_at (Line part) b = if next_byte part == b then line_with (longer_part part) else To (line_place part b)
+effect_at (Open part) b = if next_byte part == b then open_with (longer_part part) else To (line_state part b)
+effect_at (Line part) b = if next_byte part == b then line_with (longer_part part) else To (line_state part b)
 effect_at Inside b = if b == lf then To (Line Nothing) else To Inside
 
 -- a mailbox may end here
-abbrev pub is_whole : FormPlace → Bool
+abbrev pub is_whole : FormState → Bool
 is_whole (Start part) = is_nothing part
 is_whole (Open part) = is_nothing part
 is_whole (Line part) = false
 is_whole Inside = false
 
 -- what is wrong where the text ends or breaks here
-abbrev pub bad_at : FormPlace → ℕ → BadForm
+abbrev pub bad_at : FormState → ℕ → BadForm
 bad_at (Start part) taken = NoFromLine taken
 bad_at (Open part) taken = NoEmptyLine taken
 bad_at (Line part) taken = NoEmptyLine taken

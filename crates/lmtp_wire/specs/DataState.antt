@@ -1,15 +1,15 @@
--- Where data stands: how much of its end came last, and what the next byte makes of the message.
+-- The state of data: how much of its end came last, and what the next byte makes of the message.
 use Rattle.std.specs.Prelude.{◌≡◌, ℕ, zero, suc, ◌+◌, Bool, true, false, not, ◌&&◌, ◌==◌, if◌then◌else◌}
 use Rattle.std.specs.Prelude.{List, [], ◌∷◌, ◌++◌, length, Option, Some, option_map}
 use Rattle.mail_world.specs.Text.{cr, lf, crlf, place_of, ends_in}
 use Rattle.mail_world.specs.Data.{dot, end_of_data, data_end, without_dots, unstuffed, message, shown}
-use Rattle.lmtp_wire.specs.declared.dot.DataPlace.{DataPlace}
-use Rattle.lmtp_wire.specs.declared.dot.DataPlace.TheVariants.{InText, AfterCr, LineStart, AfterDot, AfterDotCr}
+use Rattle.lmtp_wire.specs.declared.dot.DataState.{DataState}
+use Rattle.lmtp_wire.specs.declared.dot.DataState.TheVariants.{InText, AfterCr, LineStart, AfterDot, AfterDotCr}
 use Rattle.lmtp_wire.specs.declared.dot.Effect.{Effect}
 use Rattle.lmtp_wire.specs.declared.dot.Effect.TheVariants.{Nothing, Byte, HeldCr, End}
 
 -- the prefix of the end of data that came last
-abbrev pub came : DataPlace → List ℕ
+abbrev pub came : DataState → List ℕ
 came InText = []
 came AfterCr = cr ∷ []
 came LineStart = crlf
@@ -17,14 +17,14 @@ came AfterDot = cr ∷ lf ∷ dot ∷ []
 came AfterDotCr = cr ∷ lf ∷ dot ∷ cr ∷ []
 
 -- what of it may turn out to be no content, and what of that is content if the end doesn't come
-abbrev pub in_doubt : DataPlace → List ℕ
+abbrev pub in_doubt : DataState → List ℕ
 in_doubt InText = []
 in_doubt AfterCr = []
 in_doubt LineStart = []
 in_doubt AfterDot = dot ∷ []
 in_doubt AfterDotCr = dot ∷ cr ∷ []
 
-abbrev pub held_back : DataPlace → List ℕ
+abbrev pub held_back : DataState → List ℕ
 held_back InText = []
 held_back AfterCr = []
 held_back LineStart = []
@@ -32,21 +32,21 @@ held_back AfterDot = []
 held_back AfterDotCr = cr ∷ []
 
 -- the last byte is CR; the last two are CRLF; the last three are CRLF and a dot
-abbrev pub is_cr : DataPlace → Bool
+abbrev pub is_cr : DataState → Bool
 is_cr InText = false
 is_cr AfterCr = true
 is_cr LineStart = false
 is_cr AfterDot = false
 is_cr AfterDotCr = true
 
-abbrev pub is_start : DataPlace → Bool
+abbrev pub is_start : DataState → Bool
 is_start InText = false
 is_start AfterCr = false
 is_start LineStart = true
 is_start AfterDot = false
 is_start AfterDotCr = false
 
-abbrev pub is_dot : DataPlace → Bool
+abbrev pub is_dot : DataState → Bool
 is_dot InText = false
 is_dot AfterCr = false
 is_dot LineStart = false
@@ -54,29 +54,29 @@ is_dot AfterDot = true
 is_dot AfterDotCr = false
 
 -- where data stands after a byte of content
-abbrev pub place_next : DataPlace → ℕ → DataPlace
-place_next place byte = if byte == cr then AfterCr else if is_cr place && (byte == lf) then LineStart else InText
+abbrev pub state_next : DataState → ℕ → DataState
+state_next state byte = if byte == cr then AfterCr else if is_cr state && (byte == lf) then LineStart else InText
 
 -- and after a run of them
-abbrev pub place_after : DataPlace → List ℕ → DataPlace
-place_after place [] = place
-place_after place (byte ∷ run) = place_after (place_next place byte) run
+abbrev pub state_after : DataState → List ℕ → DataState
+state_after state [] = state
+state_after state (byte ∷ run) = state_after (state_next state byte) run
 
 -- no byte of the run is a dot that a line starts with
-abbrev pub is_undotted : DataPlace → List ℕ → Bool
-is_undotted place [] = true
-is_undotted place (byte ∷ run) = not (is_start place && (byte == dot)) && is_undotted (place_next place byte) run
+abbrev pub is_undotted : DataState → List ℕ → Bool
+is_undotted state [] = true
+is_undotted state (byte ∷ run) = not (is_start state && (byte == dot)) && is_undotted (state_next state byte) run
 
 -- what a byte makes of the message, and where it leaves the data
-abbrev pub effect_of : DataPlace → ℕ → Effect
-effect_of InText byte = Byte (place_next InText byte)
-effect_of AfterCr byte = Byte (place_next AfterCr byte)
-effect_of LineStart byte = if byte == dot then Nothing AfterDot else Byte (place_next LineStart byte)
-effect_of AfterDot byte = if byte == cr then Nothing AfterDotCr else Byte (place_next AfterDot byte)
-effect_of AfterDotCr byte = if byte == lf then End else HeldCr (place_next AfterDotCr byte)
+abbrev pub effect_of : DataState → ℕ → Effect
+effect_of InText byte = Byte (state_next InText byte)
+effect_of AfterCr byte = Byte (state_next AfterCr byte)
+effect_of LineStart byte = if byte == dot then Nothing AfterDot else Byte (state_next LineStart byte)
+effect_of AfterDot byte = if byte == cr then Nothing AfterDotCr else Byte (state_next AfterDot byte)
+effect_of AfterDotCr byte = if byte == lf then End else HeldCr (state_next AfterDotCr byte)
 
--- the text after that place, without its dots
-abbrev pub without_dots_at : DataPlace → List ℕ → List ℕ
+-- the text that follows in that state, without its dots
+abbrev pub without_dots_at : DataState → List ℕ → List ℕ
 without_dots_at InText rest = without_dots 0 0 rest
 without_dots_at AfterCr rest = without_dots 0 cr rest
 without_dots_at LineStart rest = without_dots cr lf rest
@@ -88,20 +88,20 @@ abbrev pub moved : ℕ → Option ℕ → Option ℕ
 moved zero o = o
 moved (suc k) o = option_map (λ n. suc n) (moved k o)
 
--- data that hasn't ended, up to that place
-pub record IsAtPlace (place : DataPlace) (taken : List ℕ) : Type 0 where
+-- data that hasn't ended and led to that state
+pub record IsInState (state : DataState) (taken : List ℕ) : Type 0 where
   pub before : ℕ
-  pub count : before + length (came place) ≡ length taken + 2
+  pub count : before + length (came state) ≡ length taken + 2
   pub finds : (rest : List ℕ)
-      → place_of end_of_data (crlf ++ (taken ++ rest)) ≡ moved before (place_of end_of_data (came place ++ rest))
-  pub cr_last : ends_in (cr ∷ []) (crlf ++ taken) ≡ is_cr place
-  pub crlf_last : ends_in crlf (crlf ++ taken) ≡ is_start place
-  pub dot_last : ends_in (crlf ++ dot ∷ []) (crlf ++ taken) ≡ is_dot place
-  pub after : (rest : List ℕ) → unstuffed (taken ++ rest) ≡ unstuffed taken ++ without_dots_at place rest
+      → place_of end_of_data (crlf ++ (taken ++ rest)) ≡ moved before (place_of end_of_data (came state ++ rest))
+  pub cr_last : ends_in (cr ∷ []) (crlf ++ taken) ≡ is_cr state
+  pub crlf_last : ends_in crlf (crlf ++ taken) ≡ is_start state
+  pub dot_last : ends_in (crlf ++ dot ∷ []) (crlf ++ taken) ≡ is_dot state
+  pub after : (rest : List ℕ) → unstuffed (taken ++ rest) ≡ unstuffed taken ++ without_dots_at state rest
   pub lead : List ℕ
-  pub whole : taken ≡ lead ++ in_doubt place
+  pub whole : taken ≡ lead ++ in_doubt state
   pub content : unstuffed lead ≡ shown taken
-  pub sure : unstuffed taken ≡ shown taken ++ held_back place
+  pub sure : unstuffed taken ≡ shown taken ++ held_back state
 
 -- the data has ended with the last byte that was taken, and the message was made
 pub record IsDataEnd (taken made : List ℕ) : Type 0 where

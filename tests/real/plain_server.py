@@ -1,0 +1,124 @@
+#!/usr/bin/env python3
+"""An LMTP server of a page for one mailbox, in the place of ours: what readers do to one another whoever delivers.
+
+It appends each letter under the lock file and the range lock, and syncs it. It takes the words that the cases give to
+ours, and leaves out all that they don't look at.
+usage: LMTPD=tests/real/plain_server.py tests/real/run.sh 'mutt and formail delete'
+"""
+
+import fcntl
+import os
+import pathlib
+import socket
+import sys
+import threading
+import time
+
+TRIES = 100  # for a letter's locks, and one for the next letters while they can't be had
+PAUSE = 0.1
+
+
+class Mailbox:
+    def __init__(self, path):
+        self.path, self.lock = path, path.with_name(f"{path.name}.lock")
+        self.stored = self.missed = 0
+        self.tries = TRIES
+        self.turn = threading.Lock()
+        path.touch()
+
+    def put(self, record):
+        with self.turn:
+            found = any(self.take(record) or time.sleep(PAUSE) for _ in range(self.tries))
+            self.tries = TRIES if found else 1
+            self.stored, self.missed = self.stored + found, self.missed + (not found)
+            return found
+
+    def take(self, record):
+        """Whether both locks were free, and the letter stands there now."""
+        try:
+            made = os.open(self.lock, os.O_CREAT | os.O_EXCL | os.O_WRONLY, 0o644)
+        except FileExistsError:
+            return False
+        try:
+            os.write(made, f"{os.getpid()}:{socket.gethostname()}".encode())
+            os.close(made)
+            with open(self.path, "r+b") as file:
+                fcntl.lockf(file, fcntl.LOCK_EX | fcntl.LOCK_NB)
+                file.seek(0, os.SEEK_END)
+                file.write(record)
+                file.flush()
+                os.fdatasync(file.fileno())
+            return True
+        except BlockingIOError:
+            return False
+        finally:
+            self.lock.unlink()
+
+
+class Conversation:
+    def __init__(self, number, client, mailbox):
+        self.number, self.mailbox = number, mailbox
+        self.stream = client.makefile("rwb")
+        self.count = 0
+
+    def hold(self):
+        self.say("220 mx.example LMTP ready")
+        while line := self.stream.readline():
+            self.say(self.reply(line[:4].upper()))
+            if line[:4].upper() == b"QUIT":
+                return
+
+    def reply(self, command):
+        match command:
+            case b"LHLO":
+                return "250-mx.example\r\n250-PIPELINING\r\n250-ENHANCEDSTATUSCODES\r\n250-8BITMIME\r\n250 SIZE 1048576"
+            case b"MAIL":
+                return "250 2.1.0 Sender ok"
+            case b"RCPT":
+                return "250 2.1.5 Recipient ok"
+            case b"DATA":
+                self.say("354 End with a lone dot")
+                name = self.mailbox.path.name.removesuffix(".mbox")
+                is_stored = self.mailbox.put(self.record())
+                return f"250 2.0.0 Stored for {name}" if is_stored else f"451 4.3.0 Not stored for {name}"
+        return "221 2.0.0 mx.example closing"
+
+    def record(self):
+        """The next letter, each with a head of its own, by which Dovecot knows it again."""
+        self.count += 1
+        lines = []
+        while (line := self.stream.readline().removesuffix(b"\r\n")) != b".":
+            lines.append(line.removeprefix(b"."))
+        now = time.gmtime()
+        head = [
+            f"From carl@a.example {time.strftime('%a %b %e %H:%M:%S %Y', now)}",
+            "Return-Path: <carl@a.example>",
+            f"Received: from relay.example by mx.example with LMTP id {self.number}-{self.count};",
+            time.strftime("\t%a, %d %b %Y %H:%M:%S +0000", now),
+        ]
+        return b"\n".join([*map(str.encode, head), *lines, b"", b""])
+
+    def say(self, reply):
+        self.stream.write(reply.encode() + b"\r\n")
+        self.stream.flush()
+
+
+def main(word, *words):
+    if word == "check":
+        return
+    given = {name: value for name, value in zip(words, words[1:], strict=False) if name.startswith("--")}
+    mailbox = Mailbox(pathlib.Path(given["--dir"]) / f"{words[-1]}.mbox")
+    listener = socket.create_server(("127.0.0.1", 0))
+    print(f"listening on 127.0.0.1:{listener.getsockname()[1]}", flush=True)
+    clients = range(int(given["--connections"]))
+    jobs = [threading.Thread(target=Conversation(number, listener.accept()[0], mailbox).hold) for number in clients]
+    for job in jobs:
+        job.start()
+    for job in jobs:
+        job.join()
+    print(f"{words[-1]} stored {mailbox.stored}")
+    if mailbox.missed:
+        print(f"lmtpd: {words[-1]} in use {mailbox.missed}", file=sys.stderr)
+
+
+main(*sys.argv[1:])
