@@ -154,18 +154,32 @@ class Beside:
 
 def letters_of(text):
     """The subjects of a mailbox's letters, and those letters that aren't as they were sent."""
-    subjects, torn = [], []
-    for letter in re.split(rb"^From ", text, flags=re.MULTILINE)[1:]:
-        head, _, body = letter.partition(b"\n\n")
-        subject = SUBJECT.search(head)
-        if subject is None:
-            torn += [letter[:200]] * (OF_DOVECOT not in head + b"\n")
-            continue
-        name = subject[1].decode()
-        subjects.append(name)
-        if body.rstrip(b"\n") != "\n".join(body_of(name)).encode():
-            torn.append(letter[:200])
-    return subjects, torn
+    letters = [(subject_of(letter), letter) for letter in split(text)]
+    subjects = [subject for subject, _ in letters if subject]
+    return subjects, [letter[:200] for subject, letter in letters if not is_whole(subject, letter)]
+
+
+def whole_of(text):
+    """The subjects of the letters that are as they were sent."""
+    letters = [(subject_of(letter), letter) for letter in split(text)]
+    return [subject for subject, letter in letters if subject and is_whole(subject, letter)]
+
+
+def split(text):
+    return re.split(rb"^From ", text, flags=re.MULTILINE)[1:]
+
+
+def subject_of(letter):
+    """None where it has no subject of ours."""
+    subject = SUBJECT.search(letter.partition(b"\n\n")[0])
+    return subject and subject[1].decode()
+
+
+def is_whole(subject, letter):
+    head, _, body = letter.partition(b"\n\n")
+    if subject is None:
+        return OF_DOVECOT in head + b"\n"
+    return body.rstrip(b"\n") == "\n".join(body_of(subject)).encode()
 
 
 def reader_of(subject):

@@ -3,7 +3,7 @@
 
 It appends each letter under the lock file and the range lock, and syncs it. It takes the words that the cases give to
 ours, and leaves out all that they don't look at.
-usage: LMTPD=tests/real/plain_server.py tests/real/run.sh 'mutt and formail delete'
+usage: LMTPD=tests/real/plain_server.py tests/real/run.sh 'and mutt delete'
 """
 
 import fcntl

@@ -7,7 +7,7 @@ import sys
 import threading
 import time
 
-from beside import SECONDS, SUBJECT, Beside, reader_of
+from beside import SECONDS, SUBJECT, Beside, reader_of, split, whole_of
 from cases import case, equal
 from dovecot import Dovecot
 from mutt import Mutt
@@ -78,8 +78,8 @@ class ByMuttBesideOthers(ByMutt):
     when it opened the mailbox, without a lock, and so saves other text in their place, whoever delivers (2.2.9)."""
 
     def asked_for(self, who, saved):
-        own = {one for one in subjects_of(saved) if reader_of(one) == who and not self.beside.deleted[one]}
-        self.beside.misread[who] += len(re.findall(rb"^From ", saved, re.MULTILINE)) - len(own)
+        own = {one for one in whole_of(saved) if reader_of(one) == who and not self.beside.deleted[one]}
+        self.beside.misread[who] += len(split(saved)) - len(own)
         return list(own)
 
 
@@ -124,6 +124,16 @@ def formail_deletes(folder):
 
 
 @case
+def mutt_beside_dovecot_deletes(folder):
+    """a session of Dovecot's IMAP and mutt delete from one mailbox: each letter is there once, or was deleted once"""
+    beside = Beside(folder)
+    with Dovecot(folder, beside.path, *LOCKS) as dovecot:
+        readers = {"dovecot": ByDovecot(beside, dovecot), "mutt": ByMuttBesideOthers(beside)}
+        # beside others that lock it as often mutt may never get its locks
+        beside.judge(beside.run(readers), may_be_idle=["mutt"])
+
+
+@case
 def all_three_delete(folder):
     """two sessions of Dovecot's IMAP, mutt and formail delete from one mailbox: each letter is there once, or was
     deleted once"""
@@ -131,7 +141,6 @@ def all_three_delete(folder):
     with Dovecot(folder, beside.path, *LOCKS) as dovecot:
         readers = {who: ByDovecot(beside, dovecot) for who in ["one", "two"]}
         readers |= {"mutt": ByMuttBesideOthers(beside), "formail": ByFormail(beside, "formail")}
-        # beside three others mutt may never get its locks
         beside.judge(beside.run(readers), may_be_idle=["mutt"])
 
 
@@ -162,5 +171,12 @@ class ByPython:
         return found
 
 
-for function in [dovecot_deletes, mutt_deletes, formail_deletes, all_three_delete, python_deletes]:
+for function in [
+    dovecot_deletes,
+    mutt_deletes,
+    formail_deletes,
+    mutt_beside_dovecot_deletes,
+    all_three_delete,
+    python_deletes,
+]:
     function.seconds = int(SECONDS) + 180
