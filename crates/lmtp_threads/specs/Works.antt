@@ -10,7 +10,7 @@ use Rattle.lmtp_text.specs.Calendar.{civil_at}
 use Rattle.mbox_record.specs.Spool.{SpoolState}
 use Rattle.box_worker.specs.Limits.{Setting}
 use Rattle.box_worker.specs.Stored.{mailbox_of}
-use Rattle.box_worker.specs.Told.{is_stored, is_over}
+use Rattle.box_worker.specs.Told.{is_stored, says_over_quota}
 use Rattle.box_worker.specs.Turned.{shared_of, HasTurned}
 use Rattle.box_worker.specs.Worked.{IsAlone}
 use Rattle.lmtp_talk.specs.Peer.{PeerState}
@@ -72,7 +72,7 @@ pub record IsBoxWork (at : Setting) (work : BoxWork) (old new : SpoolState) (tal
   pub each : length work.outcomes ≡ length work.taken
   pub taken_count : tally.taken ≡ counted (length work.taken)
   pub stored_count : tally.stored ≡ counted (count_by is_stored work.outcomes)
-  pub over_count : tally.over ≡ counted (count_by is_over work.outcomes)
+  pub over_count : tally.over ≡ counted (count_by says_over_quota work.outcomes)
   pub alone : old.sharing.is_shared ≡ false → IsAlone at work.taken work.outcomes old
       (mailbox_of new tally.stored tally.over tally.faulty) tally.in_use
   pub shared : old.sharing.is_shared ≡ true → HasTurned at work.taken work.outcomes (shared_of old false 0)
