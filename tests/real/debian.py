@@ -35,7 +35,7 @@ printf '%s\\n' '#!/bin/sh' 'exit 101' > "$1/usr/sbin/policy-rc.d"
 chmod 755 "$1/usr/sbin/policy-rc.d"
 cp /etc/resolv.conf "$1/etc/resolv.conf"
 cp "$2" "$1/root/"
-DEBIAN_FRONTEND=noninteractive chroot "$1" apt-get install -y "/root/$(basename "$2")"
+DEBIAN_FRONTEND=noninteractive TMPDIR=/tmp chroot "$1" apt-get install -y "/root/$(basename "$2")"
 rm "$1/usr/sbin/policy-rc.d"
 """
 
