@@ -4,7 +4,7 @@ use Rattle.std.specs.Prelude.{slice_get}
 use Rattle.std.specs.List.{AllZip}
 use Rattle.mail_world.proofs.OtherSteps.{there_is}
 use Rattle.mail_post.specs.Channel.{Channel, Sender, Inbox, Sent, taken}
-use Rattle.thread_crew.specs.Channels.{AreRows, AreClosedWith, HaveTimes, IsSettled}
+use Rattle.lmtp_threads.specs.Channels.{AreRows, AreClosedWith, HaveTimes, IsSettled}
 use Rattle.lmtp_house.proofs.Bridge.{IsSettledAs}
 
 zip_at : {X Y : Type 0} (R : X → Y → Type 0) (xs : List X) (ys : List Y) → AllZip R xs ys → (k : ℕ) (x : X) (y : Y) → slice_get xs k ≡ Some x

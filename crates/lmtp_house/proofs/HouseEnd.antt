@@ -14,7 +14,7 @@ use Rattle.lmtp_lane.specs.Visits.{conversations_of}
 use Rattle.lmtp_threads.specs.Works.{VisitsView}
 use Rattle.lmtp_house.specs.Handed.{HandedIn}
 use Rattle.lmtp_house.specs.House.{HasRun}
-use Rattle.thread_crew.specs.Channels.{Shape, channels_of, AreRows, AreClosedWith, HaveTimes, MayClose, CanSettle, IsSettled}
+use Rattle.lmtp_threads.specs.Channels.{Shape, channels_of, AreRows, AreClosedWith, HaveTimes, MayClose, CanSettle, IsSettled}
 use Rattle.lmtp_threads.specs.Tasks.{BoxTask, LanesGiven, LanesBack, WorkersGiven, WorkersBack, HaveServed, HaveServedAll, HaveWorked, HaveWorkedAll}
 use Rattle.lmtp_house.specs.HousePlan.{PlanState, IsPlanned}
 use Rattle.lmtp_house.proofs.HousePlan.{may_close}

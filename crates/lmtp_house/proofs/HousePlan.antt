@@ -7,10 +7,10 @@ use Rattle.std.proofs.lemmas.Option.{slice_get_within}
 use Rattle.mail_post.specs.Channel.{Sender, Inbox, taken}
 use Rattle.box_worker.specs.Told.{worker_of}
 use Rattle.lmtp_threads.specs.Works.{share_of}
-use Rattle.thread_crew.specs.Channels.{Shape, channels_of, lane_at, AreRows, AreNewChannels, MayClose}
+use Rattle.lmtp_threads.specs.Channels.{Shape, channels_of, lane_at, AreRows, AreNewChannels, MayClose}
 use Rattle.lmtp_threads.specs.Tasks.{lane_tasks, box_tasks, IsLaneReady, IsBoxReady}
 use Rattle.lmtp_house.specs.HousePlan.{PlanState, MayRun}
-use Rattle.thread_crew.proofs.ChannelRows.{at, same_at, at_each, each_at}
+use Rattle.lmtp_threads.proofs.ChannelRows.{at, same_at, at_each, each_at}
 use Rattle.lmtp_threads.proofs.ServedAll.{task_at}
 use Rattle.lmtp_threads.proofs.WorkedAll.{task_at as box_task_at, numbered}
 

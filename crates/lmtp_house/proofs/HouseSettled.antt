@@ -20,7 +20,7 @@ use Rattle.lmtp_lane.specs.Visits.{conversations_of}
 use Rattle.lmtp_threads.specs.Works.{VisitsView}
 use Rattle.lmtp_house.specs.Handed.{HandedIn, HandedBack, handed_in}
 use Rattle.lmtp_house.specs.House.{HasRun}
-use Rattle.thread_crew.specs.Channels.{channels_of, AreNewChannels, IsClosedWith, AreClosedWith, HaveTimes, CanSettle, IsSettled}
+use Rattle.lmtp_threads.specs.Channels.{channels_of, AreNewChannels, IsClosedWith, AreClosedWith, HaveTimes, CanSettle, IsSettled}
 use Rattle.lmtp_threads.specs.Tasks.{LanesGiven, LanesBack, WorkersGiven, WorkersBack, HaveServed, HaveWorked}
 use Rattle.lmtp_house.proofs.AnsweredAll.{outcomes_are_answers}
 use Rattle.lmtp_house.proofs.HeardAll.{heard_all}
@@ -28,7 +28,7 @@ use Rattle.lmtp_house.proofs.NamedOnce.{named_once}
 use Rattle.lmtp_house.proofs.RunOfModel.{HaveExchanged}
 use Rattle.lmtp_house.proofs.ManyLanes.{HaveDeeds, all_lanes_run}
 use Rattle.lmtp_house.proofs.HouseTimes.{have_deeds}
-use Rattle.thread_crew.proofs.ChannelRows.{at, at_map, zip_at, at_zip}
+use Rattle.lmtp_threads.proofs.ChannelRows.{at, at_map, zip_at, at_zip}
 
 module _ {M : Type 0} (lane : M → ℕ) where
   -- where nothing is of a lane from n on, all is of lanes below n

@@ -17,8 +17,8 @@ use Rattle.box_worker.specs.TurnTimes.{worker_sorts}
 use Rattle.lmtp_lane.specs.LaneExchange.{lane_sorts}
 use Rattle.lmtp_lane.specs.Visits.{conversations_of}
 use Rattle.lmtp_threads.specs.Works.{VisitsView}
-use Rattle.thread_crew.specs.Channels.{channels_of, AreNewChannels, AreClosedWith, HaveTimes, IsSettled}
-use Rattle.thread_crew.proofs.ChannelRows.{at_map, same_at}
+use Rattle.lmtp_threads.specs.Channels.{channels_of, AreNewChannels, AreClosedWith, HaveTimes, IsSettled}
+use Rattle.lmtp_threads.proofs.ChannelRows.{at_map, same_at}
 use Rattle.lmtp_threads.specs.Tasks.{LanesGiven, LanesBack, WorkersGiven, WorkersBack, IsInTime, HaveServed, HaveWorked}
 use Rattle.lmtp_house.proofs.Bridge.{AreFresh, HasDoneAll, has_ended}
 use Rattle.lmtp_house.proofs.ManyLanes.{HaveDeeds}

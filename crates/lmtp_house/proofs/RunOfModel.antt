@@ -16,7 +16,7 @@ use Rattle.lmtp_threads.specs.declared.tally.Tally.{Tally}
 use Rattle.lmtp_house.specs.Handed.{HandedIn, HandedBack}
 use Rattle.lmtp_house.specs.RunOfModel.{AreModelled, IsCourseOf, server_of, threads_of, IsRunOfModel}
 use Rattle.lmtp_house.proofs.Courses.{HasCourse, course_of}
-use Rattle.thread_crew.proofs.ChannelRows.{at}
+use Rattle.lmtp_threads.proofs.ChannelRows.{at}
 
 module _ {V S : Type 0} (site : Site) (state : S → SpoolState) (lanes : ℕ → LaneWork) (boxes : ℕ → BoxWork)
     (old : HandedIn V S) (new : HandedBack V S) where

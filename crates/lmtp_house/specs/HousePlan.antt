@@ -10,7 +10,7 @@ use Rattle.mail_post.specs.declared.kinds.TheConstants.{SLIP_CAPACITY}
 use Rattle.lmtp_threads.specs.Works.{VisitsView, share_of}
 use Rattle.lmtp_house.specs.Handed.{HandedIn, HandedBack}
 use Rattle.lmtp_house.specs.House.{HasRun}
-use Rattle.thread_crew.specs.Channels.{Shape, AreNewChannels}
+use Rattle.lmtp_threads.specs.Channels.{Shape, AreNewChannels}
 use Rattle.lmtp_threads.specs.Tasks.{LaneTask, lane_tasks, BoxTask, box_tasks}
 
 -- lanes and workers before they run, and the channels that are to be closed: of mail, and of slips

@@ -22,10 +22,10 @@ use Rattle.lmtp_talk.specs.Served.{terms}
 use Rattle.lmtp_lane.specs.LaneRun.{HasServed}
 use Rattle.lmtp_lane.specs.Visits.{conversations_of}
 use Rattle.lmtp_threads.specs.Works.{VisitsView, LaneWork, lane_told}
-use Rattle.thread_crew.specs.Channels.{AreRows, none, HasGiven}
+use Rattle.lmtp_threads.specs.Channels.{AreRows, none, HasGiven}
 use Rattle.lmtp_threads.specs.Tasks.{LaneTask, lane_task, lane_tasks, lane_before, LanesGiven, LanesBack, IsServedLane, HaveServed, TookSlips, LaneDid}
-use Rattle.thread_crew.proofs.Pairs.{AllZip-length, picks, picked}
-use Rattle.thread_crew.proofs.ChannelRows.{same_at, at_map, at_each, source, rows_given}
+use Rattle.lmtp_threads.proofs.Pairs.{AllZip-length, picks, picked}
+use Rattle.lmtp_threads.proofs.ChannelRows.{same_at, at_map, at_each, source, rows_given}
 
 abbrev pub lanes_given : {V : Type 0} → List V → List (List (Sender Note)) → List (Inbox Slip) → LanesGiven V
 lanes_given visits rows inboxes = record { visits = visits; rows = rows; inboxes = inboxes }

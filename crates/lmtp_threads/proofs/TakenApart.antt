@@ -1,7 +1,7 @@
 -- Reports that are taken apart one after another, with a list for each of their parts.
 use Rattle.std.proofs.Common.{◌≡◌, ◌+◌, ◌≤◌, Bool, false, ℕ, List, [], ◌++◌, length, map}
 use Rattle.std.specs.List.{AllByRecursion}
-use Rattle.thread_crew.proofs.MovedLists.{moved_all}
+use Rattle.lmtp_threads.proofs.MovedLists.{moved_all}
 
 module _ {X : Type 0} where
   -- this part of the first reports is done, and there is room for that of the rest

@@ -20,10 +20,10 @@ use Rattle.box_worker.proofs.Handling.{was_closed, none_came_back}
 use Rattle.mail_post.proofs.Offered.{none_gone}
 use Rattle.lmtp_threads.specs.declared.tally.Tally.{Tally}
 use Rattle.lmtp_threads.specs.Works.{WorkerShare, share_of, setting_of, BoxWork, IsBoxWork}
-use Rattle.thread_crew.specs.Channels.{AreRows, none, lane_at, HasLane, HasGiven}
+use Rattle.lmtp_threads.specs.Channels.{AreRows, none, lane_at, HasLane, HasGiven}
 use Rattle.lmtp_threads.specs.Tasks.{BoxTask, box_task, box_tasks, WorkersGiven, WorkersBack, HaveWorked, TookAllNotes}
-use Rattle.thread_crew.proofs.Pairs.{AllZip-length, picks, picked}
-use Rattle.thread_crew.proofs.ChannelRows.{at, at_map, same_at, at_each, source, rows_given}
+use Rattle.lmtp_threads.proofs.Pairs.{AllZip-length, picks, picked}
+use Rattle.lmtp_threads.proofs.ChannelRows.{at, at_map, same_at, at_each, source, rows_given}
 
 module _ {S : Type 0} where
   -- the task of worker k, and what it was made of

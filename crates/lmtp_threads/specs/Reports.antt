@@ -1,6 +1,6 @@
 -- What lanes and workers hand back, part by part.
 use Rattle.std.specs.Prelude.{ℕ}
-use Rattle.thread_crew.specs.Grid.{lists, IsRoom}
+use Rattle.lmtp_threads.specs.Grid.{lists, IsRoom}
 use Rattle.lmtp_threads.specs.declared.lanes.LaneReports.{LaneReports}
 use Rattle.lmtp_threads.specs.declared.workers.WorkerReports.{WorkerReports}
 use Rattle.lmtp_threads.specs.Tasks.{LanesBack, WorkersBack}

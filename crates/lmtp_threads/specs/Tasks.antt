@@ -26,7 +26,7 @@ use Rattle.lmtp_lane.specs.LaneAccount.{IsAnswered}
 use Rattle.lmtp_lane.specs.LaneExchange.{lane_sorts}
 use Rattle.lmtp_lane.specs.LaneRun.{LaneState}
 use Rattle.lmtp_lane.specs.Visits.{HasVisited, conversations_of}
-use Rattle.thread_crew.specs.Channels.{AreRows, none}
+use Rattle.lmtp_threads.specs.Channels.{AreRows, none}
 use Rattle.lmtp_threads.specs.Works.{VisitsView, LaneWork, LaneTold, lane_told, WorkerShare, share_of, setting_of}
 use Rattle.lmtp_threads.specs.Works.{BoxWork, IsBoxWork}
 

@@ -4,7 +4,7 @@ ghost use Rattle.std.specs.Prelude.{◌≡◌, ◌<◌, ◌≤◌, ◌||◌, ◌
 ghost use Rattle.std.specs.Prelude.{map};
 ghost use Rattle.std.specs.List.{AllZip, AllByRecursion};
 ghost use Rattle.std.specs.Arc.{arc_value};
-ghost use Rattle.thread_crew.specs.Grid.{lists};
+ghost use Rattle.lmtp_threads.specs.Grid.{lists};
 ghost use Rattle.lmtp_threads.specs.Reports.{HaveLaneRoom, lanes_back};
 ghost use Rattle.lmtp_threads.specs.Works.{visits_view};
 ghost use Rattle.lmtp_threads.specs.Tasks.{lane_task, lane_tasks, lane_before, IsLaneReady, HaveServedAll};
@@ -13,6 +13,7 @@ ghost use Rattle.mail_world.specs.declared.limits.TheConstants.{READ_LIMIT};
 ghost use Rattle.lmtp_talk.specs.Served.{terms};
 ghost use Rattle.lmtp_lane.specs.LaneRun.{HasServed};
 
+use crate::crew::{Crew, Refused, Task};
 use crate::shared::Shared;
 use lmtp_lane::{Clock, Desk, LaneReport, Visits, lane_run};
 use lmtp_text::Site;
@@ -22,7 +23,6 @@ use std::alloc::{AllocError, Global};
 use std::marker::Model;
 use std::sync::{Arc, Wait};
 use std::thread::Threads;
-use thread_crew::{Crew, Refused, Task};
 
 // What a lane holds of what all share, and a desk of its own.
 #[derive(Drop)]

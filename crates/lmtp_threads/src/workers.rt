@@ -8,10 +8,11 @@ ghost use Rattle.box_worker.specs.Told.{worker_of};
 ghost use Rattle.box_worker.specs.Stored.{mailbox_of};
 ghost use Rattle.box_worker.specs.Worked.{idle, HasWorked};
 ghost use Rattle.lmtp_threads.specs.Works.{share_of, setting_of};
-ghost use Rattle.thread_crew.specs.Grid.{lists};
+ghost use Rattle.lmtp_threads.specs.Grid.{lists};
 ghost use Rattle.lmtp_threads.specs.Reports.{HaveWorkerRoom, workers_back};
 ghost use Rattle.lmtp_threads.specs.Tasks.{box_task, box_tasks, tally_of, IsBoxReady, HaveWorkedAll};
 
+use crate::crew::{Crew, Task};
 use crate::shared::Shared;
 use crate::tally::Tally;
 use box_worker::{Gate, WorkerReport, worker_run};
@@ -23,7 +24,6 @@ use std::alloc::{AllocError, Global};
 use std::marker::Model;
 use std::sync::{Arc, Wait};
 use std::thread::Threads;
-use thread_crew::{Crew, Task};
 
 // What a worker holds of what all share.
 #[derive(Drop)]

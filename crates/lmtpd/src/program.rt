@@ -7,7 +7,7 @@ ghost use Rattle.lmtpd_words.specs.Words.{as_texts};
 ghost use Rattle.lmtpd_setup.specs.Boxes.{IsFilled};
 ghost use Rattle.lmtpd.specs.Program.{IsCheckedAsAsked, IsDoneAsAsked, IsServedAsAsked, exit_lines, exit_status};
 ghost use Rattle.lmtpd.specs.Program.{streams_of};
-ghost use Rattle.lmtpd_output.specs.Output.{IsListed};
+ghost use Rattle.lmtpd_words.specs.Output.{IsListed};
 
 use crate::check::{check_asked, report_checked};
 use crate::lacking::rehearsal_fault;

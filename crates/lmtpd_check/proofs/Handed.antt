@@ -2,8 +2,8 @@
 use Rattle.std.proofs.Common.{List, ℕ, [], Option, Err, Ok, OnErr, OnOk, sym, append-nil}
 use Rattle.std.specs.Prelude.{Result}
 use Rattle.std.specs.Io.KnownBytes.{Appends, Keeps}
-use Rattle.lmtpd_output.specs.Output.{IsCutOff}
-use Rattle.lmtpd_output.proofs.Written.{Appends-keeps}
+use Rattle.lmtpd_words.specs.Output.{IsCutOff}
+use Rattle.lmtpd_words.proofs.Written.{Appends-keeps}
 
 pub whole_kept : {T E : Type 0} (r : Result T E) (u v w : Option (List ℕ)) (text : List ℕ) → Appends u v text → Keeps v w → OnOk r (Appends u w text)
 whole_kept (Ok x) u v w text written kept = Appends-keeps u v w text written kept

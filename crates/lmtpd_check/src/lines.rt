@@ -2,12 +2,12 @@
 
 ghost use Rattle.std.specs.Prelude.{◌≡◌, OnOk, OnErr};
 ghost use Rattle.std.specs.Io.KnownBytes.{Appends, Keeps};
-ghost use Rattle.lmtpd_output.specs.Output.{IsCutOff};
+ghost use Rattle.lmtpd_words.specs.Output.{IsCutOff};
 ghost use Rattle.lmtpd_check.specs.Checked.{bad_line, finding_line, number_line, unlocked_line, unlocked_lines};
 
 use crate::checked::Finding;
 use itoa::Buffer;
-use lmtpd_output::{WriteFault, write_each};
+use lmtpd_words::{WriteFault, write_each};
 use mbox_check::BadForm;
 use std::io::Write;
 

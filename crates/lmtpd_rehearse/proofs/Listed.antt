@@ -3,7 +3,7 @@ use Rattle.std.proofs.Common.{◌≡◌, ℕ, ◌<◌, List, [], length, get_or,
 use Rattle.std.proofs.lemmas.List.{length-map, get_or-map}
 use Rattle.mail_world.specs.Site.{Site, box_name}
 use Rattle.mbox_record.specs.MemorySpool.{MemorySpool}
-use Rattle.lmtpd_output.proofs.Listed.{IsPairAt}
+use Rattle.lmtpd_words.proofs.Listed.{IsPairAt}
 use Rattle.lmtpd_rehearse.specs.Mailboxes.{bytes_of_all}
 
 -- a mailbox with the bytes of its spool

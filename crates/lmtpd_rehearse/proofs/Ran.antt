@@ -45,7 +45,7 @@ use Rattle.lmtpd_rehearse.specs.Copies.{HoldsCopies, kept_later}
 use Rattle.lmtpd_rehearse.specs.Client.{MayGive, told as told_by, is_last_told, IsOnlyOver}
 use Rattle.lmtpd_rehearse.specs.Mailboxes.{MailboxContent, kept_all, kept_at, bytes_of_all, empty_spool, mailbox_room, texts_of_mailboxes, IsCalm}
 use Rattle.lmtpd_rehearse.specs.Rehearsal.{AreMailboxes, copies_due, told_of_box, IsRunOfRehearsal, RehearsalEndsFor, HeldState, IsHeld, IsRehearsed}
-use Rattle.lmtpd_output.specs.Output.{IsListed}
+use Rattle.lmtpd_words.specs.Output.{IsListed}
 use Rattle.lmtpd_rehearse.specs.Rehearsal.{Streams}
 use Rattle.lmtpd_rehearse.proofs.Boxes.{state_of, get_some, get_same, kept_is, length-kept, bytes_are, none_failed, all_calm, is_full, spool_has, holds_settled}
 use Rattle.mail_world.specs.Runs.{events_of, offers_by}

@@ -5,7 +5,7 @@ use Rattle.mail_world.specs.Text.{lf}
 use Rattle.mail_world.specs.Site.{Site}
 use Rattle.mbox_record.specs.MemorySpool.{MemorySpool}
 use Rattle.lmtp_threads.specs.declared.tally.Tally.{Tally}
-use Rattle.lmtpd_output.specs.Output.{pair_texts}
+use Rattle.lmtpd_words.specs.Output.{pair_texts}
 use Rattle.lmtpd_rehearse.specs.declared.parts.TheConstants.{MAILBOX_ROOM}
 
 -- what a mailbox holds, and whether it failed

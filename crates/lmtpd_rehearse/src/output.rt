@@ -2,12 +2,12 @@
 
 ghost use Rattle.std.specs.Prelude.{◌≡◌, ◌++◌, length, OnOk, OnErr};
 ghost use Rattle.std.specs.Io.KnownBytes.{Appends};
-ghost use Rattle.lmtpd_output.specs.Output.{IsCutOff};
+ghost use Rattle.lmtpd_words.specs.Output.{IsCutOff};
 ghost use Rattle.lmtpd_rehearse.specs.Mailboxes.{bytes_of_all, mailbox_line, texts_of_mailboxes};
 
 use itoa::Buffer;
 use lmtp_text::Site;
-use lmtpd_output::{WriteFault, write_each};
+use lmtpd_words::{WriteFault, write_each};
 use mbox_record::MemorySpool;
 use std::io::Write;
 

@@ -16,7 +16,7 @@ use Rattle.lmtp_lane.specs.TcpVisits.{conversations_ended, IsNewcomer, is_over}
 use Rattle.lmtp_talk.specs.Entries.{Entry}
 use Rattle.lmtpd_log.specs.Logged.{visits_in, log_in, told_with_log}
 use Rattle.lmtpd_log.specs.declared.visits.LoggedVisits.{LoggedVisits}
-use Rattle.lmtpd_output.specs.Output.{pair_texts}
+use Rattle.lmtpd_words.specs.Output.{pair_texts}
 use Rattle.lmtpd_serve.specs.declared.lines.Trouble.{Trouble}
 use Rattle.lmtpd_serve.specs.declared.lines.Trouble.TheVariants.{InUse, OverQuota}
 use Rattle.lmtpd_serve.specs.declared.served.Served.{Served}

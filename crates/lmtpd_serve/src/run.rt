@@ -18,7 +18,7 @@ use lmtp_house::{
 };
 use lmtp_text::Site;
 use lmtpd_log::{CountedListener, LaneLogs, LoggedVisits, lane_logs, logged_visits};
-use lmtpd_output::write_bytes;
+use lmtpd_words::write_bytes;
 use mbox_record::Spool;
 use std::alloc::{AllocError, Global};
 use std::io::{Read, Write};

@@ -4,13 +4,13 @@ ghost use Rattle.std.specs.Prelude.{◌≡◌, OnOk, OnErr};
 ghost use Rattle.std.specs.Io.KnownBytes.{Appends};
 ghost use Rattle.lmtpd_setup.specs.Faults.{listen_refusal, stop_for, stop_status, words_status};
 ghost use Rattle.lmtpd_setup.specs.Lines.{line_after, status_after, stop_line, unopened_line, unread_line};
-ghost use Rattle.lmtpd_output.specs.Output.{IsCutOff, IsListed};
+ghost use Rattle.lmtpd_words.specs.Output.{IsCutOff, IsListed};
 
 use crate::fault::Fault;
 use clap::Error;
 use clap::error::ErrorKind;
 use lmtpd_listen::ListenFault;
-use lmtpd_output::{WriteFault, write_each};
+use lmtpd_words::{WriteFault, write_each};
 use std::io::Write;
 
 /// How the program ends.

@@ -1,3 +1,8 @@
+pub mod Written
+pub mod Listed
+mod Escapes
+mod Printables
+mod Streams
 pub mod ArgumentRows
 mod BoxRows
 pub mod Calls

@@ -1,3 +1,6 @@
+pub mod Journal
+pub mod Output
+pub mod Printable
 pub mod Arguments
 pub mod Boxes
 pub mod CommandLine

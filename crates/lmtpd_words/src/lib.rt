@@ -1,18 +1,27 @@
-//! The words of `lmtpd`: its command line, the usual numbers, the version and the help, and the mailboxes that a text
-//! lists.
+//! What `lmtpd` is told and tells: the words of its command line, the usual numbers, the version and the help, and the
+//! mailboxes that a text lists; its output, and the lines of its log on standard error.
 //!
-//! The program uses what `clap` took, the values in it, and the names of a text. It opens no file, and never knows what
-//! is done with the words.
+//! The program uses what `clap` took, the values in it, and the names of a text; it writes bytes, all of them or a prefix
+//! and a failure, and printable lines with what the journal is to know. It opens no file, and never knows what is done
+//! with the words, or what the lines say.
 #![tactic(auto)]
 
 mod arguments;
 mod boxes;
+mod bytes;
 mod command;
+mod escaped;
+mod journal;
+mod lines;
 mod reading;
 mod texts;
 mod values;
 mod words;
 
+pub use bytes::{WriteFault, write_bytes, write_each};
+pub use escaped::printable;
+pub use journal::{is_journal, names_stream};
+pub use lines::ErrorLines;
 pub use reading::{not_text, read_words};
 pub use words::{
     BOXES_FILE_LIMIT, CheckWords, DEFAULT_BLOCKS, DEFAULT_CAPACITY, DEFAULT_LANES,

@@ -2,14 +2,14 @@
 
 ghost use Rattle.std.specs.Prelude.{◌≡◌, ◌<◌, IfOk};
 ghost use Rattle.mail_post.specs.declared.kinds.TheConstants.{SLIP_CAPACITY};
-ghost use Rattle.thread_crew.specs.Channels.{AreNewChannels};
-ghost use Rattle.thread_crew.specs.Grid.{lists};
+ghost use Rattle.lmtp_threads.specs.Channels.{AreNewChannels};
+ghost use Rattle.lmtp_threads.specs.Grid.{lists};
 
+use lmtp_threads::{Closing, open_channels};
 use mail_post::{Post, Receiver, SLIP_CAPACITY, Sender, SlipReceiver, SlipSender};
 use mail_world::Slip;
 use msg_depot::DepotName;
 use std::alloc::{AllocError, Global};
-use thread_crew::{Closing, open_channels};
 
 /// The ends of all channels: of each lane a row of senders of mail and a taker of slips, of each worker a receiver of
 /// mail and a row of senders of slips.

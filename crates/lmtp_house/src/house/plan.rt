@@ -14,14 +14,13 @@ use crate::house::report::HouseReport;
 use crate::house::serving::{Ended, serve_all};
 use box_worker::Gate;
 use lmtp_lane::{Clock, Visits};
-use lmtp_threads::{Lanes, Shared, Workers};
+use lmtp_threads::{Lanes, Shared, Workers, settle_all};
 use mbox_record::Spool;
 use msg_depot::{Depot, DepotName};
 use std::alloc::AllocError;
 use std::marker::Model;
 use std::sync::{Arc, Wait};
 use std::thread::Threads;
-use thread_crew::settle_all;
 
 /// The lanes and workers of a server, and what closes their channels.
 #[derive(Drop)]

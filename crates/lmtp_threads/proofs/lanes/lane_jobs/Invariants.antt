@@ -1,7 +1,7 @@
 use Rattle.std.proofs.Common.{◌≡◌, ◌+◌, ◌++◌, vec_len, vec_items}
 use Rattle.std.specs.Arc.{arc_value}
 use Rattle.std.specs.Vec.Iter.{into_iter_items, into_iter_len}
-use Rattle.thread_crew.specs.Grid.{lists}
+use Rattle.lmtp_threads.specs.Grid.{lists}
 use Rattle.lmtp_threads.specs.Tasks.{lane_tasks}
 use Rattle.lmtp_threads.proofs.lanes.lane_jobs.Given as goal
 

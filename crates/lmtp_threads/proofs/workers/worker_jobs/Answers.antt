@@ -4,7 +4,7 @@ use Rattle.std.specs.Arc.{arc_value}
 use Rattle.std.specs.Vec.Iter.{into_iter_items}
 use Rattle.mail_world.specs.declared.Note.{Note}
 use Rattle.mail_post.specs.Channel.{Inbox}
-use Rattle.thread_crew.specs.Grid.{lists}
+use Rattle.lmtp_threads.specs.Grid.{lists}
 use Rattle.lmtp_threads.specs.Works.{share_of}
 use Rattle.lmtp_threads.specs.Tasks.{box_tasks}
 use Rattle.lmtp_threads.proofs.workers.worker_jobs.Goals as goal

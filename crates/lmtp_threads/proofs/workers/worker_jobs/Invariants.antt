@@ -1,7 +1,7 @@
 use Rattle.std.proofs.Common.{◌≡◌, ◌++◌, vec_items}
 use Rattle.std.specs.Arc.{arc_value}
 use Rattle.std.specs.Vec.Iter.{into_iter_items, into_iter_len}
-use Rattle.thread_crew.specs.Grid.{lists}
+use Rattle.lmtp_threads.specs.Grid.{lists}
 use Rattle.lmtp_threads.specs.Works.{share_of}
 use Rattle.lmtp_threads.specs.Tasks.{box_tasks}
 use Rattle.lmtp_threads.proofs.workers.worker_jobs.Given as goal

@@ -3,7 +3,7 @@ use Rattle.std.specs.Arc.{arc_value}
 use Rattle.mail_world.specs.Site.{Site}
 use Rattle.mbox_record.specs.MemorySpool.{MemorySpool}
 use Rattle.lmtpd_rehearse.specs.Mailboxes.{texts_of_mailboxes, bytes_of_all}
-use Rattle.lmtpd_output.specs.Output.{IsListed}
+use Rattle.lmtpd_words.specs.Output.{IsListed}
 use Rattle.lmtpd_rehearse.specs.Rehearsal.{HeldState, IsHeld, Streams}
 use Rattle.lmtpd_rehearse.proofs.Ran.{as_many_spools, rehearsed}
 use Rattle.lmtpd_rehearse.proofs.run.rehearse_run.Goals as goal

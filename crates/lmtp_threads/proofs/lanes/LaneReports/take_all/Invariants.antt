@@ -1,6 +1,6 @@
 use Rattle.std.proofs.Common.{vec_items, vec_capacity}
 use Rattle.std.specs.Vec.Iter.{into_iter_items}
-use Rattle.thread_crew.specs.Grid.{lists}
+use Rattle.lmtp_threads.specs.Grid.{lists}
 use Rattle.lmtp_threads.proofs.TakenApart.{IsApart, TellsAny}
 use Rattle.lmtp_threads.proofs.lanes.LaneReports.take_all.Given as goal
 

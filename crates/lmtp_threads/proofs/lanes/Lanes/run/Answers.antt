@@ -2,7 +2,7 @@ use Rattle.std.proofs.Common.{arith, ◌≡◌, length, ap, sym, ◌∙◌, subs
 use Rattle.std.specs.List.{AllZip, AllByRecursion}
 use Rattle.lmtp_threads.specs.Works.{VisitsView}
 use Rattle.lmtp_threads.specs.Tasks.{lane_tasks, IsLaneReady}
-use Rattle.thread_crew.proofs.Pairs.{AllZip-length}
+use Rattle.lmtp_threads.proofs.Pairs.{AllZip-length}
 use Rattle.lmtp_threads.proofs.ServedAll.{LaneOk, have_served}
 use Rattle.lmtp_threads.proofs.lanes.Lanes.run.Goals.{After-join}
 use Rattle.lmtp_threads.proofs.lanes.Lanes.run.Goals as goal

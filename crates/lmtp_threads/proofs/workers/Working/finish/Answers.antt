@@ -2,7 +2,7 @@ use Rattle.std.proofs.Common.{arith, ◌≡◌, length, ◌∙◌, subst, vec_it
 use Rattle.std.specs.List.{AllZip}
 use Rattle.lmtp_threads.specs.Works.{share_of}
 use Rattle.lmtp_threads.specs.Tasks.{box_tasks, tally_of}
-use Rattle.thread_crew.proofs.Pairs.{AllZip-length}
+use Rattle.lmtp_threads.proofs.Pairs.{AllZip-length}
 use Rattle.lmtp_threads.proofs.WorkedAll.{BoxOk, have_worked}
 use Rattle.lmtp_threads.proofs.workers.Working.finish.Goals.{After-join}
 use Rattle.lmtp_threads.proofs.workers.Working.finish.Goals as goal

@@ -1,5 +1,0 @@
-pub mod Written
-pub mod Listed
-mod Escapes
-mod Printables
-mod Streams

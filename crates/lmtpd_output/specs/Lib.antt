@@ -1,3 +1,0 @@
-pub mod Journal
-pub mod Output
-pub mod Printable

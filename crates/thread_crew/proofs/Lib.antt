@@ -1,4 +1,0 @@
-pub mod Grids
-pub mod MovedLists
-pub mod Pairs
-pub mod ChannelRows

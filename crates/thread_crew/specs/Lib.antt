@@ -1,3 +1,0 @@
-pub mod CrewTasks
-pub mod Grid
-pub mod Channels
