@@ -4,3 +4,4 @@ pub mod Told
 pub mod Turned
 pub mod TurnTimes
 pub mod Worked
+pub mod Between

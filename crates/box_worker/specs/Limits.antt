@@ -5,6 +5,7 @@ use Rattle.mail_world.specs.declared.Note.{Note}
 use Rattle.mail_world.specs.Counts.{counted}
 use Rattle.mail_world.specs.Records.{Calendar, mended}
 use Rattle.mail_world.specs.Quotas.{are_kept_after, marked}
+use Rattle.lmtp_text.specs.Calendar.{civil_at}
 use Rattle.mbox_record.specs.Spool.{SpoolState, Grows}
 use Rattle.mbox_record.specs.declared.spool.Tail.{Tail}
 use Rattle.mbox_record.specs.declared.spool.Tail.TheVariants.{Empty, NoLf, OneLf, TwoLf}
@@ -17,6 +18,10 @@ pub record Setting : Type 0 where
   pub host : List ℕ
   pub quota : Option ℕ
   pub worker : ℕ
+
+-- that of a worker of a site with this host
+abbrev pub setting_by : List ℕ → Option ℕ → ℕ → Setting
+setting_by host quota worker = record { calendar = civil_at; host = host; quota = quota; worker = worker }
 
 -- for each copy whether it is kept, where that many bytes stand before the first record
 abbrev pub marks_after : Setting → ℕ → List Note → List Bool

@@ -4,6 +4,7 @@ use crate::gate::Gate;
 use mail_post::{Receiver, SlipSender};
 use mbox_record::Spool;
 use msg_depot::DepotName;
+use std::marker::Model;
 
 /// What became of a worker's copies, and all that it was lent.
 #[derive(Drop)]
@@ -23,4 +24,23 @@ pub struct WorkerReport<N: DepotName, S: Spool, G: Gate> {
     pub lost: bool,
     pub receiver: Receiver<N>,
     pub slips: Vec<SlipSender>,
+}
+
+impl<N: DepotName, S: Spool, G: Gate> Model for WorkerReport<N, S, G> {
+    ghost use Rattle.box_worker.specs.Stored.{mailbox_of};
+    ghost use Rattle.box_worker.specs.Worked.{WorkerBack};
+
+    ghost Value = { WorkerBack G };
+
+    ghost view = { λ r. record {
+      receiver = r.receiver;
+      worker = record {
+        slips = r.slips.items;
+        mailbox = mailbox_of (S.state r.spool) r.stored r.over r.faulty;
+        in_use = r.in_use;
+        taken = r.taken;
+        lost = r.lost;
+      };
+      gate = r.gate;
+    } };
 }

@@ -1,14 +1,14 @@
 //! A worker's thread.
 
 ghost use Rattle.std.specs.Prelude.{◌≡◌, ◌<◌, ◌||◌, ℕ, List, [], ◌∷◌, ◌++◌, length, Option, IfOk, IfErr, OnOk, OnErr};
-ghost use Rattle.lmtp_text.specs.Calendar.{civil_at};
 ghost use Rattle.mail_world.specs.declared.Note.{Note};
 ghost use Rattle.mail_post.specs.Channel.{Inbox, taken, IsTimed, HasSameTimes};
 ghost use Rattle.mail_post.specs.InTime.{clock_of};
-ghost use Rattle.mail_post.specs.Offered.{HaveNumber, any_gone};
-ghost use Rattle.box_worker.specs.Stored.{mailbox_of};
+ghost use Rattle.mail_post.specs.Offered.{HaveNumber};
+ghost use Rattle.box_worker.specs.Limits.{setting_by};
 ghost use Rattle.box_worker.specs.Told.{worker_of};
-ghost use Rattle.box_worker.specs.Worked.{WorkerState, idle, IsWorking, HasWorked};
+ghost use Rattle.box_worker.specs.Worked.{WorkerState, idle, worker_back, IsWorking, HasWorked};
+ghost use Rattle.box_worker.specs.Between.{state_of};
 
 use crate::gate::Gate;
 use crate::mailbox::Mailbox;
@@ -37,16 +37,8 @@ pub fn worker_run<N: DepotName, S: Spool, G: Gate, R: Wait>(
     requires fresh { taken receiver ≡ [] }
     requires lanes { length slips.items ≡ receiver.lanes }
     requires worker { HaveNumber (worker_of slips.items) slips.items }
-    ensures { HasWorked
-        (record { calendar = civil_at; host = host.now; quota = quota; worker = worker_of slips.items })
-        receiver result.receiver (idle slips.items (S.state spool))
-        (record {
-          slips = result.slips.items;
-          mailbox = mailbox_of (S.state result.spool) result.stored result.over result.faulty;
-          in_use = result.in_use;
-          taken = result.taken;
-          lost = result.lost;
-        }) }
+    ensures { HasWorked (setting_by host.now quota (worker_of slips.items)) receiver result.receiver
+        (idle slips.items (S.state spool)) result.worker }
 {
     let mut receiver = receiver;
     let mut worker = Worker {
@@ -106,24 +98,10 @@ impl<S: Spool, G: Gate> Worker<S, G> {
         requires lane { post.txn.lane < length self.old.slips }
         ensures { (quota : Option ℕ) (worker : ℕ) (copies : List Note) (old : WorkerState) (before was : Inbox Note)
             → IsTimed (clock_of self.old.slips was) was receiver.now
-            → IsWorking (record { calendar = civil_at; host = host.now; quota = quota; worker = worker }) copies before
-            was old
-            (record {
-              slips = self.old.slips;
-              mailbox = self.old.mailbox.mailbox;
-              in_use = self.old.mailbox.in_use;
-              taken = self.old.taken;
-              lost = any_gone self.old.slips;
-            }) self.old.mailbox.limit
-            → IsWorking (record { calendar = civil_at; host = host.now; quota = quota; worker = worker })
-            (copies ++ post ∷ []) before receiver.now old
-            (record {
-              slips = self.new.slips;
-              mailbox = self.new.mailbox.mailbox;
-              in_use = self.new.mailbox.in_use;
-              taken = self.new.taken;
-              lost = any_gone self.new.slips;
-            }) self.new.mailbox.limit }
+            → IsWorking (setting_by host.now quota worker) copies before was old
+            (state_of self.old) self.old.mailbox.limit
+            → IsWorking (setting_by host.now quota worker) (copies ++ post ∷ []) before receiver.now old
+            (state_of self.new) self.new.mailbox.limit }
     {
         let Parts {
             txn,
@@ -143,12 +121,7 @@ impl<S: Spool, G: Gate> Worker<S, G> {
 
     // What it hands back once nothing more comes.
     fn report<N: DepotName>(self, receiver: Receiver<N>, is_lost: bool) -> WorkerReport<N, S, G>
-        ensures ends { (result.receiver ≡ receiver) × (result.slips.items ≡ self.slips) }
-        ensures taken { result.taken ≡ self.taken }
-        ensures mailbox { mailbox_of (S.state result.spool) result.stored result.over result.faulty
-            ≡ self.mailbox.mailbox }
-        ensures in_use { result.in_use ≡ self.mailbox.in_use }
-        ensures lost { result.lost ≡ (any_gone self.slips || is_lost) }
+        ensures { result ≡ worker_back receiver (state_of self) self.gate is_lost }
     {
         let Worker {
             mailbox,

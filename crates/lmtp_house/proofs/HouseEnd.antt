@@ -15,7 +15,8 @@ use Rattle.lmtp_threads.specs.Works.{VisitsView}
 use Rattle.lmtp_house.specs.Handed.{HandedIn}
 use Rattle.lmtp_house.specs.House.{HasRun}
 use Rattle.lmtp_threads.specs.Channels.{Shape, channels_of, AreRows, AreClosedWith, HaveTimes, MayClose, CanSettle, IsSettled}
-use Rattle.lmtp_threads.specs.Tasks.{BoxTask, LanesGiven, LanesBack, WorkersGiven, WorkersBack, HaveServed, HaveServedAll, HaveWorked, HaveWorkedAll}
+use Rattle.lmtp_threads.specs.Reports.{LaneColumns, WorkerColumns}
+use Rattle.lmtp_threads.specs.Tasks.{BoxTask, LanesGiven, WorkersGiven, HaveServed, HaveServedAll, HaveWorked, HaveWorkedAll}
 use Rattle.lmtp_house.specs.HousePlan.{PlanState, IsPlanned}
 use Rattle.lmtp_house.proofs.HousePlan.{may_close}
 use Rattle.lmtp_house.proofs.HouseSettled.{can_settle, has_run}
@@ -26,7 +27,7 @@ if_ok P Q (Ok x) h f = f x h
 if_ok P Q (Err e) h f = h
 
 -- workers that run are those that were planned
-pub worked_as : {S : Type 0} (state : S → SpoolState) (working tasks : List (BoxTask S)) (boxes : WorkersBack S) → working ≡ tasks
+pub worked_as : {S : Type 0} (state : S → SpoolState) (working tasks : List (BoxTask S)) (boxes : WorkerColumns S) → working ≡ tasks
     → HaveWorkedAll state working boxes → HaveWorkedAll state tasks boxes
 worked_as state working tasks boxes same worked = subst (λ l. HaveWorkedAll state l boxes) same worked
 
@@ -37,7 +38,7 @@ Closes {M} shape rows closed =
 
 module _ {V S C : Type 0} (May : C → ℕ → Type 0) (view : VisitsView V) (state : S → SpoolState) (plan : PlanState V S C)
     (site : Site) (clock : C) (handed : HandedIn V S) (p : IsPlanned site clock handed plan)
-    (lanes : LanesBack V) (served : HaveServedAll May view plan.lanes lanes) where
+    (lanes : LaneColumns V) (served : HaveServedAll May view plan.lanes lanes) where
   abbrev lanes_given : LanesGiven V
   lanes_given = record { visits = handed.visits; rows = p.mail_rows; inboxes = p.slips }
 
@@ -55,7 +56,7 @@ module _ {V S C : Type 0} (May : C → ℕ → Type 0) (view : VisitsView V) (st
       may_close (length handed.visits) (length handed.spools) plan.mail p.mail_rows p.mail owed_by lanes.rows p.mail_new p.mail_closes p.some_lanes
       lanes_ran.rows_are
 
-  module _ (boxes : WorkersBack S) (worked : HaveWorkedAll state plan.workers boxes) (mail_closed : List (Sent Note))
+  module _ (boxes : WorkerColumns S) (worked : HaveWorkedAll state plan.workers boxes) (mail_closed : List (Sent Note))
       (closes : Closes plan.mail lanes.rows mail_closed) where
     boxes_ran : HaveWorked site state (channels_of p.slips) boxes_given boxes
     boxes_ran =
@@ -98,7 +99,7 @@ module _ {V S C : Type 0} (May : C → ℕ → Type 0) (view : VisitsView V) (st
           → AllZip (IsSettled (λ (n : Note). n.txn.lane)) boxes.inboxes mail_closed
           → AllZip (IsSettled (λ (s : Slip). s.worker)) lanes.inboxes slips_closed
           → HasRun site (May clock) view state handed
-          (record { visits = lanes.visits; spools = boxes.spools; conversations = lanes.conversations; tallies = boxes.tallies })
+          (record { visits = lanes.lent; spools = boxes.lent; conversations = lanes.tallies; tallies = boxes.tallies })
       run_is mail_times slips_times mail_settled slips_settled =
           has_run site (May clock) view state lanes_given lanes boxes_given boxes mail_closed slips_closed p.mail_new p.slips_new lanes_ran boxes_ran
           mail_shut slips_shut mail_times slips_times mail_settled slips_settled p.each_box p.some_boxes

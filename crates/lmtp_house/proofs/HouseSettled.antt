@@ -21,7 +21,8 @@ use Rattle.lmtp_threads.specs.Works.{VisitsView}
 use Rattle.lmtp_house.specs.Handed.{HandedIn, HandedBack, handed_in}
 use Rattle.lmtp_house.specs.House.{HasRun}
 use Rattle.lmtp_threads.specs.Channels.{channels_of, AreNewChannels, IsClosedWith, AreClosedWith, HaveTimes, CanSettle, IsSettled}
-use Rattle.lmtp_threads.specs.Tasks.{LanesGiven, LanesBack, WorkersGiven, WorkersBack, HaveServed, HaveWorked}
+use Rattle.lmtp_threads.specs.Reports.{LaneColumns, WorkerColumns}
+use Rattle.lmtp_threads.specs.Tasks.{LanesGiven, WorkersGiven, HaveServed, HaveWorked}
 use Rattle.lmtp_house.proofs.AnsweredAll.{outcomes_are_answers}
 use Rattle.lmtp_house.proofs.HeardAll.{heard_all}
 use Rattle.lmtp_house.proofs.NamedOnce.{named_once}
@@ -92,7 +93,7 @@ module _ {M : Type 0} where
       })
 
 module _ {V S : Type 0} {capacity room : ℕ} (site : Site) (May : ℕ → Type 0) (view : VisitsView V) (state : S → SpoolState)
-    (old_lanes : LanesGiven V) (new_lanes : LanesBack V) (old_boxes : WorkersGiven S) (new_boxes : WorkersBack S)
+    (old_lanes : LanesGiven V) (new_lanes : LaneColumns V) (old_boxes : WorkersGiven S) (new_boxes : WorkerColumns S)
     (mail_closed : List (Sent Note)) (slips_closed : List (Sent Slip))
     (mail_new : AreNewChannels capacity (length old_lanes.visits) (length old_boxes.spools) old_lanes.rows old_boxes.inboxes)
     (slips_new : AreNewChannels room (length old_boxes.spools) (length old_lanes.visits) old_boxes.rows old_lanes.inboxes)
@@ -156,8 +157,8 @@ module _ {V S : Type 0} {capacity room : ℕ} (site : Site) (May : ℕ → Type 
   lane_outcomes : (k : ℕ) → k < length old_lanes.visits → OutcomesAreAnswers site k (lanes.works k).heard (conversations_of (lanes.works k).visits)
   lane_outcomes k below =
       let x = at old_lanes.visits k below in
-      let y = at new_lanes.visits k (omega (arith, lanes.as_many.0, below)) in
-      let c = at new_lanes.conversations k (omega (arith, lanes.as_many.1, below)) in
+      let y = at new_lanes.lent k (omega (arith, lanes.as_many.0, below)) in
+      let c = at new_lanes.tallies k (omega (arith, lanes.as_many.1, below)) in
       let l = lane_known k below in
       let cs = conversations_of (lanes.works k).visits in
       outcomes_are_answers site k (lanes.works k).heard cs
@@ -169,9 +170,9 @@ module _ {V S : Type 0} {capacity room : ℕ} (site : Site) (May : ℕ → Type 
 
   abbrev back : HandedBack V S
   back = record {
-    visits = new_lanes.visits;
-    spools = new_boxes.spools;
-    conversations = new_lanes.conversations;
+    visits = new_lanes.lent;
+    spools = new_boxes.lent;
+    conversations = new_lanes.tallies;
     tallies = new_boxes.tallies;
   }
 

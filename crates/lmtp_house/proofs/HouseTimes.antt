@@ -19,7 +19,8 @@ use Rattle.lmtp_lane.specs.Visits.{conversations_of}
 use Rattle.lmtp_threads.specs.Works.{VisitsView}
 use Rattle.lmtp_threads.specs.Channels.{channels_of, AreNewChannels, AreClosedWith, HaveTimes, IsSettled}
 use Rattle.lmtp_threads.proofs.ChannelRows.{at_map, same_at}
-use Rattle.lmtp_threads.specs.Tasks.{LanesGiven, LanesBack, WorkersGiven, WorkersBack, IsInTime, HaveServed, HaveWorked}
+use Rattle.lmtp_threads.specs.Reports.{LaneColumns, WorkerColumns}
+use Rattle.lmtp_threads.specs.Tasks.{LanesGiven, WorkersGiven, IsInTime, HaveServed, HaveWorked}
 use Rattle.lmtp_house.proofs.Bridge.{AreFresh, HasDoneAll, has_ended}
 use Rattle.lmtp_house.proofs.ManyLanes.{HaveDeeds}
 
@@ -37,7 +38,7 @@ module _ {A B : Type 0} {capacity room : ℕ} (n m count : ℕ) (rows rows' : Li
       has_ended sorts deeds d.old d.new fresh d.are
 
 module _ {V S : Type 0} {capacity room : ℕ} (site : Site) (May : ℕ → Type 0) (view : VisitsView V) (state : S → SpoolState)
-    (old_lanes : LanesGiven V) (new_lanes : LanesBack V) (old_boxes : WorkersGiven S) (new_boxes : WorkersBack S)
+    (old_lanes : LanesGiven V) (new_lanes : LaneColumns V) (old_boxes : WorkersGiven S) (new_boxes : WorkerColumns S)
     (mail_closed : List (Sent Note)) (slips_closed : List (Sent Slip))
     (mail_new : AreNewChannels capacity (length old_lanes.visits) (length old_boxes.spools) old_lanes.rows old_boxes.inboxes)
     (slips_new : AreNewChannels room (length old_boxes.spools) (length old_lanes.visits) old_boxes.rows old_lanes.inboxes)

@@ -1,7 +1,6 @@
 -- What a server is given and what it gives back.
 use Rattle.std.specs.Prelude.{ℕ, List, Option}
 use Rattle.lmtp_threads.specs.declared.tally.Tally.{Tally}
-use Rattle.lmtp_house.specs.declared.house.report.HouseReport.{HouseReport}
 
 -- what is handed in: clients by lane, spools by mailbox, how many copies may wait for a mailbox's worker, and the limit
 -- of bytes for each mailbox
@@ -25,13 +24,4 @@ handed_in visits spools capacity quota = record {
   spools = spools;
   capacity = capacity;
   quota = quota;
-}
-
--- what contracts see of a server's report
-abbrev pub as_handed_back : {V S G : Type 0} → HouseReport V S G → HandedBack V S
-as_handed_back report = record {
-  visits = report.visits.items;
-  spools = report.spools.items;
-  conversations = report.conversations.items;
-  tallies = report.tallies.items;
 }

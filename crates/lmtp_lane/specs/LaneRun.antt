@@ -1,12 +1,14 @@
 -- What a lane comes to.
 use Rattle.std.specs.Prelude.{◌≡◌, ℕ, Bool, true, false, List, length, flat_map}
 use Rattle.std.specs.List.{AllByRecursion}
+use Rattle.mail_world.specs.declared.Note.{Note}
 use Rattle.mail_world.specs.declared.Slip.{Slip}
 use Rattle.mail_world.specs.declared.limits.TheConstants.{RECIPIENT_LIMIT}
 use Rattle.mail_world.specs.Lists.{transactions, VerdictsFit, copies}
 use Rattle.mail_world.specs.Counts.{counted}
 use Rattle.mail_runs.specs.Timed.{whats}
 use Rattle.mail_runs.specs.Ordered.{AreExchanges}
+use Rattle.mail_post.specs.Channel.{Sender, Inbox}
 use Rattle.lmtp_talk.specs.Peer.{PeerState}
 use Rattle.lmtp_talk.specs.Served.{Terms}
 use Rattle.lmtp_lane.specs.LaneExchange.{LaneEnds, HasExchanged}
@@ -19,6 +21,30 @@ pub record LaneState : Type 0 where
   pub over : Bool
   pub ends : LaneEnds
   pub conversations : ℕ
+
+-- a lane after that many conversations
+abbrev pub state_after : ℕ → VisitsTold → Bool → LaneEnds → LaneState
+state_after n finished over ends = record { finished = finished; over = over; ends = ends; conversations = n }
+
+-- lane k before its first conversation
+abbrev pub lane_start : VisitsTold → Bool → ℕ → List (Sender Note) → Inbox Slip → LaneState
+lane_start finished over k senders slips =
+    state_after 0 finished over (record { lane = k; senders = senders; inbox = slips; gone = false })
+
+-- what a lane hands back: the conversations that have ended, whether no client is left, its ends of the channels,
+-- whether one of them was found gone, and how many conversations it held
+pub record LaneBack : Type 0 where
+  pub finished : VisitsTold
+  pub over : Bool
+  pub senders : List (Sender Note)
+  pub slips : Inbox Slip
+  pub gone : Bool
+  pub conversations : ℕ
+
+-- lane k after its last conversation
+abbrev pub lane_end : ℕ → LaneBack → LaneState
+lane_end k back = state_after back.conversations back.finished back.over
+    (record { lane = k; senders = back.senders; inbox = back.slips; gone = back.gone })
 
 -- A lane served these clients: each conversation's replies are those to its inputs, the senders gave the mailboxes what
 -- the conversations owe them, up to a copy that was handed back, the outcomes are those of the slips that were heard,

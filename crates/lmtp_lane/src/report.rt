@@ -3,6 +3,7 @@
 use crate::visits::Visits;
 use mail_post::{Sender, SlipReceiver};
 use msg_depot::DepotName;
+use std::marker::Model;
 
 /// A lane's ends, and what became of its clients.
 #[derive(Drop)]
@@ -14,4 +15,19 @@ pub struct LaneReport<N: DepotName, V: Visits> {
     pub conversations: u64,
     /// A channel was found gone.
     pub gone: bool,
+}
+
+impl<N: DepotName, V: Visits> Model for LaneReport<N, V> {
+    ghost use Rattle.lmtp_lane.specs.LaneRun.{LaneBack};
+
+    ghost Value = { LaneBack };
+
+    ghost view = { λ r. record {
+      finished = V.finished r.visits;
+      over = V.over r.visits;
+      senders = r.senders.items;
+      slips = r.slips;
+      gone = r.gone;
+      conversations = r.conversations;
+    } };
 }

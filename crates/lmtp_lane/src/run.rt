@@ -7,7 +7,7 @@ ghost use Rattle.mail_post.specs.Gathering.{IsDone};
 ghost use Rattle.mail_post.specs.Offered.{HaveNumber, any_gone};
 ghost use Rattle.lmtp_lane.specs.LaneAccount.{AgreesWith, HasOffered};
 ghost use Rattle.lmtp_lane.specs.LaneExchange.{ends_of};
-ghost use Rattle.lmtp_lane.specs.LaneRun.{HasServed};
+ghost use Rattle.lmtp_lane.specs.LaneRun.{lane_start, lane_end, state_after, HasServed};
 ghost use Rattle.lmtp_lane.specs.Visits.{HasConversed};
 
 use crate::clock::Clock;
@@ -43,18 +43,7 @@ pub fn lane_run<N: DepotName, V: Visits, C: Clock, R: Wait>(
     requires lane { HaveNumber lane senders.items }
     requires none_out { V.out visits ≡ false }
     ensures { HasServed (terms site.now READ_LIMIT) (C.May clock.now) (V.MayGive visits)
-        (record {
-          finished = V.finished visits;
-          over = V.over visits;
-          ends = record { lane = lane; senders = senders.items; inbox = slips; gone = false };
-          conversations = 0;
-        })
-        (record {
-          finished = V.finished result.visits;
-          over = V.over result.visits;
-          ends = record { lane = lane; senders = result.senders.items; inbox = result.slips; gone = result.gone };
-          conversations = result.conversations;
-        }) }
+        (lane_start (V.finished visits) (V.over visits) lane senders.items slips) (lane_end lane result) }
 {
     lane_run_at(
         rt, lane, site, desk, visits, depot, senders, slips, clock, READ_LIMIT,
@@ -79,18 +68,7 @@ pub fn lane_run_at<N: DepotName, V: Visits, C: Clock, R: Wait>(
     requires lane { HaveNumber lane senders.items }
     requires none_out { V.out visits ≡ false }
     ensures { HasServed (terms site.now reads) (C.May clock.now) (V.MayGive visits)
-        (record {
-          finished = V.finished visits;
-          over = V.over visits;
-          ends = record { lane = lane; senders = senders.items; inbox = slips; gone = false };
-          conversations = 0;
-        })
-        (record {
-          finished = V.finished result.visits;
-          over = V.over result.visits;
-          ends = record { lane = lane; senders = result.senders.items; inbox = result.slips; gone = result.gone };
-          conversations = result.conversations;
-        }) }
+        (lane_start (V.finished visits) (V.over visits) lane senders.items slips) (lane_end lane result) }
 {
     let Desk { dialogue, gather } = desk;
     let exchange = Exchange::new(*senders.allocator(), lane, senders, slips, gather);
@@ -120,18 +98,7 @@ fn lane_at<S: LaneStart, N: DepotName, V: Visits, C: Clock, R: Wait>(
     requires clock { AgreesWith (C.May clock.now) S.May }
     requires none_out { V.out visits ≡ false }
     ensures { HasServed (terms S.site bounded.reads) S.May (V.MayGive visits)
-        (record { finished = V.finished visits; over = V.over visits; ends = S.ends; conversations = 0 })
-        (record {
-          finished = V.finished result.visits;
-          over = V.over result.visits;
-          ends = record {
-            lane = S.ends.lane;
-            senders = result.senders.items;
-            inbox = result.slips;
-            gone = result.gone;
-          };
-          conversations = result.conversations;
-        }) }
+        (state_after 0 (V.finished visits) (V.over visits) S.ends) (lane_end S.ends.lane result) }
 {
     let BoundedDialogue {
         mut dialogue,
@@ -172,13 +139,8 @@ fn serve_all<'a, N: DepotName, V: Visits, C: Clock, R: Wait, S: LaneStart>(
     requires clock { AgreesWith (C.May delivery.old.clock.now) S.May }
     requires none_out { V.out visits.old ≡ false }
     ensures { HasServed (terms S.site reads) S.May (V.MayGive visits.old)
-        (record { finished = V.finished visits.old; over = V.over visits.old; ends = S.ends; conversations = 0 })
-        (record {
-          finished = V.finished visits.new;
-          over = V.over visits.new;
-          ends = ends_of delivery.new.exchange;
-          conversations = result;
-        }) }
+        (state_after 0 (V.finished visits.old) (V.over visits.old) S.ends)
+        (state_after result (V.finished visits.new) (V.over visits.new) (ends_of delivery.new.exchange)) }
 {
     let mut conversations: u64 = 0;
     for _ in rt.forever() {

@@ -2,6 +2,6 @@ pub mod Grids
 pub mod MovedLists
 pub mod Pairs
 pub mod ChannelRows
-pub mod TakenApart
+pub mod Filling
 pub mod ServedAll
 pub mod WorkedAll

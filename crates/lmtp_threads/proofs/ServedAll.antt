@@ -1,9 +1,8 @@
 -- The lanes' reports, taken together.
-use Rattle.std.proofs.Common.{◌≡◌, ℕ, zero, suc, ◌+◌, ◌<◌, Bool, false, List, [], ◌∷◌, ◌++◌, length, map, append-nil, refl, sym, ap, ◌∙◌, subst, arith, Option}
+use Rattle.std.proofs.Common.{◌≡◌, ℕ, zero, suc, ◌+◌, ◌<◌, Bool, false, List, [], ◌∷◌, ◌++◌, length, append-nil, refl, sym, ap, ◌∙◌, subst, arith, Option}
 use Rattle.std.proofs.Common.{Some, None, inl, inr}
 use Rattle.std.specs.Prelude.{slice_get, flat_map}
-use Rattle.std.specs.List.{AllZip, AllByRecursion}
-use Rattle.std.proofs.lemmas.List.{length-map}
+use Rattle.std.specs.List.{AllZip}
 use Rattle.std.proofs.lemmas.Option.{slice_get_within}
 use Rattle.mail_world.specs.declared.Note.{Note}
 use Rattle.mail_world.specs.declared.Slip.{Slip}
@@ -19,13 +18,16 @@ use Rattle.mail_post.proofs.Offered.{none_gone}
 use Rattle.lmtp_lane.specs.LaneExchange.{for_box, lane_sorts}
 use Rattle.mail_world.specs.declared.limits.TheConstants.{READ_LIMIT, RECIPIENT_LIMIT}
 use Rattle.lmtp_talk.specs.Served.{terms}
-use Rattle.lmtp_lane.specs.LaneRun.{HasServed}
-use Rattle.lmtp_lane.specs.Visits.{conversations_of}
-use Rattle.lmtp_threads.specs.Works.{VisitsView, LaneWork, lane_told}
+use Rattle.lmtp_lane.specs.LaneRun.{LaneBack, lane_end, HasServed}
+use Rattle.lmtp_lane.specs.Visits.{VisitsTold, conversations_of}
+use Rattle.lmtp_threads.specs.Works.{VisitsView, LaneWork, LaneTold}
 use Rattle.lmtp_threads.specs.Channels.{AreRows, none, HasGiven}
-use Rattle.lmtp_threads.specs.Tasks.{LaneTask, lane_task, lane_tasks, lane_before, LanesGiven, LanesBack, IsServedLane, HaveServed, TookSlips, LaneDid}
+use Rattle.lmtp_threads.specs.Columns.{Parts, AreOf}
+use Rattle.lmtp_threads.specs.Reports.{LaneColumns, lane_parts}
+use Rattle.lmtp_threads.specs.Tasks.{LaneTask, lane_task, lane_tasks, lane_before, LanesGiven, IsServedLane, HaveServed, TookSlips, LaneDid}
 use Rattle.lmtp_threads.proofs.Pairs.{AllZip-length, picks, picked}
-use Rattle.lmtp_threads.proofs.ChannelRows.{same_at, at_map, at_each, source, rows_given}
+use Rattle.lmtp_threads.proofs.ChannelRows.{same_at, at_each, zip_at, rows_given}
+use Rattle.lmtp_threads.proofs.Filling.{each_fails, at_column, column_count}
 
 abbrev pub lanes_given : {V : Type 0} → List V → List (List (Sender Note)) → List (Inbox Slip) → LanesGiven V
 lanes_given visits rows inboxes = record { visits = visits; rows = rows; inboxes = inboxes }
@@ -95,35 +97,27 @@ due_is : (site : Site) (lane b : ℕ) (cs : List Conversation) → for_box b (fl
 unfolding due
 due_is site lane b cs = refl
 
-module _ {V C R : Type 0} (May : C → ℕ → Type 0) (view : VisitsView V)
-    (rv : R → V) (rs : R → List (Sender Note)) (rt : R → Inbox Slip) (rc : R → ℕ) (rg : R → Bool) where
-  abbrev pub LaneOk : LaneTask V C → R → Type 0
-  LaneOk j r = HasServed (terms j.site READ_LIMIT) (May j.clock) (view.MayGive j.visits) (lane_before view j) (record {
-    finished = view.finished (rv r);
-    over = view.over (rv r);
-    ends = record { lane = j.lane; senders = rs r; inbox = rt r; gone = rg r };
-    conversations = rc r;
-  })
+-- what is told of a lane that handed this back
+abbrev told_by : VisitsTold → LaneBack → LaneTold
+told_by before r = record { before = before; after = r.finished; over = r.over; count = r.conversations }
 
-  abbrev lane_done : (j : LaneTask V C) (r : R) → LaneOk j r → LaneDone
+module _ {V C : Type 0} (May : C → ℕ → Type 0) (view : VisitsView V) where
+  abbrev pub LaneOk : LaneTask V C → LaneBack → Type 0
+  LaneOk j r = HasServed (terms j.site READ_LIMIT) (May j.clock) (view.MayGive j.visits) (lane_before view j) (lane_end j.lane r)
+
+  abbrev parts : Parts LaneBack (Sender Note) (Inbox Slip) V ℕ
+  parts = lane_parts view.finished view.over
+
+  abbrev lane_done : (j : LaneTask V C) (r : LaneBack) → LaneOk j r → LaneDone
   lane_done j r h = record { work = record { visits = h.visits; heard = h.heard }; deeds = h.exchanged.done.deeds }
 
   abbrev idle : LaneDone
   idle = record { work = record { visits = []; heard = [] }; deeds = [] }
 
-  -- what reports tell together
-  abbrev pub lanes_back : List R → LanesBack V
-  lanes_back reports = record {
-    visits = map rv reports;
-    rows = map rs reports;
-    inboxes = map rt reports;
-    conversations = map rc reports;
-  }
-
-  module _ (site : Site) (clock : C) (channels : List (Channel Note)) (given : LanesGiven V) (reports : List R)
-      (inboxes_count : length given.inboxes ≡ length given.visits) (are : AreRows (length given.visits) channels none given.rows)
+  module _ (site : Site) (clock : C) (channels : List (Channel Note)) (given : LanesGiven V) (reports : List LaneBack)
+      (columns : LaneColumns V) (of : AreOf parts reports columns) (inboxes_count : length given.inboxes ≡ length given.visits) (are : AreRows (length given.visits) channels none given.rows)
       (all : AllZip LaneOk (lane_tasks site clock 0 given.visits given.rows given.inboxes) reports)
-      (sound : AllByRecursion (λ r. rg r ≡ false) reports) where
+      (sound : columns.gone ≡ false) where
     abbrev tasks : List (LaneTask V C)
     tasks = lane_tasks site clock 0 given.visits given.rows given.inboxes
 
@@ -147,15 +141,15 @@ module _ {V C R : Type 0} (May : C → ℕ → Type 0) (view : VisitsView V)
       visit : V
       row : List (Sender Note)
       inbox : Inbox Slip
-      report : R
+      report : LaneBack
       visit_is : slice_get given.visits k ≡ Some visit
       row_is : slice_get given.rows k ≡ Some row
       inbox_is : slice_get given.inboxes k ≡ Some inbox
       report_is : slice_get reports k ≡ Some report
-      served : IsServedLane site (May clock) (view.MayGive visit) k (works k) (lane_told view visit (rv report) (rc report))
-      given_out : HasGiven (λ b. due site k b (conversations_of (works k).visits)) row (rs report)
-      heard : TookSlips (works k).heard inbox (rt report)
-      in_time : AreInTime lane_sorts (deeds_of k) (record { senders = row; inbox = inbox }) (record { senders = rs report; inbox = rt report })
+      served : IsServedLane site (May clock) (view.MayGive visit) k (works k) (told_by (view.finished visit) report)
+      given_out : HasGiven (λ b. due site k b (conversations_of (works k).visits)) row report.senders
+      heard : TookSlips (works k).heard inbox report.slips
+      in_time : AreInTime lane_sorts (deeds_of k) (record { senders = row; inbox = inbox }) (record { senders = report.senders; inbox = report.slips })
       did : LaneDid (flat_map (copies k) (transactions site 0 (conversations_of (works k).visits))) (works k).heard (deeds_of k)
       in_turn : AreExchanges RECIPIENT_LIMIT k (transactions site 0 (conversations_of (works k).visits)) (whats (deeds_of k))
 
@@ -164,7 +158,7 @@ module _ {V C R : Type 0} (May : C → ℕ → Type 0) (view : VisitsView V)
         let p = picked LaneOk lane_done idle tasks reports all k (omega (arith, count, below)) in
         let t = task_at site clock 0 given.visits given.rows given.inboxes k p.left p.left_is in
         let h = p.holds in
-        let no = at_each (λ r. rg r ≡ false) reports sound k p.right p.right_is in
+        let no = at_each (λ r. r.gone ≡ false) reports (each_fails (λ r. r.gone) reports (sym of.gone ∙ sound)) k p.right p.right_is in
         let n : 0 + k ≡ k = omega arith in
         let is : p.left ≡ lane_task site clock k t.visit t.row t.inbox = t.is ∙ ap (λ j. lane_task site clock j t.visit t.row t.inbox) n in
         let x = h.exchanged in
@@ -172,11 +166,11 @@ module _ {V C R : Type 0} (May : C → ℕ → Type 0) (view : VisitsView V)
         let notes_due : flat_map (copies p.left.lane) (transactions p.left.site 0 (conversations_of h.visits)) ≡ x.accepted =
         x.first ∙ (ap (λ l. x.accepted ++ l) (x.all (x.whole no)) ∙ append-nil x.accepted) in
         let Served : LaneTask V C → LaneWork → Type 0 = λ j w.
-        IsServedLane j.site (May j.clock) (view.MayGive j.visits) j.lane w (lane_told view j.visits (rv p.right) (rc p.right)) in
-        let Given : LaneTask V C → LaneDone → Type 0 = λ j d. HasGiven (λ b. due j.site j.lane b (conversations_of d.work.visits)) j.senders (rs p.right) in
-        let Heard : LaneTask V C → LaneDone → Type 0 = λ j d. TookSlips d.work.heard j.slips (rt p.right) in
+        IsServedLane j.site (May j.clock) (view.MayGive j.visits) j.lane w (told_by (view.finished j.visits) p.right) in
+        let Given : LaneTask V C → LaneDone → Type 0 = λ j d. HasGiven (λ b. due j.site j.lane b (conversations_of d.work.visits)) j.senders (p.right.senders) in
+        let Heard : LaneTask V C → LaneDone → Type 0 = λ j d. TookSlips d.work.heard j.slips (p.right.slips) in
         let InTime : LaneTask V C → LaneDone → Type 0 =
-        λ j d. AreInTime lane_sorts d.deeds (record { senders = j.senders; inbox = j.slips }) (record { senders = rs p.right; inbox = rt p.right }) in
+        λ j d. AreInTime lane_sorts d.deeds (record { senders = j.senders; inbox = j.slips }) (record { senders = p.right.senders; inbox = p.right.slips }) in
         let Did : LaneTask V C → LaneDone → Type 0 =
         λ j d. LaneDid (flat_map (copies j.lane) (transactions j.site 0 (conversations_of d.work.visits))) d.work.heard d.deeds in
         let InTurn : LaneTask V C → LaneDone → Type 0 = λ j d.
@@ -196,7 +190,7 @@ module _ {V C R : Type 0} (May : C → ℕ → Type 0) (view : VisitsView V)
               let o = x.offered.each b before after e f in
               let sent : for_box b x.accepted ≡ due p.left.site p.left.lane b (conversations_of h.visits) =
               ap (for_box b) (sym notes_due) ∙ due_is p.left.site p.left.lane b (conversations_of h.visits) in
-              (o.channel, o.number, o.sent ∙ ap (λ l. before.sent ++ l) sent, none_gone (rs p.right) b after (x.whole no) f);
+              (o.channel, o.number, o.sent ∙ ap (λ l. before.sent ++ l) sent, none_gone (p.right.senders) b after (x.whole no) f);
         } in
         let heard : Heard p.left (lane_done p.left p.right h) = record {
           channel = h.exchanged.channel;
@@ -224,22 +218,26 @@ module _ {V C R : Type 0} (May : C → ℕ → Type 0) (view : VisitsView V)
           in_time = subst (λ j. InTime j (dones k)) is (subst (λ d. InTime p.left d) (sym p.picked) x.done.in_time);
         }
 
-    pub have_served : HaveServed site (May clock) view channels given (lanes_back reports)
+    pub have_served : HaveServed site (May clock) view channels given columns
     have_served = record {
       works = works;
-      as_many = (length-map reports rv ∙ reports_count, length-map reports rc ∙ reports_count, length-map reports rt ∙ reports_count);
+      as_many = (
+        sym (AllZip-length parts.TellsOf reports columns.lent of.lent) ∙ reports_count,
+        column_count parts.tally reports columns.tallies of.tallies ∙ reports_count,
+        column_count parts.inbox reports columns.inboxes of.inboxes ∙ reports_count,
+      );
       served = λ k count old new a b c.
           let l = lane_is k (slice_get_within given.visits k old a) in
-          let v = source rv reports k new b in
-          let n = source rc reports k count c in
-          let same_v : v.value ≡ l.report = same_at reports k v.value l.report v.is l.report_is in
-          let same_n : n.value ≡ l.report = same_at reports k n.value l.report n.is l.report_is in
+          let tells = zip_at parts.TellsOf reports columns.lent of.lent k l.report new l.report_is b in
           let old_is : l.visit ≡ old = same_at given.visits k l.visit old l.visit_is a in
-          let new_is : rv l.report ≡ new = sym (v.gives ∙ ap rv same_v) in
-          let count_is : rc l.report ≡ count = sym (n.gives ∙ ap rc same_n) in
-          let Served : V → V → ℕ → Type 0 = λ x y m. IsServedLane site (May clock) (view.MayGive x) k (works k) (lane_told view x y m) in
-          subst (λ m. Served old new m) count_is
-          (subst (λ y. Served old y (rc l.report)) new_is (subst (λ x. Served x (rv l.report) (rc l.report)) old_is l.served));
+          let count_is : l.report.conversations ≡ count =
+          same_at columns.tallies k l.report.conversations count (at_column parts.tally reports columns.tallies of.tallies k l.report l.report_is) c in
+          let Served : V → VisitsTold → Bool → ℕ → Type 0 = λ x after over m.
+          IsServedLane site (May clock) (view.MayGive x) k (works k) (record { before = view.finished x; after = after; over = over; count = m }) in
+          subst (λ x. Served x (view.finished new) (view.over new) count) old_is
+          (subst (λ m. Served l.visit (view.finished new) (view.over new) m) count_is
+          (subst (λ o. Served l.visit (view.finished new) o l.report.conversations) tells.1
+          (subst (λ f. Served l.visit f l.report.over l.report.conversations) tells.0 l.served)));
       deeds = deeds_of;
       did = λ k below. (lane_is k below).did;
       in_turn = λ k below. (lane_is k below).in_turn;
@@ -247,26 +245,26 @@ module _ {V C R : Type 0} (May : C → ℕ → Type 0) (view : VisitsView V)
           let l = lane_is k below in
           record {
             old = record { senders = l.row; inbox = l.inbox };
-            new = record { senders = rs l.report; inbox = rt l.report };
+            new = record { senders = l.report.senders; inbox = l.report.slips };
             row_was = l.row_is;
-            row_is = at_map rs reports k l.report l.report_is;
+            row_is = at_column parts.row reports columns.rows of.rows k l.report l.report_is;
             inbox_was = l.inbox_is;
-            inbox_is = at_map rt reports k l.report l.report_is;
+            inbox_is = at_column parts.inbox reports columns.inboxes of.inboxes k l.report l.report_is;
             are = l.in_time;
           };
-      rows_are = rows_given (length given.visits) channels (λ k b. due site k b (conversations_of (works k).visits)) given.rows (map rs reports) are
-          (length-map reports rs ∙ reports_count)
+      rows_are = rows_given (length given.visits) channels (λ k b. due site k b (conversations_of (works k).visits)) given.rows columns.rows are
+          (column_count parts.row reports columns.rows of.rows ∙ reports_count)
           (λ k row row' a b.
-          let r = source rs reports k row' b in
           let l = lane_is k (omega (arith, are.count, slice_get_within given.rows k row a)) in
-          let new_is : rs l.report ≡ row' = sym (r.gives ∙ ap rs (same_at reports k r.value l.report r.is l.report_is)) in
+          let new_is : l.report.senders ≡ row' =
+          same_at columns.rows k l.report.senders row' (at_column parts.row reports columns.rows of.rows k l.report l.report_is) b in
           let old_is : l.row ≡ row = same_at given.rows k l.row row l.row_is a in
           let Given : List (Sender Note) → List (Sender Note) → Type 0 = λ x y. HasGiven (λ b. due site k b (conversations_of (works k).visits)) x y in
-          subst (λ y. Given row y) new_is (subst (λ x. Given x (rs l.report)) old_is l.given_out));
+          subst (λ y. Given row y) new_is (subst (λ x. Given x l.report.senders) old_is l.given_out));
       heard = λ k old new a b.
-          let r = source rt reports k new b in
           let l = lane_is k (omega (arith, inboxes_count, slice_get_within given.inboxes k old a)) in
-          let new_is : rt l.report ≡ new = sym (r.gives ∙ ap rt (same_at reports k r.value l.report r.is l.report_is)) in
+          let new_is : l.report.slips ≡ new =
+          same_at columns.inboxes k l.report.slips new (at_column parts.inbox reports columns.inboxes of.inboxes k l.report l.report_is) b in
           let old_is : l.inbox ≡ old = same_at given.inboxes k l.inbox old l.inbox_is a in
-          subst (λ x. TookSlips (works k).heard old x) new_is (subst (λ x. TookSlips (works k).heard x (rt l.report)) old_is l.heard);
+          subst (λ x. TookSlips (works k).heard old x) new_is (subst (λ x. TookSlips (works k).heard x l.report.slips) old_is l.heard);
     }

@@ -13,17 +13,19 @@ use Rattle.mail_runs.specs.Timed.{TimedDeed, whats}
 use Rattle.mail_post.specs.InTime.{AreInTime}
 use Rattle.mail_post.specs.Channel.{Channel, Sender, Inbox, taken}
 use Rattle.box_worker.specs.Told.{worker_of, owed_to}
-use Rattle.box_worker.specs.Stored.{mailbox_of}
 use Rattle.box_worker.specs.TurnTimes.{worker_sorts}
-use Rattle.box_worker.specs.Worked.{idle, HasWorked}
+use Rattle.box_worker.specs.Worked.{WorkerBack, idle, HasWorked}
 use Rattle.box_worker.proofs.Handling.{was_closed, none_came_back}
 use Rattle.mail_post.proofs.Offered.{none_gone}
 use Rattle.lmtp_threads.specs.declared.tally.Tally.{Tally}
 use Rattle.lmtp_threads.specs.Works.{WorkerShare, share_of, setting_of, BoxWork, IsBoxWork}
 use Rattle.lmtp_threads.specs.Channels.{AreRows, none, lane_at, HasLane, HasGiven}
-use Rattle.lmtp_threads.specs.Tasks.{BoxTask, box_task, box_tasks, WorkersGiven, WorkersBack, HaveWorked, TookAllNotes}
+use Rattle.lmtp_threads.specs.Columns.{Parts, AreOf}
+use Rattle.lmtp_threads.specs.Reports.{WorkerColumns, worker_parts, tally_of}
+use Rattle.lmtp_threads.specs.Tasks.{BoxTask, box_task, box_tasks, WorkersGiven, HaveWorked, TookAllNotes}
 use Rattle.lmtp_threads.proofs.Pairs.{AllZip-length, picks, picked}
-use Rattle.lmtp_threads.proofs.ChannelRows.{at, at_map, same_at, at_each, source, rows_given}
+use Rattle.lmtp_threads.proofs.ChannelRows.{at, same_at, at_each, zip_at, rows_given}
+use Rattle.lmtp_threads.proofs.Filling.{each_fails, at_column, column_count}
 
 module _ {S : Type 0} where
   -- the task of worker k, and what it was made of
@@ -73,36 +75,23 @@ pub record BoxDone : Type 0 where
   pub work : BoxWork
   pub deeds : List TimedDeed
 
-module _ {S R : Type 0} (state : S → SpoolState) (rr : R → Inbox Note) (rs : R → List (Sender Slip)) (rp : R → S) (rt : R → Tally) (rl : R → Bool) where
-  abbrev pub BoxOk : BoxTask S → R → Type 0
-  BoxOk j r = HasWorked (setting_of j.share (worker_of j.slips)) j.receiver (rr r) (idle j.slips (state j.spool))
-      (record {
-        slips = rs r;
-        mailbox = mailbox_of (state (rp r)) (rt r).stored (rt r).over (rt r).faulty;
-        in_use = (rt r).in_use;
-        taken = (rt r).taken;
-        lost = rl r;
-      })
+abbrev none_done : BoxDone
+none_done = record { work = record { taken = []; outcomes = [] }; deeds = [] }
 
-  abbrev box_done : (j : BoxTask S) (r : R) → BoxOk j r → BoxDone
-  box_done j r h = record { work = record { taken = taken (rr r); outcomes = h.handled.outcomes }; deeds = h.turns.deeds }
+module _ {S G : Type 0} (state : S → SpoolState) where
+  abbrev pub BoxOk : BoxTask S → WorkerBack G → Type 0
+  BoxOk j r = HasWorked (setting_of j.share (worker_of j.slips)) j.receiver r.receiver (idle j.slips (state j.spool)) r.worker
 
-  abbrev none_done : BoxDone
-  none_done = record { work = record { taken = []; outcomes = [] }; deeds = [] }
+  abbrev parts : Parts (WorkerBack G) (Sender Slip) (Inbox Note) S Tally
+  parts = worker_parts state
 
-  -- what reports tell together
-  abbrev pub workers_back : List R → WorkersBack S
-  workers_back reports = record {
-    inboxes = map rr reports;
-    rows = map rs reports;
-    spools = map rp reports;
-    tallies = map rt reports;
-  }
+  abbrev box_done : (j : BoxTask S) (r : WorkerBack G) → BoxOk j r → BoxDone
+  box_done j r h = record { work = record { taken = taken r.receiver; outcomes = h.handled.outcomes }; deeds = h.turns.deeds }
 
-  module _ (site : Site) (channels : List (Channel Slip)) (given : WorkersGiven S) (reports : List R)
-      (inboxes_count : length given.inboxes ≡ length given.spools) (some : 0 < length channels) (are : AreRows (length given.spools) channels none given.rows)
+  module _ (site : Site) (channels : List (Channel Slip)) (given : WorkersGiven S) (reports : List (WorkerBack G))
+      (columns : WorkerColumns S) (of : AreOf parts reports columns) (inboxes_count : length given.inboxes ≡ length given.spools) (some : 0 < length channels) (are : AreRows (length given.spools) channels none given.rows)
       (all : AllZip BoxOk (box_tasks (share_of site given.quota) given.inboxes given.rows given.spools) reports)
-      (sound : AllByRecursion (λ r. rl r ≡ false) reports) where
+      (sound : columns.gone ≡ false) where
     abbrev share : WorkerShare
     share = share_of site given.quota
 
@@ -129,31 +118,31 @@ module _ {S R : Type 0} (state : S → SpoolState) (rr : R → Inbox Note) (rs :
       inbox : Inbox Note
       row : List (Sender Slip)
       spool : S
-      report : R
+      report : WorkerBack G
       inbox_is : slice_get given.inboxes k ≡ Some inbox
       row_is : slice_get given.rows k ≡ Some row
       spool_is : slice_get given.spools k ≡ Some spool
       report_is : slice_get reports k ≡ Some report
-      stored : IsBoxWork (setting_of share k) (works k) (state spool) (state (rp report)) (rt report)
-      given_out : HasGiven (λ j. owed_to k (works k).outcomes j (works k).taken) row (rs report)
-      took : TookAllNotes (works k).taken inbox (rr report)
+      stored : IsBoxWork (setting_of share k) (works k) (state spool) report.worker.mailbox.state (tally_of report.worker)
+      given_out : HasGiven (λ j. owed_to k (works k).outcomes j (works k).taken) row report.worker.slips
+      took : TookAllNotes (works k).taken inbox report.receiver
       did : whats (deeds_of k) ≡ turns_of k (works k).taken (works k).outcomes
-      in_time : AreInTime worker_sorts (deeds_of k) (record { senders = row; inbox = inbox }) (record { senders = rs report; inbox = rr report })
+      in_time : AreInTime worker_sorts (deeds_of k) (record { senders = row; inbox = inbox }) (record { senders = report.worker.slips; inbox = report.receiver })
 
     box_is : (k : ℕ) → k < length given.spools → BoxIs k
     box_is k below =
         let p = picked BoxOk box_done none_done tasks reports all k (omega (arith, count, below)) in
         let t = task_at share given.inboxes given.rows given.spools k p.left p.left_is in
         let h = p.holds in
-        let no = at_each (λ r. rl r ≡ false) reports sound k p.right p.right_is in
+        let no = at_each (λ r. r.worker.lost ≡ false) reports (each_fails (λ r. r.worker.lost) reports (sym of.gone ∙ sound)) k p.right p.right_is in
         let first = at channels 0 some in
         let worker_is : worker_of t.row ≡ k = numbered k first.value t.row (are.cells k 0 t.row first.value t.row_is first.is) in
-        let Stored : WorkerShare → ℕ → S → BoxWork → Type 0 = λ by b spool w. IsBoxWork (setting_of by b) w (state spool) (state (rp p.right)) (rt p.right) in
-        let Given : ℕ → List (Sender Slip) → BoxWork → Type 0 = λ b row w. HasGiven (λ j. owed_to b w.outcomes j w.taken) row (rs p.right) in
-        let Took : Inbox Note → BoxWork → Type 0 = λ inbox w. TookAllNotes w.taken inbox (rr p.right) in
+        let Stored : WorkerShare → ℕ → S → BoxWork → Type 0 = λ by b spool w. IsBoxWork (setting_of by b) w (state spool) p.right.worker.mailbox.state (tally_of p.right.worker) in
+        let Given : ℕ → List (Sender Slip) → BoxWork → Type 0 = λ b row w. HasGiven (λ j. owed_to b w.outcomes j w.taken) row p.right.worker.slips in
+        let Took : Inbox Note → BoxWork → Type 0 = λ inbox w. TookAllNotes w.taken inbox p.right.receiver in
         let Did : ℕ → BoxDone → Type 0 = λ b d. whats d.deeds ≡ turns_of b d.work.taken d.work.outcomes in
         let InTime : BoxTask S → BoxDone → Type 0 =
-        λ j d. AreInTime worker_sorts d.deeds (record { senders = j.slips; inbox = j.receiver }) (record { senders = rs p.right; inbox = rr p.right }) in
+        λ j d. AreInTime worker_sorts d.deeds (record { senders = j.slips; inbox = j.receiver }) (record { senders = p.right.worker.slips; inbox = p.right.receiver }) in
         let handled = h.handled in
         let stored : Stored p.left.share (worker_of p.left.slips) p.left.spool (box_done p.left p.right h).work = record {
           each = handled.each;
@@ -170,7 +159,7 @@ module _ {S R : Type 0} (state : S → SpoolState) (rr : R → Inbox Note) (rs :
           as_many = h.handled.told.as_many;
           each = λ j before after e f.
               let o = h.handled.told.each j before after e f in
-              let kept : after.gone ≡ false = none_gone (rs p.right) j after (none_came_back _ _ _ _ _ h no) f in
+              let kept : after.gone ≡ false = none_gone p.right.worker.slips j after (none_came_back _ _ _ _ _ h no) f in
               (o.sent.channel, o.sent.number, o.sent.sent ∙ ap (λ l. before.sent ++ l) (o.all kept), kept);
         } in
         let took : Took p.left.receiver (box_done p.left p.right h).work = record {
@@ -201,46 +190,50 @@ module _ {S R : Type 0} (state : S → SpoolState) (rr : R → Inbox Note) (rs :
           in_time = subst (λ (j : BoxTask S). InTime j (dones k)) t.is (subst (λ d. InTime p.left d) (sym p.picked) h.turns.in_time);
         }
 
-    pub have_worked : HaveWorked site state channels given (workers_back reports)
+    pub have_worked : HaveWorked site state channels given columns
     have_worked = record {
       works = works;
-      as_many = (length-map reports rp ∙ reports_count, length-map reports rt ∙ reports_count, length-map reports rr ∙ reports_count);
+      as_many = (
+        sym (AllZip-length parts.TellsOf reports columns.lent of.lent) ∙ reports_count,
+        column_count parts.tally reports columns.tallies of.tallies ∙ reports_count,
+        column_count parts.inbox reports columns.inboxes of.inboxes ∙ reports_count,
+      );
       stored = λ k old new tally a b c.
           let l = box_is k (slice_get_within given.spools k old a) in
-          let v = source rp reports k new b in
-          let n = source rt reports k tally c in
+          let tells = zip_at parts.TellsOf reports columns.lent of.lent k l.report new l.report_is b in
           let old_is : l.spool ≡ old = same_at given.spools k l.spool old l.spool_is a in
-          let new_is : rp l.report ≡ new = sym (v.gives ∙ ap rp (same_at reports k v.value l.report v.is l.report_is)) in
-          let tally_is : rt l.report ≡ tally = sym (n.gives ∙ ap rt (same_at reports k n.value l.report n.is l.report_is)) in
-          subst (λ x. IsBoxWork (setting_of share k) (works k) (state old) (state new) x) tally_is
-          (subst (λ x. IsBoxWork (setting_of share k) (works k) (state old) (state x) (rt l.report)) new_is
-          (subst (λ x. IsBoxWork (setting_of share k) (works k) (state x) (state (rp l.report)) (rt l.report)) old_is l.stored));
+          let tally_is : tally_of l.report.worker ≡ tally =
+          same_at columns.tallies k (tally_of l.report.worker) tally (at_column parts.tally reports columns.tallies of.tallies k l.report l.report_is) c in
+          let Stored : S → SpoolState → Tally → Type 0 = λ x after n. IsBoxWork (setting_of share k) (works k) (state x) after n in
+          subst (λ n. Stored old (state new) n) tally_is
+          (subst (λ after. Stored old after (tally_of l.report.worker)) tells
+          (subst (λ x. Stored x l.report.worker.mailbox.state (tally_of l.report.worker)) old_is l.stored));
       deeds = deeds_of;
       did = λ k below. (box_is k below).did;
       in_time = λ k below.
           let l = box_is k below in
           record {
             old = record { senders = l.row; inbox = l.inbox };
-            new = record { senders = rs l.report; inbox = rr l.report };
+            new = record { senders = l.report.worker.slips; inbox = l.report.receiver };
             row_was = l.row_is;
-            row_is = at_map rs reports k l.report l.report_is;
+            row_is = at_column parts.row reports columns.rows of.rows k l.report l.report_is;
             inbox_was = l.inbox_is;
-            inbox_is = at_map rr reports k l.report l.report_is;
+            inbox_is = at_column parts.inbox reports columns.inboxes of.inboxes k l.report l.report_is;
             are = l.in_time;
           };
-      rows_are = rows_given (length given.spools) channels (λ b k. owed_to b (works b).outcomes k (works b).taken) given.rows (map rs reports) are
-          (length-map reports rs ∙ reports_count)
+      rows_are = rows_given (length given.spools) channels (λ b k. owed_to b (works b).outcomes k (works b).taken) given.rows columns.rows are
+          (column_count parts.row reports columns.rows of.rows ∙ reports_count)
           (λ k row row' a b.
-          let r = source rs reports k row' b in
           let l = box_is k (omega (arith, are.count, slice_get_within given.rows k row a)) in
-          let new_is : rs l.report ≡ row' = sym (r.gives ∙ ap rs (same_at reports k r.value l.report r.is l.report_is)) in
+          let new_is : l.report.worker.slips ≡ row' =
+          same_at columns.rows k l.report.worker.slips row' (at_column parts.row reports columns.rows of.rows k l.report l.report_is) b in
           let old_is : l.row ≡ row = same_at given.rows k l.row row l.row_is a in
           let Given : List (Sender Slip) → List (Sender Slip) → Type 0 = λ x y. HasGiven (λ j. owed_to k (works k).outcomes j (works k).taken) x y in
-          subst (λ x. Given row x) new_is (subst (λ x. Given x (rs l.report)) old_is l.given_out));
+          subst (λ x. Given row x) new_is (subst (λ x. Given x l.report.worker.slips) old_is l.given_out));
       took = λ k old new a b.
-          let r = source rr reports k new b in
           let l = box_is k (omega (arith, inboxes_count, slice_get_within given.inboxes k old a)) in
-          let new_is : rr l.report ≡ new = sym (r.gives ∙ ap rr (same_at reports k r.value l.report r.is l.report_is)) in
+          let new_is : l.report.receiver ≡ new =
+          same_at columns.inboxes k l.report.receiver new (at_column parts.inbox reports columns.inboxes of.inboxes k l.report l.report_is) b in
           let old_is : l.inbox ≡ old = same_at given.inboxes k l.inbox old l.inbox_is a in
-          subst (λ x. TookAllNotes (works k).taken old x) new_is (subst (λ x. TookAllNotes (works k).taken x (rr l.report)) old_is l.took);
+          subst (λ x. TookAllNotes (works k).taken old x) new_is (subst (λ x. TookAllNotes (works k).taken x l.report.receiver) old_is l.took);
     }

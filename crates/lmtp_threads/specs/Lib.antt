@@ -1,6 +1,7 @@
 pub mod CrewTasks
 pub mod Grid
 pub mod Channels
+pub mod Columns
 pub mod Works
-pub mod Tasks
 pub mod Reports
+pub mod Tasks

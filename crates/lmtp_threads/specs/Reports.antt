@@ -1,36 +1,50 @@
--- What lanes and workers hand back, part by part.
-use Rattle.std.specs.Prelude.{ℕ}
-use Rattle.lmtp_threads.specs.Grid.{lists, IsRoom}
-use Rattle.lmtp_threads.specs.declared.lanes.LaneReports.{LaneReports}
-use Rattle.lmtp_threads.specs.declared.workers.WorkerReports.{WorkerReports}
-use Rattle.lmtp_threads.specs.Tasks.{LanesBack, WorkersBack}
+-- What the columns have of a lane's report, and of a worker's.
+use Rattle.std.specs.Prelude.{◌≡◌, ℕ, Bool}
+use Rattle.mail_world.specs.declared.Note.{Note}
+use Rattle.mail_world.specs.declared.Slip.{Slip}
+use Rattle.mbox_record.specs.Spool.{SpoolState}
+use Rattle.mail_post.specs.Channel.{Sender, Inbox}
+use Rattle.box_worker.specs.Worked.{WorkerState, WorkerBack}
+use Rattle.lmtp_lane.specs.LaneRun.{LaneBack}
+use Rattle.lmtp_lane.specs.Visits.{VisitsTold}
+use Rattle.lmtp_threads.specs.declared.tally.Tally.{Tally}
+use Rattle.lmtp_threads.specs.Columns.{ColumnsState, Parts}
 
-module _ {N V P : Type 0} where
-  -- nothing in any part, and room for those of n lanes
-  abbrev pub HaveLaneRoom : ℕ → LaneReports N V P → Type 0
-  HaveLaneRoom n ends =
-      IsRoom n ends.visits × IsRoom n ends.senders × IsRoom n ends.slips × IsRoom n ends.conversations
+-- the columns of lanes that serve clients of one kind
+abbrev pub LaneColumns : Type 0 → Type 0
+LaneColumns V = ColumnsState (Sender Note) (Inbox Slip) V ℕ
 
-  -- what contracts see of the lanes' reports
-  abbrev pub lanes_back : LaneReports N V P → LanesBack V
-  lanes_back ends = record {
-    visits = ends.visits.items;
-    rows = lists ends.senders.items;
-    inboxes = ends.slips.items;
-    conversations = ends.conversations.items;
-  }
+-- a lane tells of the clients which conversations have ended, and whether no client is left
+abbrev pub lane_parts : {V : Type 0} → (V → VisitsTold) → (V → Bool) → Parts LaneBack (Sender Note) (Inbox Slip) V ℕ
+lane_parts finished over = record {
+  row = λ report. report.senders;
+  inbox = λ report. report.slips;
+  TellsOf = λ report visits. (report.finished ≡ finished visits) × (report.over ≡ over visits);
+  tally = λ report. report.conversations;
+  gone = λ report. report.gone;
+}
 
-module _ {N S G : Type 0} where
-  -- nothing in any part, and room for those of n workers
-  abbrev pub HaveWorkerRoom : ℕ → WorkerReports N S G → Type 0
-  HaveWorkerRoom n ends = IsRoom n ends.receivers × IsRoom n ends.slips × IsRoom n ends.spools × IsRoom n ends.gates
-      × IsRoom n ends.tallies
+-- the columns of workers whose mailboxes' spools are of one kind
+abbrev pub WorkerColumns : Type 0 → Type 0
+WorkerColumns S = ColumnsState (Sender Slip) (Inbox Note) S Tally
 
-  -- what contracts see of the workers' reports
-  abbrev pub workers_back : WorkerReports N S G → WorkersBack S
-  workers_back ends = record {
-    inboxes = ends.receivers.items;
-    rows = lists ends.slips.items;
-    spools = ends.spools.items;
-    tallies = ends.tallies.items;
-  }
+-- what a worker counts
+abbrev pub tally_of : WorkerState → Tally
+tally_of worker = record {
+  taken = worker.taken;
+  stored = worker.mailbox.stored;
+  over = worker.mailbox.over;
+  in_use = worker.in_use;
+  faulty = worker.mailbox.faulty;
+}
+
+-- a worker tells of the spool what contracts see of it
+abbrev pub worker_parts : {S G : Type 0} → (S → SpoolState)
+    → Parts (WorkerBack G) (Sender Slip) (Inbox Note) S Tally
+worker_parts state = record {
+  row = λ report. report.worker.slips;
+  inbox = λ report. report.receiver;
+  TellsOf = λ report spool. report.worker.mailbox.state ≡ state spool;
+  tally = λ report. tally_of report.worker;
+  gone = λ report. report.worker.lost;
+}

@@ -29,6 +29,7 @@ use Rattle.lmtp_lane.specs.Visits.{HasVisited, conversations_of}
 use Rattle.lmtp_threads.specs.Channels.{AreRows, none}
 use Rattle.lmtp_threads.specs.Works.{VisitsView, LaneWork, LaneTold, lane_told, WorkerShare, share_of, setting_of}
 use Rattle.lmtp_threads.specs.Works.{BoxWork, IsBoxWork}
+use Rattle.lmtp_threads.specs.Reports.{LaneColumns, WorkerColumns}
 
 -- what a lane is given
 pub record LaneTask (V C : Type 0) : Type 0 where
@@ -148,13 +149,6 @@ pub record LanesGiven (V : Type 0) : Type 0 where
   pub rows : List (List (Sender Note))
   pub inboxes : List (Inbox Slip)
 
--- what they hand back, and how many conversations each held
-pub record LanesBack (V : Type 0) : Type 0 where
-  pub visits : List V
-  pub rows : List (List (Sender Note))
-  pub inboxes : List (Inbox Slip)
-  pub conversations : List ℕ
-
 -- what workers are given: their receivers, a row of senders for each, their spools, and the limit of bytes for each
 pub record WorkersGiven (S : Type 0) : Type 0 where
   pub inboxes : List (Inbox Note)
@@ -162,21 +156,14 @@ pub record WorkersGiven (S : Type 0) : Type 0 where
   pub spools : List S
   pub quota : Option ℕ
 
--- what they hand back, and what each did
-pub record WorkersBack (S : Type 0) : Type 0 where
-  pub inboxes : List (Inbox Note)
-  pub rows : List (List (Sender Slip))
-  pub spools : List S
-  pub tallies : List Tally
-
 -- All lanes have ended, and none found a channel gone: what each did, with what its senders gave and its receiver took.
 pub record HaveServed {V : Type 0} (site : Site) (May : ℕ → Type 0) (view : VisitsView V)
-    (channels : List (Channel Note)) (old : LanesGiven V) (new : LanesBack V) : Type 0 where
+    (channels : List (Channel Note)) (old : LanesGiven V) (new : LaneColumns V) : Type 0 where
   pub works : ℕ → LaneWork
-  pub as_many : (length new.visits ≡ length old.visits) × (length new.conversations ≡ length old.visits)
+  pub as_many : (length new.lent ≡ length old.visits) × (length new.tallies ≡ length old.visits)
       × (length new.inboxes ≡ length old.visits)
   pub served : (k count : ℕ) (before after : V) → slice_get old.visits k ≡ Some before
-      → slice_get new.visits k ≡ Some after → slice_get new.conversations k ≡ Some count
+      → slice_get new.lent k ≡ Some after → slice_get new.tallies k ≡ Some count
       → IsServedLane site May (view.MayGive before) k (works k) (lane_told view before after count)
   pub rows_are : AreRows (length old.visits) channels (λ k b. due site k b (conversations_of (works k).visits))
       new.rows
@@ -194,12 +181,12 @@ pub record HaveServed {V : Type 0} (site : Site) (May : ℕ → Type 0) (view : 
 
 -- All workers have ended, and none found a channel gone.
 pub record HaveWorked {S : Type 0} (site : Site) (state : S → SpoolState) (channels : List (Channel Slip))
-    (old : WorkersGiven S) (new : WorkersBack S) : Type 0 where
+    (old : WorkersGiven S) (new : WorkerColumns S) : Type 0 where
   pub works : ℕ → BoxWork
-  pub as_many : (length new.spools ≡ length old.spools) × (length new.tallies ≡ length old.spools)
+  pub as_many : (length new.lent ≡ length old.spools) × (length new.tallies ≡ length old.spools)
       × (length new.inboxes ≡ length old.spools)
   pub stored : (b : ℕ) (before after : S) (tally : Tally) → slice_get old.spools b ≡ Some before
-      → slice_get new.spools b ≡ Some after → slice_get new.tallies b ≡ Some tally
+      → slice_get new.lent b ≡ Some after → slice_get new.tallies b ≡ Some tally
       → IsBoxWork (setting_of (share_of site old.quota) b) (works b) (state before) (state after) tally
   pub rows_are : AreRows (length old.spools) channels (λ b k. owed_to b (works b).outcomes k (works b).taken) new.rows
   pub took : (b : ℕ) (before after : Inbox Note) → slice_get old.inboxes b ≡ Some before
@@ -211,21 +198,17 @@ pub record HaveWorked {S : Type 0} (site : Site) (state : S → SpoolState) (cha
       → IsInTime worker_sorts b old.rows new.rows old.inboxes new.inboxes (deeds b)
 
 -- whatever these tasks were made of, all lanes have ended
-abbrev pub HaveServedAll : {V C : Type 0} → (C → ℕ → Type 0) → VisitsView V → List (LaneTask V C) → LanesBack V → Type 0
+abbrev pub HaveServedAll : {V C : Type 0} → (C → ℕ → Type 0) → VisitsView V → List (LaneTask V C) → LaneColumns V
+    → Type 0
 HaveServedAll {V} {C} May view tasks new =
     (site : Site) (clock : C) (channels : List (Channel Note)) (old : LanesGiven V)
     → tasks ≡ lane_tasks site clock 0 old.visits old.rows old.inboxes → length old.inboxes ≡ length old.visits
     → AreRows (length old.visits) channels none old.rows → HaveServed site (May clock) view channels old new
 
 -- whatever these tasks were made of, all workers have ended
-abbrev pub HaveWorkedAll : {S : Type 0} → (S → SpoolState) → List (BoxTask S) → WorkersBack S → Type 0
+abbrev pub HaveWorkedAll : {S : Type 0} → (S → SpoolState) → List (BoxTask S) → WorkerColumns S → Type 0
 HaveWorkedAll {S} state tasks new =
     (site : Site) (channels : List (Channel Slip)) (old : WorkersGiven S)
     → tasks ≡ box_tasks (share_of site old.quota) old.inboxes old.rows old.spools
     → length old.inboxes ≡ length old.spools
     → 0 < length channels → AreRows (length old.spools) channels none old.rows → HaveWorked site state channels old new
-
--- a report's counts
-abbrev pub tally_of : ℕ → ℕ → ℕ → ℕ → Bool → Tally
-tally_of taken stored over in_use faulty =
-    record { taken = taken; stored = stored; over = over; in_use = in_use; faulty = faulty }

@@ -5,14 +5,16 @@ ghost use Rattle.std.specs.Prelude.{map};
 ghost use Rattle.std.specs.List.{AllZip, AllByRecursion};
 ghost use Rattle.std.specs.Arc.{arc_value};
 ghost use Rattle.lmtp_threads.specs.Grid.{lists};
-ghost use Rattle.lmtp_threads.specs.Reports.{HaveLaneRoom, lanes_back};
+ghost use Rattle.lmtp_threads.specs.Columns.{no_columns, TakesReport, AreOf};
+ghost use Rattle.lmtp_threads.specs.Reports.{lane_parts};
 ghost use Rattle.lmtp_threads.specs.Works.{visits_view};
 ghost use Rattle.lmtp_threads.specs.Tasks.{lane_task, lane_tasks, lane_before, IsLaneReady, HaveServedAll};
 ghost use Rattle.mail_world.specs.declared.limits.TheConstants.{LANE_LIMIT};
 ghost use Rattle.mail_world.specs.declared.limits.TheConstants.{READ_LIMIT};
 ghost use Rattle.lmtp_talk.specs.Served.{terms};
-ghost use Rattle.lmtp_lane.specs.LaneRun.{HasServed};
+ghost use Rattle.lmtp_lane.specs.LaneRun.{lane_end, HasServed};
 
+use crate::columns::Columns;
 use crate::crew::{Crew, Refused, Task};
 use crate::shared::Shared;
 use lmtp_lane::{Clock, Desk, LaneReport, Visits, lane_run};
@@ -88,13 +90,7 @@ where
     ghost ready = { λ job. IsLaneReady V.out job };
 
     ghost done = { λ job r. HasServed (terms job.site READ_LIMIT) (C.May job.clock) (V.MayGive job.visits)
-        (lane_before (visits_view V.MayGive V.finished V.over) job)
-        (record {
-          finished = V.finished r.visits;
-          over = V.over r.visits;
-          ends = record { lane = job.lane; senders = r.senders.items; inbox = r.slips; gone = r.gone };
-          conversations = r.conversations;
-        }) };
+        (lane_before (visits_view V.MayGive V.finished V.over) job) (lane_end job.lane r) };
 
     fn run<R: Wait>(self, rt: &R) -> LaneReport<N, V> {
         let LaneJob {
@@ -152,51 +148,37 @@ fn lane_jobs<N: DepotName, V: Visits, C: Clock>(
     Ok(jobs)
 }
 
-/// What the lanes handed back, part by part.
-#[derive(Drop)]
-pub struct LaneReports<N: DepotName, V: Visits> {
-    pub visits: Vec<V>,
-    pub senders: Vec<Vec<Sender<N>>>,
-    pub slips: Vec<SlipReceiver>,
-    pub conversations: Vec<u64>,
-    /// A lane found a channel gone.
-    pub gone: bool,
+/// What the lanes hand back: their ends of the channels, their visits, and how many conversations each held.
+pub type LaneColumns<N, V> = Columns<Sender<N>, SlipReceiver, V, u64>;
+
+// One more lane's report.
+fn take_lane<N: DepotName, V: Visits>(columns: &mut LaneColumns<N, V>, report: LaneReport<N, V>)
+    requires { length columns.old.rows < columns.old.room }
+    ensures { TakesReport (lane_parts V.finished V.over) report columns.old columns.new }
+{
+    let LaneReport {
+        visits,
+        senders,
+        slips,
+        conversations,
+        gone,
+    } = report;
+    columns.push(senders, slips, visits, conversations, gone);
 }
 
-impl<N: DepotName, V: Visits> LaneReports<N, V> {
-    // The memory for the parts of that many lanes.
-    fn with_capacity(alloc: Global, lanes: usize) -> Result<LaneReports<N, V>, AllocError>
-        ensures room { IfOk result (HaveLaneRoom lanes) }
-        ensures gone { IfOk result (λ ends. ends.gone ≡ false) }
-    {
-        Ok(LaneReports {
-            visits: Vec::with_capacity(alloc, lanes)?,
-            senders: Vec::with_capacity(alloc, lanes)?,
-            slips: Vec::with_capacity(alloc, lanes)?,
-            conversations: Vec::with_capacity(alloc, lanes)?,
-            gone: false,
-        })
+// Takes the reports apart. There is just enough room.
+fn take_lanes<N: DepotName, V: Visits>(
+    columns: LaneColumns<N, V>,
+    reports: Vec<LaneReport<N, V>>,
+) -> LaneColumns<N, V>
+    requires { columns ≡ no_columns (vec_len reports) }
+    ensures { AreOf (lane_parts V.finished V.over) reports.items result }
+{
+    let mut columns = columns;
+    for report in reports {
+        take_lane(&mut columns, report);
     }
-
-    // Takes the reports apart. There is room.
-    fn take_all(self, reports: Vec<LaneReport<N, V>>) -> LaneReports<N, V>
-        requires { HaveLaneRoom (vec_len reports) self }
-        ensures visits { result.visits.items ≡ map (λ r. r.visits) reports.items }
-        ensures senders { lists result.senders.items ≡ map (λ r. r.senders.items) reports.items }
-        ensures slips { result.slips.items ≡ map (λ r. r.slips) reports.items }
-        ensures conversations { result.conversations.items ≡ map (λ r. r.conversations) reports.items }
-        ensures gone { result.gone ≡ false → AllByRecursion (λ r. r.gone ≡ false) reports.items }
-    {
-        let mut ends = self;
-        for report in reports {
-            ends.visits.push_reserved(report.visits);
-            ends.senders.push_reserved(report.senders);
-            ends.slips.push_reserved(report.slips);
-            ends.conversations.push_reserved(report.conversations);
-            ends.gone |= report.gone;
-        }
-        ends
-    }
+    columns
 }
 
 /// The lanes before they run, with the memory for what they hand back.
@@ -210,7 +192,7 @@ where
 {
     jobs: Vec<LaneJob<N, V, C>>,
     crew: Crew<LaneJob<N, V, C>>,
-    ends: LaneReports<N, V>,
+    columns: LaneColumns<N, V>,
 }
 
 impl<N, V, C> Model for Lanes<N, V, C>
@@ -221,7 +203,7 @@ where
     C: Clock + Send + Sync + 'static,
 {
     ghost use Rattle.std.specs.Prelude.{◌≡◌, [], List, vec_len};
-    ghost use Rattle.lmtp_threads.specs.Reports.{HaveLaneRoom};
+    ghost use Rattle.lmtp_threads.specs.Columns.{no_columns};
     ghost use Rattle.lmtp_threads.specs.Tasks.{LaneTask};
 
     ghost Value = { List (LaneTask V C) };
@@ -229,7 +211,7 @@ where
     ghost view = { λ l. l.jobs.items };
 
     ghost invariant = { λ l. (l.crew ≡ record { tasks = []; room = vec_len l.jobs })
-        × HaveLaneRoom (vec_len l.jobs) l.ends };
+        × (l.columns ≡ no_columns (vec_len l.jobs)) };
 }
 
 impl<N, V, C> Lanes<N, V, C>
@@ -255,7 +237,7 @@ where
         let jobs = lane_jobs(shared, visits, rows, takers)?;
         Ok(Lanes {
             crew: Crew::with_capacity(shared.alloc, jobs.len())?,
-            ends: LaneReports::with_capacity(shared.alloc, jobs.len())?,
+            columns: Columns::with_capacity(shared.alloc, jobs.len())?,
             jobs,
         })
     }
@@ -264,19 +246,18 @@ where
     pub fn run<R: Threads + Wait + Copy + Send + 'static>(
         self,
         rt: R,
-    ) -> Result<LaneReports<N, V>, Refused>
+    ) -> Result<LaneColumns<N, V>, Refused>
         requires { AllByRecursion (IsLaneReady V.out) self }
-        ensures { IfOk result (λ back. back.gone ≡ false → HaveServedAll C.May
-            (visits_view V.MayGive V.finished V.over) self
-            (lanes_back back)) }
+        ensures { IfOk result (λ columns. columns.gone ≡ false → HaveServedAll C.May
+            (visits_view V.MayGive V.finished V.over) self columns) }
     {
         let Lanes {
             jobs,
             mut crew,
-            ends,
+            columns,
         } = self;
         match crew.start_all(rt, jobs) {
-            Ok(()) => Ok(ends.take_all(crew.join(&rt))),
+            Ok(()) => Ok(take_lanes(columns, crew.join(&rt))),
             Err(refused) => {
                 drop(crew.join(&rt));
                 Err(refused)

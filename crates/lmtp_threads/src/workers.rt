@@ -5,13 +5,14 @@ ghost use Rattle.std.specs.Prelude.{map};
 ghost use Rattle.std.specs.List.{AllByRecursion};
 ghost use Rattle.std.specs.Arc.{arc_value};
 ghost use Rattle.box_worker.specs.Told.{worker_of};
-ghost use Rattle.box_worker.specs.Stored.{mailbox_of};
 ghost use Rattle.box_worker.specs.Worked.{idle, HasWorked};
 ghost use Rattle.lmtp_threads.specs.Works.{share_of, setting_of};
-ghost use Rattle.lmtp_threads.specs.Grid.{lists};
-ghost use Rattle.lmtp_threads.specs.Reports.{HaveWorkerRoom, workers_back};
-ghost use Rattle.lmtp_threads.specs.Tasks.{box_task, box_tasks, tally_of, IsBoxReady, HaveWorkedAll};
+ghost use Rattle.lmtp_threads.specs.Grid.{lists, IsRoom};
+ghost use Rattle.lmtp_threads.specs.Columns.{no_columns, TakesReport, AreOf};
+ghost use Rattle.lmtp_threads.specs.Reports.{worker_parts};
+ghost use Rattle.lmtp_threads.specs.Tasks.{box_task, box_tasks, IsBoxReady, HaveWorkedAll};
 
+use crate::columns::Columns;
 use crate::crew::{Crew, Task};
 use crate::shared::Shared;
 use crate::tally::Tally;
@@ -81,14 +82,7 @@ where
     ghost ready = { λ job. IsBoxReady job };
 
     ghost done = { λ job r. HasWorked (setting_of job.share (worker_of job.slips)) job.receiver r.receiver
-        (idle job.slips (S.state job.spool))
-        (record {
-          slips = r.slips.items;
-          mailbox = mailbox_of (S.state r.spool) r.stored r.over r.faulty;
-          in_use = r.in_use;
-          taken = r.taken;
-          lost = r.lost;
-        }) };
+        (idle job.slips (S.state job.spool)) r.worker };
 
     fn run<R: Wait>(self, rt: &R) -> WorkerReport<N, S, G> {
         let WorkerJob {
@@ -146,61 +140,66 @@ fn worker_jobs<N: DepotName, S: Spool + Drop, G: Gate + Drop, C: Drop>(
     Ok(jobs)
 }
 
-/// What the workers handed back, part by part.
+/// What the workers hand back, but their gates: their ends of the channels, their spools, and what each did.
+pub type WorkerColumns<N, S> = Columns<SlipSender, Receiver<N>, S, Tally>;
+
+/// What the workers hand back.
 #[derive(Drop)]
 pub struct WorkerReports<N: DepotName, S: Spool + Drop, G: Gate + Drop> {
-    pub receivers: Vec<Receiver<N>>,
-    pub slips: Vec<Vec<SlipSender>>,
-    pub spools: Vec<S>,
+    pub columns: WorkerColumns<N, S>,
     pub gates: Vec<G>,
-    pub tallies: Vec<Tally>,
-    /// A worker found a channel gone.
-    pub lost: bool,
 }
 
-impl<N: DepotName, S: Spool + Drop, G: Gate + Drop> WorkerReports<N, S, G> {
-    // The memory for the parts of that many workers.
-    fn with_capacity(alloc: Global, workers: usize) -> Result<WorkerReports<N, S, G>, AllocError>
-        ensures { IfOk result (HaveWorkerRoom workers) }
-    {
-        Ok(WorkerReports {
-            receivers: Vec::with_capacity(alloc, workers)?,
-            slips: Vec::with_capacity(alloc, workers)?,
-            spools: Vec::with_capacity(alloc, workers)?,
-            gates: Vec::with_capacity(alloc, workers)?,
-            tallies: Vec::with_capacity(alloc, workers)?,
-            lost: false,
-        })
-    }
+// One more worker's report. The answer is its gate.
+fn take_worker<N: DepotName, S: Spool + Drop, G: Gate + Drop>(
+    columns: &mut WorkerColumns<N, S>,
+    report: WorkerReport<N, S, G>,
+) -> G
+    requires { length columns.old.rows < columns.old.room }
+    ensures takes { TakesReport (worker_parts S.state) report columns.old columns.new }
+    ensures gate { result ≡ report.gate }
+{
+    let WorkerReport {
+        spool,
+        gate,
+        taken,
+        stored,
+        over,
+        in_use,
+        faulty,
+        lost,
+        receiver,
+        slips,
+    } = report;
+    let tally = Tally {
+        taken,
+        stored,
+        over,
+        in_use,
+        faulty,
+    };
+    columns.push(slips, receiver, spool, tally, lost);
+    gate
+}
 
-    // Takes the reports apart. There is room.
-    fn take_all(self, reports: Vec<WorkerReport<N, S, G>>) -> WorkerReports<N, S, G>
-        requires { HaveWorkerRoom (vec_len reports) self }
-        ensures receivers { result.receivers.items ≡ map (λ r. r.receiver) reports.items }
-        ensures slips { lists result.slips.items ≡ map (λ r. r.slips.items) reports.items }
-        ensures spools { result.spools.items ≡ map (λ r. r.spool) reports.items }
-        ensures gates { result.gates.items ≡ map (λ r. r.gate) reports.items }
-        ensures tallies { result.tallies.items
-            ≡ map (λ r. tally_of r.taken r.stored r.over r.in_use r.faulty) reports.items }
-        ensures lost { result.lost ≡ false → AllByRecursion (λ r. r.lost ≡ false) reports.items }
-    {
-        let mut ends = self;
-        for report in reports {
-            ends.receivers.push_reserved(report.receiver);
-            ends.slips.push_reserved(report.slips);
-            ends.spools.push_reserved(report.spool);
-            ends.gates.push_reserved(report.gate);
-            ends.tallies.push_reserved(Tally {
-                taken: report.taken,
-                stored: report.stored,
-                over: report.over,
-                in_use: report.in_use,
-                faulty: report.faulty,
-            });
-            ends.lost |= report.lost;
-        }
-        ends
+// Takes the reports apart. There is just enough room.
+fn take_workers<N: DepotName, S: Spool + Drop, G: Gate + Drop>(
+    columns: WorkerColumns<N, S>,
+    gates: Vec<G>,
+    reports: Vec<WorkerReport<N, S, G>>,
+) -> WorkerReports<N, S, G>
+    requires columns { columns ≡ no_columns (vec_len reports) }
+    requires gates { IsRoom (vec_len reports) gates }
+    ensures columns { AreOf (worker_parts S.state) reports.items result.columns }
+    ensures gates { result.gates.items ≡ map (λ r. r.gate) reports.items }
+{
+    let mut columns = columns;
+    let mut gates = gates;
+    for report in reports {
+        let gate = take_worker(&mut columns, report);
+        gates.push_reserved(gate);
     }
+    WorkerReports { columns, gates }
 }
 
 /// The workers before they run, with the memory for what they hand back.
@@ -213,7 +212,8 @@ where
 {
     jobs: Vec<WorkerJob<N, S, G>>,
     crew: Crew<WorkerJob<N, S, G>>,
-    ends: WorkerReports<N, S, G>,
+    columns: WorkerColumns<N, S>,
+    gates: Vec<G>,
 }
 
 /// Workers that run.
@@ -225,7 +225,8 @@ where
     G: Gate + Drop + Send + 'static,
 {
     crew: Crew<WorkerJob<N, S, G>>,
-    ends: WorkerReports<N, S, G>,
+    columns: WorkerColumns<N, S>,
+    gates: Vec<G>,
 }
 
 impl<N, S, G> Model for Workers<N, S, G>
@@ -235,7 +236,8 @@ where
     G: Gate + Drop + Send + 'static,
 {
     ghost use Rattle.std.specs.Prelude.{◌≡◌, [], List, vec_len};
-    ghost use Rattle.lmtp_threads.specs.Reports.{HaveWorkerRoom};
+    ghost use Rattle.lmtp_threads.specs.Columns.{no_columns};
+    ghost use Rattle.lmtp_threads.specs.Grid.{IsRoom};
     ghost use Rattle.lmtp_threads.specs.Tasks.{BoxTask};
 
     ghost Value = { List (BoxTask S) };
@@ -243,7 +245,7 @@ where
     ghost view = { λ w. w.jobs.items };
 
     ghost invariant = { λ w. (w.crew ≡ record { tasks = []; room = vec_len w.jobs })
-        × HaveWorkerRoom (vec_len w.jobs) w.ends };
+        × (w.columns ≡ no_columns (vec_len w.jobs)) × IsRoom (vec_len w.jobs) w.gates };
 }
 
 impl<N, S, G> Model for Working<N, S, G>
@@ -252,15 +254,16 @@ where
     S: Spool + Drop + Send + 'static,
     G: Gate + Drop + Send + 'static,
 {
-    ghost use Rattle.std.specs.Prelude.{List, length};
-    ghost use Rattle.lmtp_threads.specs.Reports.{HaveWorkerRoom};
+    ghost use Rattle.std.specs.Prelude.{◌≡◌, List, length};
+    ghost use Rattle.lmtp_threads.specs.Columns.{no_columns};
+    ghost use Rattle.lmtp_threads.specs.Grid.{IsRoom};
     ghost use Rattle.lmtp_threads.specs.Tasks.{BoxTask};
 
     ghost Value = { List (BoxTask S) };
 
     ghost view = { λ w. w.crew.tasks };
 
-    ghost invariant = { λ w. HaveWorkerRoom (length w.crew.tasks) w.ends };
+    ghost invariant = { λ w. (w.columns ≡ no_columns (length w.crew.tasks)) × IsRoom (length w.crew.tasks) w.gates };
 }
 
 impl<N, S, G> Workers<N, S, G>
@@ -288,7 +291,8 @@ where
         let jobs = worker_jobs(shared, receivers, rows, spools, gates, quota)?;
         Ok(Workers {
             crew: Crew::with_capacity(shared.alloc, jobs.len())?,
-            ends: WorkerReports::with_capacity(shared.alloc, jobs.len())?,
+            columns: Columns::with_capacity(shared.alloc, jobs.len())?,
+            gates: Vec::with_capacity(shared.alloc, jobs.len())?,
             jobs,
         })
     }
@@ -304,10 +308,15 @@ where
         let Workers {
             jobs,
             mut crew,
-            ends,
+            columns,
+            gates,
         } = self;
         match crew.start_all(rt, jobs) {
-            Ok(()) => Ok(Working { crew, ends }),
+            Ok(()) => Ok(Working {
+                crew,
+                columns,
+                gates,
+            }),
             Err(_refused) => Err(crew),
         }
     }
@@ -321,9 +330,13 @@ where
 {
     /// Waits for each worker. Their channels are closed, or their senders are gone.
     pub fn finish<R: Threads>(self, rt: &R) -> WorkerReports<N, S, G>
-        ensures { result.lost ≡ false → HaveWorkedAll S.state self (workers_back result) }
+        ensures { result.columns.gone ≡ false → HaveWorkedAll S.state self result.columns }
     {
-        let Working { crew, ends } = self;
-        ends.take_all(crew.join(rt))
+        let Working {
+            crew,
+            columns,
+            gates,
+        } = self;
+        take_workers(columns, gates, crew.join(rt))
     }
 }

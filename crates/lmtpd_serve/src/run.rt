@@ -184,10 +184,10 @@ fn served_by<L: Drop, G: Drop, H: Drop, E: Drop, S: Drop, W: Write>(
     report: HouseReport<LoggedVisits<L, G, H, E>, S, RestGate<H>>,
     writer: &mut W,
 ) -> Served
-    requires { length report.tallies.items ≡ length (arc_value site).boxes }
+    requires { length report.tallies ≡ length (arc_value site).boxes }
     ensures site { arc_value result.site ≡ arc_value site }
-    ensures tallies { result.tallies.items ≡ report.tallies.items }
-    ensures faulty { result.ending.faulty ≡ list_any (λ tally. tally.faulty) report.tallies.items }
+    ensures tallies { result.tallies.items ≡ report.tallies }
+    ensures faulty { result.ending.faulty ≡ list_any (λ tally. tally.faulty) report.tallies }
 {
     let ending = ServerEnding {
         faulty: has_failed(&report.tallies),

@@ -1,9 +1,9 @@
 //! What `lmtpd` is told and tells: the words of its command line, the usual numbers, the version and the help, and the
 //! mailboxes that a text lists; its output, and the lines of its log on standard error.
 //!
-//! The program uses what `clap` took, the values in it, and the names of a text; it writes bytes, all of them or a prefix
-//! and a failure, and printable lines with what the journal is to know. It opens no file, and never knows what is done
-//! with the words, or what the lines say.
+//! The program uses what `clap` took, the values in it, and the names of a text; it writes bytes, all of them or a
+//! prefix and a failure, and printable lines with what the journal is to know. It opens no file, and never knows what is
+//! done with the words, or what the lines say.
 #![tactic(auto)]
 
 mod arguments;

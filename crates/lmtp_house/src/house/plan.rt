@@ -4,7 +4,6 @@ ghost use Rattle.std.specs.Prelude.{◌≡◌, ◌≢◌, ◌<◌, ◌≤◌, le
 ghost use Rattle.std.specs.Arc.{arc_value};
 ghost use Rattle.mail_world.specs.declared.limits.TheConstants.{LANE_LIMIT};
 ghost use Rattle.lmtp_threads.specs.Works.{visits_view};
-ghost use Rattle.lmtp_house.specs.Handed.{as_handed_back, handed_in};
 ghost use Rattle.lmtp_house.specs.HousePlan.{IsPlanned, MayRun, HasRunAll};
 
 use crate::house::channels::{Channels, Closings};
@@ -14,7 +13,7 @@ use crate::house::report::HouseReport;
 use crate::house::serving::{Ended, serve_all};
 use box_worker::Gate;
 use lmtp_lane::{Clock, Visits};
-use lmtp_threads::{Lanes, Shared, Workers, settle_all};
+use lmtp_threads::{Lanes, Shared, WorkerReports, Workers, settle_all};
 use mbox_record::Spool;
 use msg_depot::{Depot, DepotName};
 use std::alloc::AllocError;
@@ -69,12 +68,10 @@ where
         handed: HandedIn<V, S, G>,
     ) -> Result<Plan<N, V, S, G, C>, AllocError>
         requires capacity { 0 < handed.capacity }
-        requires lanes { (0 < length handed.visits.items) × (length handed.visits.items ≤ LANE_LIMIT) }
-        requires spools { (0 < length handed.spools.items)
-            × (length handed.spools.items ≡ length (arc_value shared.now.site).boxes) }
-        requires gates { length handed.gates.items ≡ length handed.spools.items }
-        ensures { IfOk result (λ plan. IsPlanned (arc_value shared.now.site) (arc_value shared.now.clock)
-            (handed_in handed.visits.items handed.spools.items handed.capacity handed.quota) plan) }
+        requires lanes { (0 < length handed.visits) × (length handed.visits ≤ LANE_LIMIT) }
+        requires spools { (0 < length handed.spools)
+            × (length handed.spools ≡ length (arc_value shared.now.site).boxes) }
+        ensures { IfOk result (IsPlanned (arc_value shared.now.site) (arc_value shared.now.clock) handed) }
     {
         let lanes = handed.visits.len() as u32;
         let boxes = shared.site.box_count();
@@ -109,8 +106,7 @@ where
         depot: &Depot<N>,
     ) -> Result<HouseReport<V, S, G>, HouseFault>
         requires { MayRun V.out self }
-        ensures ran { IfOk result (λ report. HasRunAll C.May (visits_view V.MayGive V.finished V.over) S.state self
-            (as_handed_back report)) }
+        ensures ran { IfOk result (HasRunAll C.May (visits_view V.MayGive V.finished V.over) S.state self) }
         ensures not_size { result ≢ Err HouseFault.Size }
     {
         let Plan {
@@ -122,23 +118,23 @@ where
             lanes: ends,
             workers: working,
         } = serve_all(rt, lanes, workers)?;
-        let Closings {
-            mail,
-            slips: slip_closing,
-        } = closings;
-        let closed = mail.close(&rt, ends.senders);
-        let done = working.finish(&rt);
-        if done.lost {
+        let Closings { mail, slips } = closings;
+        let closed = mail.close(&rt, ends.rows);
+        let WorkerReports {
+            columns: done,
+            gates,
+        } = working.finish(&rt);
+        if done.gone {
             return Err(HouseFault::ChannelGone);
         }
-        let slips_closed = slip_closing.close(&rt, done.slips);
+        let slips_closed = slips.close(&rt, done.rows);
         settle_all(done.receivers, closed);
-        settle_all(ends.slips, slips_closed);
+        settle_all(ends.receivers, slips_closed);
         Ok(HouseReport {
-            visits: ends.visits,
-            spools: done.spools,
-            gates: done.gates,
-            conversations: ends.conversations,
+            visits: ends.lent,
+            spools: done.lent,
+            gates,
+            conversations: ends.tallies,
             tallies: done.tallies,
             free_blocks: depot.free_blocks(&rt),
         })

@@ -4,6 +4,7 @@ ghost use Rattle.std.specs.Prelude.{◌≡◌};
 ghost use Rattle.std.specs.List.{list_any};
 
 use lmtp_threads::Tally;
+use std::marker::Model;
 
 /// Whether a worker's spool failed.
 pub fn has_failed(tallies: &[Tally]) -> bool
@@ -23,4 +24,17 @@ pub struct HouseReport<V, S, G> {
     pub tallies: Vec<Tally>,
     /// The blocks that hold no message.
     pub free_blocks: u32,
+}
+
+impl<V, S, G> Model for HouseReport<V, S, G> {
+    ghost use Rattle.lmtp_house.specs.Handed.{HandedBack};
+
+    ghost Value = { HandedBack V S };
+
+    ghost view = { λ r. record {
+      visits = r.visits.items;
+      spools = r.spools.items;
+      conversations = r.conversations.items;
+      tallies = r.tallies.items;
+    } };
 }

@@ -5,7 +5,7 @@ ghost use Rattle.std.specs.List.{AllByRecursion};
 ghost use Rattle.std.specs.Arc.{arc_value};
 ghost use Rattle.mail_world.specs.declared.limits.TheConstants.{LANE_LIMIT};
 ghost use Rattle.lmtp_threads.specs.Works.{visits_view};
-ghost use Rattle.lmtp_house.specs.Handed.{as_handed_back, handed_in};
+ghost use Rattle.lmtp_house.specs.Handed.{handed_in};
 ghost use Rattle.lmtp_house.specs.House.{HasRun, IsSize};
 
 use crate::house::fault::HouseFault;
@@ -44,9 +44,9 @@ where
     C: Clock + Send + Sync + 'static,
     R: Threads + Wait + Copy + Send + 'static,
     requires none_out { AllByRecursion (λ v. V.out v ≡ false) visits.items }
-    ensures ran { IfOk result (λ report. HasRun (arc_value site) (C.May clock)
+    ensures ran { IfOk result (HasRun (arc_value site) (C.May clock)
         (visits_view V.MayGive V.finished V.over) S.state
-        (handed_in visits.items spools.items sizes.capacity sizes.quota) (as_handed_back report)) }
+        (handed_in visits.items spools.items sizes.capacity sizes.quota)) }
     ensures size { result ≡ Err HouseFault.Size
         ↔ ¬ IsSize (arc_value site) sizes (length visits.items) (length spools.items) (length gates.items) }
 {
@@ -84,14 +84,11 @@ where
     R: Threads + Wait + Copy + Send + 'static,
     requires name { blank.table ≡ N.table }
     requires capacity { 0 < handed.capacity }
-    requires lanes { (0 < length handed.visits.items) × (length handed.visits.items ≤ LANE_LIMIT) }
-    requires spools { (0 < length handed.spools.items)
-        × (length handed.spools.items ≡ length (arc_value site).boxes) }
-    requires gates { length handed.gates.items ≡ length handed.spools.items }
-    requires none_out { AllByRecursion (λ v. V.out v ≡ false) handed.visits.items }
-    ensures ran { IfOk result (λ report. HasRun (arc_value site) (C.May (arc_value clock))
-        (visits_view V.MayGive V.finished V.over) S.state
-        (handed_in handed.visits.items handed.spools.items handed.capacity handed.quota) (as_handed_back report)) }
+    requires lanes { (0 < length handed.visits) × (length handed.visits ≤ LANE_LIMIT) }
+    requires spools { (0 < length handed.spools) × (length handed.spools ≡ length (arc_value site).boxes) }
+    requires none_out { AllByRecursion (λ v. V.out v ≡ false) handed.visits }
+    ensures ran { IfOk result (HasRun (arc_value site) (C.May (arc_value clock))
+        (visits_view V.MayGive V.finished V.over) S.state handed) }
     ensures not_size { result ≢ Err HouseFault.Size }
 {
     let shared = Shared {

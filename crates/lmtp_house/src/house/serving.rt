@@ -2,14 +2,13 @@
 
 ghost use Rattle.std.specs.Prelude.{◌≡◌, ◌≢◌, IfOk, Err, false};
 ghost use Rattle.std.specs.List.{AllByRecursion};
-ghost use Rattle.lmtp_threads.specs.Reports.{lanes_back};
 ghost use Rattle.lmtp_threads.specs.Works.{visits_view};
 ghost use Rattle.lmtp_threads.specs.Tasks.{IsLaneReady, IsBoxReady, HaveServedAll};
 
 use crate::house::fault::HouseFault;
 use box_worker::Gate;
 use lmtp_lane::{Clock, Visits};
-use lmtp_threads::{LaneReports, Lanes, Workers, Working};
+use lmtp_threads::{LaneColumns, Lanes, Workers, Working};
 use mbox_record::Spool;
 use msg_depot::DepotName;
 use std::sync::Wait;
@@ -24,7 +23,7 @@ where
     S: Spool + Drop + Send + 'static,
     G: Gate + Drop + Send + 'static,
 {
-    pub lanes: LaneReports<N, V>,
+    pub lanes: LaneColumns<N, V>,
     pub workers: Working<N, S, G>,
 }
 
@@ -46,8 +45,7 @@ where
     requires lanes { AllByRecursion (IsLaneReady V.out) lanes }
     requires workers { AllByRecursion IsBoxReady workers }
     ensures served { IfOk result (λ ended. HaveServedAll C.May
-        (visits_view V.MayGive V.finished V.over) lanes
-        (lanes_back ended.lanes)) }
+        (visits_view V.MayGive V.finished V.over) lanes ended.lanes) }
     ensures working { IfOk result (λ ended. ended.workers ≡ workers) }
     ensures not_size { result ≢ Err HouseFault.Size }
 {

@@ -1,20 +1,20 @@
 use Rattle.std.proofs.Common.{◌≡◌, List, [], refl, ap, sym, subst, true, false, Option, Some, IsSome, ◌||◌, ◌∙◌, rules}
-use Rattle.lmtp_text.specs.Calendar.{civil_at}
 use Rattle.mail_world.specs.declared.Note.{Note}
 use Rattle.mail_world.specs.declared.Slip.{Slip}
-use Rattle.mail_post.specs.Channel.{Sender, Inbox, taken}
+use Rattle.mail_post.specs.Channel.{Sender, taken}
 use Rattle.mail_post.specs.declared.channel.Gone.{Gone}
 use Rattle.mail_post.specs.declared.channel.Gone.TheVariants.{Closed, Lost}
 use Rattle.mail_post.specs.Offered.{any_gone}
-use Rattle.box_worker.specs.Limits.{Setting}
+use Rattle.box_worker.specs.Between.{state_of}
+use Rattle.box_worker.specs.Limits.{Setting, setting_by}
 use Rattle.box_worker.specs.Told.{worker_of}
-use Rattle.box_worker.specs.Worked.{WorkerState, idle, is_lost, HasWorked, IsWorking}
+use Rattle.box_worker.specs.Worked.{WorkerState, WorkerBack, idle, is_lost, HasWorked, IsWorking}
 use Rattle.box_worker.proofs.Working.{working_none, worked}
 use Rattle.box_worker.proofs.worker.worker_run.Goals as goal
 
 pub loop-init : goal.loop-init
 loop-init g c =
-    let at : Setting = record { calendar = civil_at; host = c.args.host.now; quota = c.args.quota; worker = worker_of c.args.slips.items } in
+    let at : Setting = setting_by c.args.host.now c.args.quota (worker_of c.args.slips.items) in
     let start : WorkerState = idle c.args.slips.items (g.S.Spool.state c.args.spool) in
     let State : List (Sender Slip) → WorkerState =
     λ slips. record { slips = slips; mailbox = c.on.result.mailbox; in_use = c.on.result.in_use; taken = 0; lost = any_gone slips } in
@@ -31,12 +31,10 @@ loop-init g c =
 
 pub loop-preserved : goal.loop-preserved
 loop-preserved g c =
-    let at : Setting = record { calendar = civil_at; host = c.args.host.now; quota = c.args.quota; worker = worker_of c.args.slips.items } in
+    let at : Setting = setting_by c.args.host.now c.args.quota (worker_of c.args.slips.items) in
     let start : WorkerState = idle c.args.slips.items (g.S.Spool.state c.args.spool) in
     let now = c.handle.new.self in
-    let P : List Note → Type 0 = λ copies. IsWorking at copies c.args.receiver c.take_next.new.receiver start
-    (record { slips = now.slips; mailbox = now.mailbox.mailbox; in_use = now.mailbox.in_use; taken = now.taken; lost = any_gone now.slips })
-    now.mailbox.limit in
+    let P : List Note → Type 0 = λ copies. IsWorking at copies c.args.receiver c.take_next.new.receiver start (state_of now) now.mailbox.limit in
     record {
       channel = c.take_next.ensures.same.0 ∙ c.loop.invariant.channel;
       lanes = c.take_next.ensures.same.1 ∙ c.loop.invariant.lanes;
@@ -50,46 +48,24 @@ pub returns-in-Err-Lost : goal.returns-in-Err-Lost
 returns-in-Err-Lost g c =
     let worker = c.loop.worker in
     let after = c.take_next.new.receiver in
-    let at : Setting = record { calendar = civil_at; host = c.args.host.now; quota = c.args.quota; worker = worker_of c.args.slips.items } in
+    let at : Setting = setting_by c.args.host.now c.args.quota (worker_of c.args.slips.items) in
     let start : WorkerState = idle c.args.slips.items (g.S.Spool.state c.args.spool) in
-    let now : WorkerState = record {
-      slips = worker.slips;
-      mailbox = worker.mailbox.mailbox;
-      in_use = worker.mailbox.in_use;
-      taken = worker.taken;
-      lost = any_gone worker.slips;
-    } in
     let gone : after.gone ≡ Some Lost = search rules in
-    let e = c.report-in-Err-Lost.ensures in
-    let P : Inbox Note × WorkerState → Type 0 = λ p. HasWorked at c.args.receiver p.0 start p.1 in
-    subst P (λ i. (
-      sym e.ends.0 i,
-      record { slips = sym e.ends.1 i; mailbox = sym e.mailbox i; in_use = sym e.in_use i; taken = sym e.taken i; lost = sym e.lost i },
-    ))
-    (worked at c.args.receiver c.loop.receiver after start now worker.mailbox.limit c.loop.invariant.working (search rules) (search rules) (search rules)
-    c.in-Err-Lost.ensures.nothing c.in-Err-Lost.ensures.no_time
+    let P : WorkerBack _ → Type 0 = λ back. HasWorked at c.args.receiver back.receiver start back.worker in
+    subst P (sym c.report-in-Err-Lost.ensures)
+    (worked at c.args.receiver c.loop.receiver after start (state_of worker) worker.mailbox.limit c.loop.invariant.working (search rules) (search rules)
+    (search rules) c.in-Err-Lost.ensures.nothing c.in-Err-Lost.ensures.no_time
     (subst IsSome (sym gone) refl) (any_gone worker.slips || true) (ap (λ (w : Option Gone). any_gone worker.slips || is_lost w) (sym gone)))
 
 pub returns-in-Err-Closed : goal.returns-in-Err-Closed
 returns-in-Err-Closed g c =
     let worker = c.loop.worker in
     let after = c.take_next.new.receiver in
-    let at : Setting = record { calendar = civil_at; host = c.args.host.now; quota = c.args.quota; worker = worker_of c.args.slips.items } in
+    let at : Setting = setting_by c.args.host.now c.args.quota (worker_of c.args.slips.items) in
     let start : WorkerState = idle c.args.slips.items (g.S.Spool.state c.args.spool) in
-    let now : WorkerState = record {
-      slips = worker.slips;
-      mailbox = worker.mailbox.mailbox;
-      in_use = worker.mailbox.in_use;
-      taken = worker.taken;
-      lost = any_gone worker.slips;
-    } in
     let gone : after.gone ≡ Some Closed = search rules in
-    let e = c.report.ensures in
-    let P : Inbox Note × WorkerState → Type 0 = λ p. HasWorked at c.args.receiver p.0 start p.1 in
-    subst P (λ i. (
-      sym e.ends.0 i,
-      record { slips = sym e.ends.1 i; mailbox = sym e.mailbox i; in_use = sym e.in_use i; taken = sym e.taken i; lost = sym e.lost i },
-    ))
-    (worked at c.args.receiver c.loop.receiver after start now worker.mailbox.limit c.loop.invariant.working (search rules) (search rules) (search rules)
-    c.in-Err-Closed.ensures.nothing c.in-Err-Closed.ensures.no_time
+    let P : WorkerBack _ → Type 0 = λ back. HasWorked at c.args.receiver back.receiver start back.worker in
+    subst P (sym c.report.ensures)
+    (worked at c.args.receiver c.loop.receiver after start (state_of worker) worker.mailbox.limit c.loop.invariant.working (search rules) (search rules)
+    (search rules) c.in-Err-Closed.ensures.nothing c.in-Err-Closed.ensures.no_time
     (subst IsSome (sym gone) refl) (any_gone worker.slips || false) (ap (λ (w : Option Gone). any_gone worker.slips || is_lost w) (sym gone)))

@@ -15,7 +15,7 @@ only_client-peer-requires g c =
     let capacity : c.sizes.result.capacity ≡ DEFAULT_CAPACITY = ap (λ s. s.capacity) c.sizes.ensures in
     let spools : c.in_ok-spools.spools.items ≡ replicate c.box_count-count.result (empty_spool (arc_value c.args.site)) =
     c.in_ok-spools.ensures ∙ ap (λ s. replicate c.box_count-count.result (empty_spool s)) c.deref-2.ensures in
-    let ran = rw (visits, spools, capacity, quota) at c.in_ok-report.ensures.ran in
+    let ran = rw (visits, spools, capacity, quota, ← c.report.view_is) at c.in_ok-report.ensures.ran in
     only_over (arc_value c.args.site) c.args.conditions.quota c.args.conditions.moment _ c.args.peer c.box_count-count.result _ ran
 
 pub returns-clause-held : goal.returns-clause-held
@@ -26,7 +26,7 @@ returns-clause-held g c =
     let capacity : c.sizes.result.capacity ≡ DEFAULT_CAPACITY = ap (λ s. s.capacity) c.sizes.ensures in
     let spools : c.in_ok-spools.spools.items ≡ replicate c.box_count-count.result (empty_spool (arc_value c.args.site)) =
     c.in_ok-spools.ensures ∙ ap (λ s. replicate c.box_count-count.result (empty_spool s)) c.deref-2.ensures in
-    let ran = rw (visits, spools, capacity, quota) at c.in_ok-report.ensures.ran in
+    let ran = rw (visits, spools, capacity, quota, ← c.report.view_is) at c.in_ok-report.ensures.ran in
     held (arc_value c.args.site) c.args.conditions.quota c.args.conditions.moment _ c.args.peer c.box_count-count.result _ c.only_client-peer.result.0
     c.only_client-peer.result.1 c.has_failed-faulty.result
     ran c.only_client-peer.ensures (λ p. refl) (c.box_count-count.ensures.value ∙ ap (λ s. length s.boxes) c.deref.ensures)

@@ -4,12 +4,7 @@ use Rattle.lmtpd_serve.proofs.run.run_sized.Goals as goal
 pub returns-clause-ran : goal.returns-clause-ran
 returns-clause-ran g c = record {
   visits = c.in_ok-gates.field-0.visits.items;
-  back = record {
-    visits = c.in-Ok.report.visits.items;
-    spools = c.in-Ok.report.spools.items;
-    conversations = c.in-Ok.report.conversations.items;
-    tallies = c.in-Ok.report.tallies.items;
-  };
+  back = c.in-Ok.report;
   each_lane = c.in_ok-gates.ensures.each_lane;
   logs = c.in_ok-gates.ensures.logs;
   none_ended = c.in_ok-gates.ensures.none_ended;

@@ -6,7 +6,8 @@ use Rattle.mail_post.specs.Copies.{envelope_of}
 use Rattle.mail_post.specs.InTime.{clock_of}
 use Rattle.mail_post.specs.Offered.{IsOffered, any_gone}
 use Rattle.mbox_record.specs.Envelope.{Envelope, record_text}
-use Rattle.box_worker.specs.Limits.{Setting}
+use Rattle.box_worker.specs.Between.{state_of}
+use Rattle.box_worker.specs.Limits.{Setting, setting_by}
 use Rattle.box_worker.specs.Stored.{TakesCopy}
 use Rattle.box_worker.specs.Turned.{TurnsCopy}
 use Rattle.box_worker.specs.Told.{slip_by}
@@ -21,14 +22,8 @@ returns g c quota worker copies old before was timed x =
     let self = c.args.self.now in
     let took = c.take-outcome in
     let told = c.tell in
-    let at : Setting = record { calendar = civil_at; host = host; quota = quota; worker = worker } in
-    let now : WorkerState = record {
-      slips = self.slips;
-      mailbox = self.mailbox.mailbox;
-      in_use = self.mailbox.in_use;
-      taken = self.taken;
-      lost = any_gone self.slips;
-    } in
+    let at : Setting = setting_by host quota worker in
+    let now : WorkerState = state_of self in
     let parts = c.parts-place in
     let text : record_text civil_at host parts.result.envelope parts.result.hold.bytes ≡ record_of civil_at host c.args.post =
     ap (λ (e : Envelope). record_text civil_at host e parts.result.hold.bytes) parts.ensures.envelope

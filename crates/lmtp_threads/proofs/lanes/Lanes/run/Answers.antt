@@ -1,5 +1,6 @@
 use Rattle.std.proofs.Common.{arith, ◌≡◌, length, ap, sym, ◌∙◌, subst, vec_items, vec_len}
 use Rattle.std.specs.List.{AllZip, AllByRecursion}
+use Rattle.lmtp_threads.specs.Columns.{no_columns}
 use Rattle.lmtp_threads.specs.Works.{VisitsView}
 use Rattle.lmtp_threads.specs.Tasks.{lane_tasks, IsLaneReady}
 use Rattle.lmtp_threads.proofs.Pairs.{AllZip-length}
@@ -18,27 +19,16 @@ reports_len g c =
       c.self.inside.jobs.ok.0,
     )
 
-pub take_all-requires : goal.take_all-requires
-take_all-requires g c =
-    let len = reports_len g c in
-    let was = c.self.invariant.1 in (
-      record { empty = was.0.empty; room = omega (arith, len, was.0.room) },
-      record { empty = was.1.empty; room = omega (arith, len, was.1.room) },
-      record { empty = was.2.empty; room = omega (arith, len, was.2.room) },
-      record { empty = was.3.empty; room = omega (arith, len, was.3.room) },
-    )
+pub take_lanes-requires : goal.take_lanes-requires
+take_lanes-requires g c = subst (λ n. c.self.inside.columns ≡ no_columns n) (sym (reports_len g c)) c.self.invariant.1
 
 pub returns-in-Ok : goal.returns-in-Ok
 returns-in-Ok g c not_gone site clock channels given is count are =
-    let parts = c.take_all.ensures in
     let reports = vec_items c.join.result in
     let view : VisitsView _ = record { MayGive = g.V.Visits.MayGive; finished = g.V.Visits.finished; over = g.V.Visits.over } in
     let tasks_are : c.start_all.new.self.tasks ≡ lane_tasks site clock 0 given.visits given.rows given.inboxes = c.in-Ok.ensures ∙ (c.self.view_is ∙ is) in
-    let all = subst (λ l. AllZip (LaneOk g.C.Clock.May view (λ r. r.visits) (λ r. vec_items r.senders) (λ r. r.slips) (λ r. r.conversations) (λ r. r.gone)) l
-    reports) tasks_are c.join.ensures in
-    rw (parts.visits, parts.senders, parts.slips, parts.conversations)
-    (have_served g.C.Clock.May view (λ r. r.visits) (λ r. vec_items r.senders) (λ r. r.slips) (λ r. r.conversations) (λ r. r.gone) site clock channels given
-    reports count are all (parts.gone not_gone))
+    let all = subst (λ l. AllZip (LaneOk g.C.Clock.May view) l reports) tasks_are c.join.ensures in
+    have_served g.C.Clock.May view site clock channels given reports c.take_lanes.result c.take_lanes.ensures count are all not_gone
 
 pub start_all-requires-clause-ready : goal.start_all-requires-clause-ready
 start_all-requires-clause-ready g c κs within = subst (λ l. AllByRecursion (λ t. IsLaneReady g.V.Visits.out t) l) (sym c.self.view_is) c.requires
