@@ -37,7 +37,8 @@ play_on_sources() {
     for script in tests/{calls,units,memory,benchmarks,wrong_bodies}.sh; do play "$script" 3600; done
 }
 
-# play_at_once: plays the wrong bodies that are tried at once, on half of the cores and at a lower priority.
+# play_at_once: plays the wrong bodies that are tried at once, on half of the cores, on all once `rt ci` has ended, and
+# at a lower priority.
 play_at_once() {
     renice -n 15 "$BASHPID" > "$said/renice"
     JOBS=${JOBS:-$((($(nproc) + 1) / 2))} RT_SAID=$said/rt play tests/refused_at_once.sh 9000

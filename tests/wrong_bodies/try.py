@@ -16,6 +16,7 @@ import shutil
 import subprocess
 import sys
 import tempfile
+import threading
 import time
 
 import apply
@@ -119,16 +120,33 @@ class Batch:
     texts: dict
 
 
+def lines_of(said):
+    """What `rt ci` has said so far, and whether it has ended."""
+    lines = said.read_text(encoding="utf-8", errors="replace").splitlines() if said.exists() else ["0 passed, 0 failed"]
+    return lines, bool(lines and re.match(r"\d+ passed, \d+ failed", lines[-1]))
+
+
 def are_proved(names, said):
     """Waits until `rt ci`, which says so in the file, has proved these crates; false where it ends first."""
-    left = set(names)
-    while left and said.exists():
-        lines = said.read_text(encoding="utf-8", errors="replace").splitlines()
+    left, has_ended = set(names), False
+    while left and not has_ended:
+        lines, has_ended = lines_of(said)
         left -= {it[1] for it in (re.match(r"rt: (\w+) (proved|is kept)", line) for line in lines) if it}
-        if left and lines and re.match(r"\d+ passed, \d+ failed", lines[-1]):
-            return False
-        time.sleep(2 if left else 0)
+        time.sleep(2 if left and not has_ended else 0)
     return not left
+
+
+def give_turns(turns, more, said):
+    """Gives that many more turns once `rt ci` has ended, whose cores are idle then."""
+    while not lines_of(said)[1]:
+        time.sleep(2)
+    turns.release(more)
+
+
+def try_in_turn(turns, *crate):
+    """Tries a crate's as soon as there is a turn."""
+    with turns:
+        return try_crate(*crate)
 
 
 def try_crate(root, name, edits, crates, folder, said):
@@ -173,10 +191,13 @@ def main(root, jobs, words):
     # lowest first, as rt ci goes on, or those with the most to prove
     first = (lambda it: len(crates[it][1])) if said else (lambda it: -len(edits[it]))
     order = sorted(filter(edits.get, edits), key=first)
+    turns, more = threading.Semaphore(jobs), max(0, os.cpu_count() - jobs)
+    if said and more:
+        threading.Thread(target=give_turns, args=(turns, more, said), daemon=True).start()
     with tempfile.TemporaryDirectory(prefix=".trying-", dir=root) as folder:
-        with concurrent.futures.ThreadPoolExecutor(jobs) as pool:
+        with concurrent.futures.ThreadPoolExecutor(jobs + more) as pool:
             room = pathlib.Path(folder)
-            tried = [pool.submit(try_crate, root, it, edits[it], crates, room, said) for it in order]
+            tried = [pool.submit(try_in_turn, turns, root, it, edits[it], crates, room, said) for it in order]
             kinds = [kind for it in tried for kind in it.result()]
     print(", ".join(f"{kinds.count(kind)} {kind}" for kind in told.KINDS))
     return 1 if any(kind in told.BAD for kind in kinds) else 0

@@ -115,7 +115,8 @@ module _ {V C : Type 0} (May : C → ℕ → Type 0) (view : VisitsView V) where
   idle = record { work = record { visits = []; heard = [] }; deeds = [] }
 
   module _ (site : Site) (clock : C) (channels : List (Channel Note)) (given : LanesGiven V) (reports : List LaneBack)
-      (columns : LaneColumns V) (of : AreOf parts reports columns) (inboxes_count : length given.inboxes ≡ length given.visits) (are : AreRows (length given.visits) channels none given.rows)
+      (columns : LaneColumns V) (of : AreOf parts reports columns)
+      (inboxes_count : length given.inboxes ≡ length given.visits) (are : AreRows (length given.visits) channels none given.rows)
       (all : AllZip LaneOk (lane_tasks site clock 0 given.visits given.rows given.inboxes) reports)
       (sound : columns.gone ≡ false) where
     abbrev tasks : List (LaneTask V C)
@@ -167,7 +168,7 @@ module _ {V C : Type 0} (May : C → ℕ → Type 0) (view : VisitsView V) where
         x.first ∙ (ap (λ l. x.accepted ++ l) (x.all (x.whole no)) ∙ append-nil x.accepted) in
         let Served : LaneTask V C → LaneWork → Type 0 = λ j w.
         IsServedLane j.site (May j.clock) (view.MayGive j.visits) j.lane w (told_by (view.finished j.visits) p.right) in
-        let Given : LaneTask V C → LaneDone → Type 0 = λ j d. HasGiven (λ b. due j.site j.lane b (conversations_of d.work.visits)) j.senders (p.right.senders) in
+        let Given : LaneTask V C → LaneDone → Type 0 = λ j d. HasGiven (λ b. due j.site j.lane b (conversations_of d.work.visits)) j.senders p.right.senders in
         let Heard : LaneTask V C → LaneDone → Type 0 = λ j d. TookSlips d.work.heard j.slips (p.right.slips) in
         let InTime : LaneTask V C → LaneDone → Type 0 =
         λ j d. AreInTime lane_sorts d.deeds (record { senders = j.senders; inbox = j.slips }) (record { senders = p.right.senders; inbox = p.right.slips }) in

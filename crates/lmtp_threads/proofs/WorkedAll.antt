@@ -89,7 +89,8 @@ module _ {S G : Type 0} (state : S → SpoolState) where
   box_done j r h = record { work = record { taken = taken r.receiver; outcomes = h.handled.outcomes }; deeds = h.turns.deeds }
 
   module _ (site : Site) (channels : List (Channel Slip)) (given : WorkersGiven S) (reports : List (WorkerBack G))
-      (columns : WorkerColumns S) (of : AreOf parts reports columns) (inboxes_count : length given.inboxes ≡ length given.spools) (some : 0 < length channels) (are : AreRows (length given.spools) channels none given.rows)
+      (columns : WorkerColumns S) (of : AreOf parts reports columns)
+      (inboxes_count : length given.inboxes ≡ length given.spools) (some : 0 < length channels) (are : AreRows (length given.spools) channels none given.rows)
       (all : AllZip BoxOk (box_tasks (share_of site given.quota) given.inboxes given.rows given.spools) reports)
       (sound : columns.gone ≡ false) where
     abbrev share : WorkerShare
@@ -127,7 +128,8 @@ module _ {S G : Type 0} (state : S → SpoolState) where
       given_out : HasGiven (λ j. owed_to k (works k).outcomes j (works k).taken) row report.worker.slips
       took : TookAllNotes (works k).taken inbox report.receiver
       did : whats (deeds_of k) ≡ turns_of k (works k).taken (works k).outcomes
-      in_time : AreInTime worker_sorts (deeds_of k) (record { senders = row; inbox = inbox }) (record { senders = report.worker.slips; inbox = report.receiver })
+      in_time : AreInTime worker_sorts (deeds_of k) (record { senders = row; inbox = inbox })
+          (record { senders = report.worker.slips; inbox = report.receiver })
 
     box_is : (k : ℕ) → k < length given.spools → BoxIs k
     box_is k below =
@@ -137,12 +139,14 @@ module _ {S G : Type 0} (state : S → SpoolState) where
         let no = at_each (λ r. r.worker.lost ≡ false) reports (each_fails (λ r. r.worker.lost) reports (sym of.gone ∙ sound)) k p.right p.right_is in
         let first = at channels 0 some in
         let worker_is : worker_of t.row ≡ k = numbered k first.value t.row (are.cells k 0 t.row first.value t.row_is first.is) in
-        let Stored : WorkerShare → ℕ → S → BoxWork → Type 0 = λ by b spool w. IsBoxWork (setting_of by b) w (state spool) p.right.worker.mailbox.state (tally_of p.right.worker) in
+        let Stored : WorkerShare → ℕ → S → BoxWork → Type 0 =
+        λ by b spool w. IsBoxWork (setting_of by b) w (state spool) p.right.worker.mailbox.state (tally_of p.right.worker) in
         let Given : ℕ → List (Sender Slip) → BoxWork → Type 0 = λ b row w. HasGiven (λ j. owed_to b w.outcomes j w.taken) row p.right.worker.slips in
         let Took : Inbox Note → BoxWork → Type 0 = λ inbox w. TookAllNotes w.taken inbox p.right.receiver in
         let Did : ℕ → BoxDone → Type 0 = λ b d. whats d.deeds ≡ turns_of b d.work.taken d.work.outcomes in
         let InTime : BoxTask S → BoxDone → Type 0 =
-        λ j d. AreInTime worker_sorts d.deeds (record { senders = j.slips; inbox = j.receiver }) (record { senders = p.right.worker.slips; inbox = p.right.receiver }) in
+        λ j d. AreInTime worker_sorts d.deeds (record { senders = j.slips; inbox = j.receiver })
+        (record { senders = p.right.worker.slips; inbox = p.right.receiver }) in
         let handled = h.handled in
         let stored : Stored p.left.share (worker_of p.left.slips) p.left.spool (box_done p.left p.right h).work = record {
           each = handled.each;

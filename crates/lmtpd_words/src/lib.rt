@@ -2,8 +2,8 @@
 //! mailboxes that a text lists; its output, and the lines of its log on standard error.
 //!
 //! The program uses what `clap` took, the values in it, and the names of a text; it writes bytes, all of them or a
-//! prefix and a failure, and printable lines with what the journal is to know. It opens no file, and never knows what is
-//! done with the words, or what the lines say.
+//! prefix and a failure, and printable lines with what the journal is to know. It opens no file, and never knows what
+//! is done with the words, or what the lines say.
 #![tactic(auto)]
 
 mod arguments;

@@ -17,8 +17,8 @@ take_lane-requires g c =
 
 pub loop-report-preserved : goal.loop-report-preserved
 loop-report-preserved g c =
-    filling_more (lane_parts g.V.Visits.finished g.V.Visits.over) c.loop-report.invariant c.in-Some.report (into_iter_items c.next.new.self) c.take_lane.new.columns
-    c.in-Some.ensures.steps.0 c.take_lane.ensures
+    filling_more (lane_parts g.V.Visits.finished g.V.Visits.over) c.loop-report.invariant c.in-Some.report (into_iter_items c.next.new.self)
+    c.take_lane.new.columns c.in-Some.ensures.steps.0 c.take_lane.ensures
 
 pub returns : goal.returns
 returns g c =
