@@ -1,5 +1,5 @@
 -- A planned server's run, once its threads have ended: its channels may be closed and settled, and what it comes to.
-use Rattle.std.proofs.Common.{◌≡◌, ℕ, List, length, sym, ap, subst, arith}
+use Rattle.std.proofs.Common.{◌≡◌, ℕ, false, List, length, sym, ap, subst, arith}
 use Rattle.std.specs.List.{AllZip}
 use Rattle.std.specs.Prelude.{Result, Ok, Err, IfOk}
 use Rattle.std.proofs.lemmas.List.{length-map}
@@ -16,7 +16,7 @@ use Rattle.lmtp_house.specs.Handed.{HandedIn}
 use Rattle.lmtp_house.specs.House.{HasRun}
 use Rattle.lmtp_threads.specs.Channels.{Shape, channels_of, AreRows, AreClosedWith, HaveTimes, MayClose, CanSettle, IsSettled}
 use Rattle.lmtp_threads.specs.Reports.{LaneColumns, WorkerColumns}
-use Rattle.lmtp_threads.specs.Tasks.{BoxTask, LanesGiven, WorkersGiven, HaveServed, HaveServedAll, HaveWorked, HaveWorkedAll}
+use Rattle.lmtp_threads.specs.Tasks.{LaneTask, BoxTask, LanesGiven, WorkersGiven, HaveServed, HaveServedAll, HaveWorked, HaveWorkedAll}
 use Rattle.lmtp_house.specs.HousePlan.{PlanState, IsPlanned}
 use Rattle.lmtp_house.proofs.HousePlan.{may_close}
 use Rattle.lmtp_house.proofs.HouseSettled.{can_settle, has_run}
@@ -26,10 +26,17 @@ pub if_ok : {A E : Type 0} (P Q : A → Type 0) (r : Result A E) → IfOk r P �
 if_ok P Q (Ok x) h f = f x h
 if_ok P Q (Err e) h f = h
 
--- workers that run are those that were planned
-pub worked_as : {S : Type 0} (state : S → SpoolState) (working tasks : List (BoxTask S)) (boxes : WorkerColumns S) → working ≡ tasks
-    → HaveWorkedAll state working boxes → HaveWorkedAll state tasks boxes
-worked_as state working tasks boxes same worked = subst (λ l. HaveWorkedAll state l boxes) same worked
+-- the lanes' columns, opened
+pub served_as : {V C : Type 0} (May : C → ℕ → Type 0) (view : VisitsView V) (tasks : List (LaneTask V C)) (lanes back : LaneColumns V) → lanes ≡ back
+    → HaveServedAll May view tasks back → HaveServedAll May view tasks lanes
+served_as May view tasks lanes back opened served = subst (HaveServedAll May view tasks) (sym opened) served
+
+-- the workers' columns, opened; workers that run are those that were planned
+pub worked_as : {S : Type 0} (state : S → SpoolState) (working tasks : List (BoxTask S)) (boxes back : WorkerColumns S) → boxes ≡ back → working ≡ tasks
+    → (back.gone ≡ false → HaveWorkedAll state working back) → boxes.gone ≡ false → HaveWorkedAll state tasks boxes
+worked_as state working tasks boxes back opened same worked none =
+    let Worked : WorkerColumns _ → Type 0 = λ e. e.gone ≡ false → HaveWorkedAll state working e in
+    subst (λ l. HaveWorkedAll state l boxes) same (subst Worked (sym opened) worked none)
 
 -- closing gives this
 abbrev pub Closes : {M : Type 0} → Shape → List (List (Sender M)) → List (Sent M) → Type 0
