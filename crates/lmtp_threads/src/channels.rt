@@ -1,8 +1,8 @@
 //! All channels of one kind: opened, closed and settled together.
 
-ghost use Rattle.std.specs.Prelude.{◌≡◌, ◌<◌, ◌≤◌, ℕ, List, [], IfOk, length, vec_len, vec_capacity, map};
+ghost use Rattle.std.specs.Prelude.{◌≡◌, ◌<◌, ◌≤◌, ℕ, List, [], IfOk, vec_len, vec_capacity, map};
 ghost use Rattle.std.specs.List.{All, AllZip};
-ghost use Rattle.mail_post.specs.Channel.{Channel, AreSenders, AreSendersOf, sent_by};
+ghost use Rattle.mail_post.specs.Channel.{Channel, AreSenders};
 ghost use Rattle.lmtp_threads.specs.Grid.{lists, IsRoom};
 ghost use Rattle.lmtp_threads.specs.Channels.{IsNewChannel, AreRows, AreNewChannels, AreClosedWith, CanSettle};
 ghost use Rattle.lmtp_threads.specs.Channels.{IsSettled, IsShut, MayClose, HaveTimes};

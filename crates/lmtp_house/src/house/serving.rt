@@ -1,6 +1,6 @@
 //! Lanes that serve all their clients, beside the workers that take what they offer.
 
-ghost use Rattle.std.specs.Prelude.{◌≡◌, ◌≢◌, IfOk, Err, false};
+ghost use Rattle.std.specs.Prelude.{◌≡◌, ◌≢◌, IfOk, Err};
 ghost use Rattle.std.specs.List.{AllByRecursion};
 ghost use Rattle.lmtp_threads.specs.Works.{visits_view};
 ghost use Rattle.lmtp_threads.specs.Tasks.{IsLaneReady, IsBoxReady, HaveServedAll};
