@@ -19,7 +19,7 @@ use Rattle.mbox_record.specs.Spool.{SpoolState, tail_of, CoversAll, standing, Be
 use Rattle.box_worker.specs.declared.limit.Limit.{Limit}
 use Rattle.box_worker.specs.Limits.{Setting, StartsAt, CountsTo, missing, IsLetIn, IsKeptOut}
 use Rattle.box_worker.specs.Stored.{MailboxState, CountedMailbox, HasKept, HasNotKept}
-use Rattle.box_worker.specs.Turned.{MeasuresAnew, SharedMailbox, shared_of, HasKeptMended, HasNotKeptMended, Measures, StoresInTurn, KeepsOutOfTurn, BreaksTurn}
+use Rattle.box_worker.specs.Turned.{MeasuresAgain, SharedMailbox, shared_of, HasKeptMended, HasNotKeptMended, Measures, StoresInTurn, KeepsOutOfTurn, BreaksTurn}
 use Rattle.box_worker.specs.Turned.{FromLock, HadTurn, TakesTurn, DoesInTurn, EndsInTurn, HaveTurned, is_not_had, TellsTurns}
 use Rattle.mbox_record.specs.Mending.{HasMended, HasNotMended}
 use Rattle.mbox_record.specs.declared.spool.Tail.{Tail}
@@ -335,7 +335,7 @@ tells_told at notes outcomes old new h = tells_by at notes outcomes old new old.
 -- what a worker counts at a lock
 pub measures : (locked : SpoolState) (limit new : Limit) (held : ℕ) (tail : Tail) → IfSome locked.bytes (λ b. tail ≡ tail_of b) → held ≡ counted locked.held
     → IfSome locked.bytes (λ b. held ≡ counted (length b)) → new ≡ record { quota = limit.quota; held = counted (held + missing tail) }
-    → MeasuresAnew locked (Some limit) (Some new)
+    → MeasuresAgain locked (Some limit) (Some new)
 measures locked limit new held tail ends says known is None n counts = absurd (cc)
 measures locked limit new held tail ends says known is (Some quota) n counts =
     let first = starts_at locked tail held ends says known in

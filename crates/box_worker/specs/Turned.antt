@@ -108,8 +108,8 @@ EndsInTurn quota text Failed old new = FromLock (BreaksTurn quota text) old.stat
 EndsInTurn quota text _ old new = ⊥
 
 -- the worker counts again what stands there at the lock
-abbrev pub MeasuresAnew : SpoolState → Option Limit → Option Limit → Type 0
-MeasuresAnew locked old new = (quota : Option ℕ) (n : ℕ) → CountsTo quota n old
+abbrev pub MeasuresAgain : SpoolState → Option Limit → Option Limit → Type 0
+MeasuresAgain locked old new = (quota : Option ℕ) (n : ℕ) → CountsTo quota n old
     → ((start : ℕ) × IfSome quota (λ _. StartsAt locked start) × CountsTo quota start new)
 
 -- a copy in a turn, where the worker has counted what stands there and what mends it

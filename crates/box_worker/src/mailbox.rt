@@ -8,7 +8,7 @@ ghost use Rattle.mbox_record.specs.Mending.{HasNotMended};
 ghost use Rattle.mail_world.specs.Counts.{counted};
 ghost use Rattle.box_worker.specs.Limits.{CountsTo, StartsAt};
 ghost use Rattle.box_worker.specs.Stored.{mailbox_of, HasStored, IsMeasured, TakesCopy, CountsOutcome};
-ghost use Rattle.box_worker.specs.Turned.{MeasuresAnew, DoesInTurn, EndsInTurn, CountsInTurn, TurnsCopy};
+ghost use Rattle.box_worker.specs.Turned.{MeasuresAgain, DoesInTurn, EndsInTurn, CountsInTurn, TurnsCopy};
 
 use crate::limit::Limit;
 use crate::store::{mend_and_store, record_size, store};
@@ -187,7 +187,7 @@ impl<S: Spool> Mailbox<S> {
         ensures same { self.new ≡ record self.old { limit = self.new.limit } }
         ensures counts { held ≡ counted self.old.mailbox.state.held
             → IfSome self.old.mailbox.state.bytes (λ bytes. held ≡ counted (length bytes))
-            → MeasuresAnew self.old.mailbox.state self.old.limit self.new.limit }
+            → MeasuresAgain self.old.mailbox.state self.old.limit self.new.limit }
     {
         if let Some(limit) = self.limit {
             self.limit = Some(Limit::at(limit.quota, held, self.spool.tail()));
