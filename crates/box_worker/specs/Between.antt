@@ -4,8 +4,8 @@ use Rattle.box_worker.specs.declared.worker.Worker.{Worker}
 use Rattle.box_worker.specs.Worked.{WorkerState}
 
 -- what it came to so far: a channel was found gone where a slip was handed back
-abbrev pub state_of : {S G : Type 0} → Worker S G → WorkerState
-state_of worker = record {
+abbrev pub worker_state : {S G : Type 0} → Worker S G → WorkerState
+worker_state worker = record {
   slips = worker.slips;
   mailbox = worker.mailbox.mailbox;
   in_use = worker.mailbox.in_use;

@@ -8,7 +8,7 @@ ghost use Rattle.mail_post.specs.Offered.{HaveNumber};
 ghost use Rattle.box_worker.specs.Limits.{setting_by};
 ghost use Rattle.box_worker.specs.Told.{worker_of};
 ghost use Rattle.box_worker.specs.Worked.{WorkerState, idle, worker_back, IsWorking, HasWorked};
-ghost use Rattle.box_worker.specs.Between.{state_of};
+ghost use Rattle.box_worker.specs.Between.{worker_state};
 
 use crate::gate::Gate;
 use crate::mailbox::Mailbox;
@@ -99,9 +99,9 @@ impl<S: Spool, G: Gate> Worker<S, G> {
         ensures { (quota : Option ℕ) (worker : ℕ) (copies : List Note) (old : WorkerState) (before was : Inbox Note)
             → IsTimed (clock_of self.old.slips was) was receiver.now
             → IsWorking (setting_by host.now quota worker) copies before was old
-            (state_of self.old) self.old.mailbox.limit
+            (worker_state self.old) self.old.mailbox.limit
             → IsWorking (setting_by host.now quota worker) (copies ++ post ∷ []) before receiver.now old
-            (state_of self.new) self.new.mailbox.limit }
+            (worker_state self.new) self.new.mailbox.limit }
     {
         let Parts {
             txn,
@@ -121,7 +121,7 @@ impl<S: Spool, G: Gate> Worker<S, G> {
 
     // What it hands back once nothing more comes.
     fn report<N: DepotName>(self, receiver: Receiver<N>, is_lost: bool) -> WorkerReport<N, S, G>
-        ensures { result ≡ worker_back receiver (state_of self) self.gate is_lost }
+        ensures { result ≡ worker_back receiver (worker_state self) self.gate is_lost }
     {
         let Worker {
             mailbox,

@@ -23,13 +23,13 @@ pub record LaneState : Type 0 where
   pub conversations : ℕ
 
 -- a lane after that many conversations
-abbrev pub state_after : ℕ → VisitsTold → Bool → LaneEnds → LaneState
-state_after n finished over ends = record { finished = finished; over = over; ends = ends; conversations = n }
+abbrev pub lane_state : ℕ → VisitsTold → Bool → LaneEnds → LaneState
+lane_state n finished over ends = record { finished = finished; over = over; ends = ends; conversations = n }
 
 -- lane k before its first conversation
 abbrev pub lane_start : VisitsTold → Bool → ℕ → List (Sender Note) → Inbox Slip → LaneState
 lane_start finished over k senders slips =
-    state_after 0 finished over (record { lane = k; senders = senders; inbox = slips; gone = false })
+    lane_state 0 finished over (record { lane = k; senders = senders; inbox = slips; gone = false })
 
 -- what a lane hands back: the conversations that have ended, whether no client is left, its ends of the channels,
 -- whether one of them was found gone, and how many conversations it held
@@ -43,7 +43,7 @@ pub record LaneBack : Type 0 where
 
 -- lane k after its last conversation
 abbrev pub lane_end : ℕ → LaneBack → LaneState
-lane_end k back = state_after back.conversations back.finished back.over
+lane_end k back = lane_state back.conversations back.finished back.over
     (record { lane = k; senders = back.senders; inbox = back.slips; gone = back.gone })
 
 -- A lane served these clients: each conversation's replies are those to its inputs, the senders gave the mailboxes what

@@ -7,7 +7,7 @@ ghost use Rattle.mail_post.specs.Gathering.{IsDone};
 ghost use Rattle.mail_post.specs.Offered.{HaveNumber, any_gone};
 ghost use Rattle.lmtp_lane.specs.LaneAccount.{AgreesWith, HasOffered};
 ghost use Rattle.lmtp_lane.specs.LaneExchange.{ends_of};
-ghost use Rattle.lmtp_lane.specs.LaneRun.{lane_start, lane_end, state_after, HasServed};
+ghost use Rattle.lmtp_lane.specs.LaneRun.{lane_start, lane_end, lane_state, HasServed};
 ghost use Rattle.lmtp_lane.specs.Visits.{HasConversed};
 
 use crate::clock::Clock;
@@ -98,7 +98,7 @@ fn lane_at<S: LaneStart, N: DepotName, V: Visits, C: Clock, R: Wait>(
     requires clock { AgreesWith (C.May clock.now) S.May }
     requires none_out { V.out visits ≡ false }
     ensures { HasServed (terms S.site bounded.reads) S.May (V.MayGive visits)
-        (state_after 0 (V.finished visits) (V.over visits) S.ends) (lane_end S.ends.lane result) }
+        (lane_state 0 (V.finished visits) (V.over visits) S.ends) (lane_end S.ends.lane result) }
 {
     let BoundedDialogue {
         mut dialogue,
@@ -139,8 +139,8 @@ fn serve_all<'a, N: DepotName, V: Visits, C: Clock, R: Wait, S: LaneStart>(
     requires clock { AgreesWith (C.May delivery.old.clock.now) S.May }
     requires none_out { V.out visits.old ≡ false }
     ensures { HasServed (terms S.site reads) S.May (V.MayGive visits.old)
-        (state_after 0 (V.finished visits.old) (V.over visits.old) S.ends)
-        (state_after result (V.finished visits.new) (V.over visits.new) (ends_of delivery.new.exchange)) }
+        (lane_state 0 (V.finished visits.old) (V.over visits.old) S.ends)
+        (lane_state result (V.finished visits.new) (V.over visits.new) (ends_of delivery.new.exchange)) }
 {
     let mut conversations: u64 = 0;
     for _ in rt.forever() {

@@ -5,7 +5,7 @@ use Rattle.std.specs.Prelude.{slice_get}
 use Rattle.std.specs.List.{AllByRecursion, list_any}
 use Rattle.std.proofs.lemmas.List.{append_assoc, length-map, map-append}
 use Rattle.std.proofs.lemmas.List.Folds.{list_any-append}
-use Rattle.lmtp_threads.specs.Columns.{ColumnsState, no_columns, with_thread, Parts, TakesReport, AreOf}
+use Rattle.lmtp_threads.specs.Columns.{ColumnsState, no_columns, with_thread, ReportParts, TakesReport, HoldReports}
 use Rattle.lmtp_threads.proofs.MovedLists.{neither}
 use Rattle.lmtp_threads.proofs.Pairs.{AllZip-snoc}
 use Rattle.lmtp_threads.proofs.ChannelRows.{at_map}
@@ -36,11 +36,11 @@ pub record IsApart {X Y : Type 0} (part : X → Y) (done : List Y) (room : ℕ) 
   pub fits : length done + length rest ≤ room
   pub whole : done ++ map part rest ≡ map part all
 
-module _ {R A B L T : Type 0} (parts : Parts R A B L T) where
-  of_more : (reports : List R) (report : R) (old new : ColumnsState A B L T) → AreOf parts reports old → TakesReport parts report old new
-      → AreOf parts (reports ++ report ∷ []) new
+module _ {R A B L T : Type 0} (parts : ReportParts R A B L T) where
+  of_more : (reports : List R) (report : R) (old new : ColumnsState A B L T) → HoldReports parts reports old → TakesReport parts report old new
+      → HoldReports parts (reports ++ report ∷ []) new
   of_more reports report old new are takes =
-      let filled : AreOf parts (reports ++ report ∷ [])
+      let filled : HoldReports parts (reports ++ report ∷ [])
       (with_thread old (parts.row report) (parts.inbox report) takes.lent (parts.tally report) (parts.gone report)) = record {
         rows = column_more parts.row reports report old.rows are.rows;
         inboxes = column_more parts.inbox reports report old.inboxes are.inboxes;
@@ -49,13 +49,13 @@ module _ {R A B L T : Type 0} (parts : Parts R A B L T) where
         gone = ap (λ b. b || parts.gone report) are.gone
             ∙ (ap (λ b. list_any parts.gone reports || b) (sym (or_false (parts.gone report))) ∙ sym (list_any-append parts.gone reports (report ∷ [])));
       } in
-      subst (AreOf parts (reports ++ report ∷ [])) (sym takes.is) filled
+      subst (HoldReports parts (reports ++ report ∷ [])) (sym takes.is) filled
 
   -- the columns are of the first reports, and there is room for the rest
   pub record AreFilling (rest all : List R) (columns : ColumnsState A B L T) : Type 0 where
     pub done : List R
     pub whole : done ++ rest ≡ all
-    pub are : AreOf parts done columns
+    pub are : HoldReports parts done columns
     pub fits : length done + length rest ≤ columns.room
 
   pub filling_none : (rest all : List R) (columns : ColumnsState A B L T) → rest ≡ all → columns ≡ no_columns (length all) → AreFilling rest all columns
@@ -79,5 +79,6 @@ module _ {R A B L T : Type 0} (parts : Parts R A B L T) where
       fits = omega (arith, filling.fits, ap length is, length-append filling.done (report ∷ []), ap (λ (c : ColumnsState A B L T). c.room) takes.is);
     }
 
-    pub filling_all : rest ≡ [] → AreOf parts all columns
-    filling_all none = subst (λ l. AreOf parts l columns) (sym (append-nil filling.done) ∙ (ap (λ l. filling.done ++ l) (sym none) ∙ filling.whole)) filling.are
+    pub filling_all : rest ≡ [] → HoldReports parts all columns
+    filling_all none =
+        subst (λ l. HoldReports parts l columns) (sym (append-nil filling.done) ∙ (ap (λ l. filling.done ++ l) (sym none) ∙ filling.whole)) filling.are

@@ -22,7 +22,7 @@ use Rattle.lmtp_lane.specs.LaneRun.{LaneBack, lane_end, HasServed}
 use Rattle.lmtp_lane.specs.Visits.{VisitsTold, conversations_of}
 use Rattle.lmtp_threads.specs.Works.{VisitsView, LaneWork, LaneTold}
 use Rattle.lmtp_threads.specs.Channels.{AreRows, none, HasGiven}
-use Rattle.lmtp_threads.specs.Columns.{Parts, AreOf}
+use Rattle.lmtp_threads.specs.Columns.{ReportParts, HoldReports}
 use Rattle.lmtp_threads.specs.Reports.{LaneColumns, lane_parts}
 use Rattle.lmtp_threads.specs.Tasks.{LaneTask, lane_task, lane_tasks, lane_before, LanesGiven, IsServedLane, HaveServed, TookSlips, LaneDid}
 use Rattle.lmtp_threads.proofs.Pairs.{AllZip-length, picks, picked}
@@ -105,7 +105,7 @@ module _ {V C : Type 0} (May : C → ℕ → Type 0) (view : VisitsView V) where
   abbrev pub LaneOk : LaneTask V C → LaneBack → Type 0
   LaneOk j r = HasServed (terms j.site READ_LIMIT) (May j.clock) (view.MayGive j.visits) (lane_before view j) (lane_end j.lane r)
 
-  abbrev parts : Parts LaneBack (Sender Note) (Inbox Slip) V ℕ
+  abbrev parts : ReportParts LaneBack (Sender Note) (Inbox Slip) V ℕ
   parts = lane_parts view.finished view.over
 
   abbrev lane_done : (j : LaneTask V C) (r : LaneBack) → LaneOk j r → LaneDone
@@ -115,7 +115,7 @@ module _ {V C : Type 0} (May : C → ℕ → Type 0) (view : VisitsView V) where
   idle = record { work = record { visits = []; heard = [] }; deeds = [] }
 
   module _ (site : Site) (clock : C) (channels : List (Channel Note)) (given : LanesGiven V) (reports : List LaneBack)
-      (columns : LaneColumns V) (of : AreOf parts reports columns)
+      (columns : LaneColumns V) (of : HoldReports parts reports columns)
       (inboxes_count : length given.inboxes ≡ length given.visits) (are : AreRows (length given.visits) channels none given.rows)
       (all : AllZip LaneOk (lane_tasks site clock 0 given.visits given.rows given.inboxes) reports)
       (sound : columns.gone ≡ false) where

@@ -19,7 +19,7 @@ use Rattle.mail_post.proofs.Offered.{none_gone}
 use Rattle.lmtp_threads.specs.declared.tally.Tally.{Tally}
 use Rattle.lmtp_threads.specs.Works.{WorkerShare, share_of, setting_of, BoxWork, IsBoxWork}
 use Rattle.lmtp_threads.specs.Channels.{AreRows, none, lane_at, HasLane, HasGiven}
-use Rattle.lmtp_threads.specs.Columns.{Parts, AreOf}
+use Rattle.lmtp_threads.specs.Columns.{ReportParts, HoldReports}
 use Rattle.lmtp_threads.specs.Reports.{WorkerColumns, worker_parts, tally_of}
 use Rattle.lmtp_threads.specs.Tasks.{BoxTask, box_task, box_tasks, WorkersGiven, HaveWorked, TookAllNotes}
 use Rattle.lmtp_threads.proofs.Pairs.{AllZip-length, picks, picked}
@@ -81,14 +81,14 @@ module _ {S G : Type 0} (state : S → SpoolState) where
   abbrev pub BoxOk : BoxTask S → WorkerBack G → Type 0
   BoxOk j r = HasWorked (setting_of j.share (worker_of j.slips)) j.receiver r.receiver (idle j.slips (state j.spool)) r.worker
 
-  abbrev parts : Parts (WorkerBack G) (Sender Slip) (Inbox Note) S Tally
+  abbrev parts : ReportParts (WorkerBack G) (Sender Slip) (Inbox Note) S Tally
   parts = worker_parts state
 
   abbrev box_done : (j : BoxTask S) (r : WorkerBack G) → BoxOk j r → BoxDone
   box_done j r h = record { work = record { taken = taken r.receiver; outcomes = h.handled.outcomes }; deeds = h.turns.deeds }
 
   module _ (site : Site) (channels : List (Channel Slip)) (given : WorkersGiven S) (reports : List (WorkerBack G))
-      (columns : WorkerColumns S) (of : AreOf parts reports columns)
+      (columns : WorkerColumns S) (of : HoldReports parts reports columns)
       (inboxes_count : length given.inboxes ≡ length given.spools) (some : 0 < length channels) (are : AreRows (length given.spools) channels none given.rows)
       (all : AllZip BoxOk (box_tasks (share_of site given.quota) given.inboxes given.rows given.spools) reports)
       (sound : columns.gone ≡ false) where

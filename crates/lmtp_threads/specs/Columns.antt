@@ -34,14 +34,14 @@ module _ {A B L T : Type 0} where
   }
 
 -- which parts of a report R the columns have; of what the thread was lent the report tells something
-pub record Parts (R A B L T : Type 0) : Type 1 where
+pub record ReportParts (R A B L T : Type 0) : Type 1 where
   pub row : R → List A
   pub inbox : R → B
   pub TellsOf : R → L → Type 0
   pub tally : R → T
   pub gone : R → Bool
 
-module _ {R A B L T : Type 0} (parts : Parts R A B L T) where
+module _ {R A B L T : Type 0} (parts : ReportParts R A B L T) where
   -- one more report
   pub record TakesReport (report : R) (old new : ColumnsState A B L T) : Type 0 where
     pub lent : L
@@ -49,7 +49,7 @@ module _ {R A B L T : Type 0} (parts : Parts R A B L T) where
     pub is : new ≡ with_thread old (parts.row report) (parts.inbox report) lent (parts.tally report) (parts.gone report)
 
   -- these are the columns of these reports
-  pub record AreOf (reports : List R) (columns : ColumnsState A B L T) : Type 0 where
+  pub record HoldReports (reports : List R) (columns : ColumnsState A B L T) : Type 0 where
     pub rows : columns.rows ≡ map parts.row reports
     pub inboxes : columns.inboxes ≡ map parts.inbox reports
     pub lent : AllZip parts.TellsOf reports columns.lent

@@ -8,14 +8,15 @@ use Rattle.box_worker.specs.Worked.{WorkerState, WorkerBack}
 use Rattle.lmtp_lane.specs.LaneRun.{LaneBack}
 use Rattle.lmtp_lane.specs.Visits.{VisitsTold}
 use Rattle.lmtp_threads.specs.declared.tally.Tally.{Tally}
-use Rattle.lmtp_threads.specs.Columns.{ColumnsState, Parts}
+use Rattle.lmtp_threads.specs.Columns.{ColumnsState, ReportParts}
 
 -- the columns of lanes that serve clients of one kind
 abbrev pub LaneColumns : Type 0 → Type 0
 LaneColumns V = ColumnsState (Sender Note) (Inbox Slip) V ℕ
 
 -- a lane tells of the clients which conversations have ended, and whether no client is left
-abbrev pub lane_parts : {V : Type 0} → (V → VisitsTold) → (V → Bool) → Parts LaneBack (Sender Note) (Inbox Slip) V ℕ
+abbrev pub lane_parts : {V : Type 0} → (V → VisitsTold) → (V → Bool)
+    → ReportParts LaneBack (Sender Note) (Inbox Slip) V ℕ
 lane_parts finished over = record {
   row = λ report. report.senders;
   inbox = λ report. report.slips;
@@ -40,7 +41,7 @@ tally_of worker = record {
 
 -- a worker tells of the spool what contracts see of it
 abbrev pub worker_parts : {S G : Type 0} → (S → SpoolState)
-    → Parts (WorkerBack G) (Sender Slip) (Inbox Note) S Tally
+    → ReportParts (WorkerBack G) (Sender Slip) (Inbox Note) S Tally
 worker_parts state = record {
   row = λ report. report.worker.slips;
   inbox = λ report. report.receiver;

@@ -4,7 +4,7 @@ ghost use Rattle.std.specs.Prelude.{◌≡◌, ◌<◌, ◌≤◌, [], false, If
 ghost use Rattle.std.specs.List.{AllByRecursion};
 ghost use Rattle.std.specs.Arc.{arc_value};
 ghost use Rattle.lmtp_threads.specs.Grid.{lists};
-ghost use Rattle.lmtp_threads.specs.Columns.{no_columns, TakesReport, AreOf};
+ghost use Rattle.lmtp_threads.specs.Columns.{no_columns, TakesReport, HoldReports};
 ghost use Rattle.lmtp_threads.specs.Reports.{lane_parts};
 ghost use Rattle.lmtp_threads.specs.Works.{visits_view};
 ghost use Rattle.lmtp_threads.specs.Tasks.{lane_task, lane_tasks, lane_before, IsLaneReady, HaveServedAll};
@@ -171,7 +171,7 @@ fn take_lanes<N: DepotName, V: Visits>(
     reports: Vec<LaneReport<N, V>>,
 ) -> LaneColumns<N, V>
     requires { columns ≡ no_columns (vec_len reports) }
-    ensures { AreOf (lane_parts V.finished V.over) reports.items result }
+    ensures { HoldReports (lane_parts V.finished V.over) reports.items result }
 {
     let mut columns = columns;
     for report in reports {

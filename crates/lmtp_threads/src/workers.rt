@@ -8,7 +8,7 @@ ghost use Rattle.box_worker.specs.Told.{worker_of};
 ghost use Rattle.box_worker.specs.Worked.{idle, HasWorked};
 ghost use Rattle.lmtp_threads.specs.Works.{share_of, setting_of};
 ghost use Rattle.lmtp_threads.specs.Grid.{lists, IsRoom};
-ghost use Rattle.lmtp_threads.specs.Columns.{no_columns, TakesReport, AreOf};
+ghost use Rattle.lmtp_threads.specs.Columns.{no_columns, TakesReport, HoldReports};
 ghost use Rattle.lmtp_threads.specs.Reports.{worker_parts};
 ghost use Rattle.lmtp_threads.specs.Tasks.{box_task, box_tasks, IsBoxReady, HaveWorkedAll};
 
@@ -190,7 +190,7 @@ fn take_workers<N: DepotName, S: Spool + Drop, G: Gate + Drop>(
 ) -> WorkerReports<N, S, G>
     requires columns { columns ≡ no_columns (vec_len reports) }
     requires gates { IsRoom (vec_len reports) gates }
-    ensures columns { AreOf (worker_parts S.state) reports.items result.columns }
+    ensures columns { HoldReports (worker_parts S.state) reports.items result.columns }
     ensures gates { result.gates.items ≡ map (λ r. r.gate) reports.items }
 {
     let mut columns = columns;

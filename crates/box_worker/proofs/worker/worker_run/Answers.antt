@@ -5,7 +5,7 @@ use Rattle.mail_post.specs.Channel.{Sender, taken}
 use Rattle.mail_post.specs.declared.channel.Gone.{Gone}
 use Rattle.mail_post.specs.declared.channel.Gone.TheVariants.{Closed, Lost}
 use Rattle.mail_post.specs.Offered.{any_gone}
-use Rattle.box_worker.specs.Between.{state_of}
+use Rattle.box_worker.specs.Between.{worker_state}
 use Rattle.box_worker.specs.Limits.{Setting, setting_by}
 use Rattle.box_worker.specs.Told.{worker_of}
 use Rattle.box_worker.specs.Worked.{WorkerState, WorkerBack, idle, is_lost, HasWorked, IsWorking}
@@ -34,7 +34,7 @@ loop-preserved g c =
     let at : Setting = setting_by c.args.host.now c.args.quota (worker_of c.args.slips.items) in
     let start : WorkerState = idle c.args.slips.items (g.S.Spool.state c.args.spool) in
     let now = c.handle.new.self in
-    let P : List Note → Type 0 = λ copies. IsWorking at copies c.args.receiver c.take_next.new.receiver start (state_of now) now.mailbox.limit in
+    let P : List Note → Type 0 = λ copies. IsWorking at copies c.args.receiver c.take_next.new.receiver start (worker_state now) now.mailbox.limit in
     record {
       channel = c.take_next.ensures.same.0 ∙ c.loop.invariant.channel;
       lanes = c.take_next.ensures.same.1 ∙ c.loop.invariant.lanes;
@@ -53,7 +53,7 @@ returns-in-Err-Lost g c =
     let gone : after.gone ≡ Some Lost = search rules in
     let P : WorkerBack _ → Type 0 = λ back. HasWorked at c.args.receiver back.receiver start back.worker in
     subst P (sym c.report-in-Err-Lost.ensures)
-    (worked at c.args.receiver c.loop.receiver after start (state_of worker) worker.mailbox.limit c.loop.invariant.working (search rules) (search rules)
+    (worked at c.args.receiver c.loop.receiver after start (worker_state worker) worker.mailbox.limit c.loop.invariant.working (search rules) (search rules)
     (search rules) c.in-Err-Lost.ensures.nothing c.in-Err-Lost.ensures.no_time
     (subst IsSome (sym gone) refl) (any_gone worker.slips || true) (ap (λ (w : Option Gone). any_gone worker.slips || is_lost w) (sym gone)))
 
@@ -66,6 +66,6 @@ returns-in-Err-Closed g c =
     let gone : after.gone ≡ Some Closed = search rules in
     let P : WorkerBack _ → Type 0 = λ back. HasWorked at c.args.receiver back.receiver start back.worker in
     subst P (sym c.report.ensures)
-    (worked at c.args.receiver c.loop.receiver after start (state_of worker) worker.mailbox.limit c.loop.invariant.working (search rules) (search rules)
+    (worked at c.args.receiver c.loop.receiver after start (worker_state worker) worker.mailbox.limit c.loop.invariant.working (search rules) (search rules)
     (search rules) c.in-Err-Closed.ensures.nothing c.in-Err-Closed.ensures.no_time
     (subst IsSome (sym gone) refl) (any_gone worker.slips || false) (ap (λ (w : Option Gone). any_gone worker.slips || is_lost w) (sym gone)))

@@ -1,7 +1,7 @@
 use Rattle.std.proofs.Common.{◌≡◌}
 use Rattle.mail_post.specs.Channel.{taken}
 use Rattle.mail_post.specs.InTime.{clock_of}
-use Rattle.box_worker.specs.Between.{state_of}
+use Rattle.box_worker.specs.Between.{worker_state}
 use Rattle.box_worker.specs.Limits.{setting_by}
 use Rattle.box_worker.specs.Told.{worker_of}
 use Rattle.box_worker.specs.Worked.{idle, IsWorking}
@@ -18,5 +18,5 @@ invariant-loop g l = record {
   lanes : l.receiver.lanes ≡ l.fn.receiver.lanes;
   capacity : l.receiver.capacity ≡ l.fn.receiver.capacity;
   working : IsWorking (setting_by l.host l.fn.quota (worker_of l.fn.slips.items)) (taken l.receiver) l.fn.receiver l.receiver
-      (idle l.fn.slips.items (g.S.Spool.state l.fn.spool)) (state_of l.worker) l.worker.mailbox.limit;
+      (idle l.fn.slips.items (g.S.Spool.state l.fn.spool)) (worker_state l.worker) l.worker.mailbox.limit;
 }

@@ -6,7 +6,7 @@ use Rattle.mail_post.specs.Copies.{envelope_of}
 use Rattle.mail_post.specs.InTime.{clock_of}
 use Rattle.mail_post.specs.Offered.{IsOffered, any_gone}
 use Rattle.mbox_record.specs.Envelope.{Envelope, record_text}
-use Rattle.box_worker.specs.Between.{state_of}
+use Rattle.box_worker.specs.Between.{worker_state}
 use Rattle.box_worker.specs.Limits.{Setting, setting_by}
 use Rattle.box_worker.specs.Stored.{TakesCopy}
 use Rattle.box_worker.specs.Turned.{TurnsCopy}
@@ -23,7 +23,7 @@ returns g c quota worker copies old before was timed x =
     let took = c.take-outcome in
     let told = c.tell in
     let at : Setting = setting_by host quota worker in
-    let now : WorkerState = state_of self in
+    let now : WorkerState = worker_state self in
     let parts = c.parts-place in
     let text : record_text civil_at host parts.result.envelope parts.result.hold.bytes ≡ record_of civil_at host c.args.post =
     ap (λ (e : Envelope). record_text civil_at host e parts.result.hold.bytes) parts.ensures.envelope
