@@ -4,6 +4,7 @@ ghost use Rattle.std.specs.Prelude.{◌≡◌, true, IfOk, OnOk, OnErr};
 ghost use Rattle.mbox_file.specs.MailboxFile.{HasRefused};
 ghost use Rattle.mbox_rd.specs.Turn.{HasBegun, HasMissed, HasTried, HasSeen, HasTakenLocks, HasLetGo, HasCutBack};
 
+use mail_world::limits::LOCK_WAIT_LIMIT;
 use mbox_file::{FileEnd, MailboxFile};
 use mbox_record::InUse;
 use std::time::{Clock, Duration};
@@ -18,12 +19,9 @@ const SHORT_PAUSE_MS: u64 = 5;
 
 const PAUSE_MS: u64 = 100;
 
-/// The longest wait for a turn, in seconds.
-pub(crate) const LONGEST_WAIT: u32 = 3_600;
-
-/// How many tries take that many seconds, with a pause between each two.
+/// How many tries take that many seconds, LOCK_WAIT_LIMIT at most, with a pause between each two.
 pub(crate) fn tries_in(seconds: u32) -> u64 {
-    let seconds = seconds.min(LONGEST_WAIT);
+    let seconds = seconds.min(LOCK_WAIT_LIMIT);
     if seconds == 0 {
         return 1;
     }
