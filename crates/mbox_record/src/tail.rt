@@ -137,5 +137,9 @@ fn in_from_line(room: usize, missing: &'static [u8]) -> Tail
 fn first_missing(missing: &'static [u8]) -> &'static [u8]
     ensures { result.now ≡ take missing_most missing.now }
 {
-    &missing[..missing.len().min(MISSING_MOST)]
+    if missing.len() <= MISSING_MOST {
+        missing
+    } else {
+        &missing[..MISSING_MOST]
+    }
 }
