@@ -9,10 +9,11 @@ use Rattle.mail_world.specs.Endings.{F, Fr, Fro, From, Ending, Empty, Begun, InF
 use Rattle.mail_world.specs.Endings.{from_line_room, in_from_line, in_line, next, ending_from, ending, mends, mended}
 use Rattle.mail_world.proofs.Fillings.{IsShort, first_short, after_short}
 
--- what is missing of a From line is short, and has room
+-- what is missing of a From line is short, and has room, which is no more than there is at first
 pub record IsMissing (room : ℕ) (missing : List ℕ) : Type 0 where
   pub short : IsShort 38 missing
   pub fits : length missing ≤ room
+  pub most : room ≤ from_line_room
 
 abbrev pub IsSoundEnd : Ending → Type 0
 IsSoundEnd Empty = ⊤
@@ -30,12 +31,16 @@ sound_line : (b : ℕ) → IsSoundEnd (in_line b)
 sound_line b = sound_pick (b == lf) OneLf InLine tt tt
 
 sound_within : (room : ℕ) (missing : List ℕ) (t : Bool) → nat_le (length missing) room ≡ t → IsShort 38 missing
-    → IsSoundEnd (cond t (InFromLine room missing) InLine)
-sound_within room missing true e h = record { short = h; fits = leb-true (length missing) room e }
-sound_within room missing false e h = tt
+    → room ≤ from_line_room → IsSoundEnd (cond t (InFromLine room missing) InLine)
+sound_within room missing true e h k = record { short = h; fits = leb-true (length missing) room e; most = k }
+sound_within room missing false e h k = tt
 
-sound_from_line : (room : ℕ) (missing : List ℕ) → IsShort 38 missing → IsSoundEnd (in_from_line room missing)
-sound_from_line room missing h = sound_within room missing (nat_le (length missing) room) refl h
+sound_from_line : (room : ℕ) (missing : List ℕ) → IsShort 38 missing → room ≤ from_line_room
+    → IsSoundEnd (in_from_line room missing)
+sound_from_line room missing h k = sound_within room missing (nat_le (length missing) room) refl h k
+
+pub first_sound : IsMissing from_line_room missing_first
+first_sound = record { short = first_short; fits = leb-true 38 from_line_room refl; most = leb-true from_line_room from_line_room refl }
 
 pub sound_next : (e : Ending) (b : ℕ) → IsSoundEnd e → IsSoundEnd (next e b)
 sound_next Empty b h = sound_pick (b == byte "F") (Begun F) (in_line b) tt (sound_line b)
@@ -44,10 +49,11 @@ sound_next (Begun Fr) b h = sound_pick (b == byte "o") (Begun Fro) (in_line b) t
 sound_next (Begun Fro) b h = sound_pick (b == byte "m") (Begun From) (in_line b) tt (sound_line b)
 sound_next (Begun From) b h =
     sound_pick (b == byte " ") (InFromLine from_line_room missing_first) (in_line b)
-    (record { short = first_short; fits = leb-true 38 4089 refl }) (sound_line b)
+    first_sound (sound_line b)
 sound_next (InFromLine room missing) b h =
+    let most = h.most in
     sound_pick (b == lf) OneLf (in_from_line (room - 1) (missing_after missing b)) tt
-    (sound_from_line (room - 1) (missing_after missing b) (after_short missing b h.short))
+    (sound_from_line (room - 1) (missing_after missing b) (after_short missing b h.short) (omega (arith, most)))
 sound_next InLine b h = sound_line b
 sound_next OneLf b h = sound_pick (b == lf) TwoLf InLine tt tt
 sound_next TwoLf b h = sound_pick (b == byte "F") (Begun F) (cond (b == lf) TwoLf InLine) tt (sound_pick (b == lf) TwoLf InLine tt tt)
@@ -77,3 +83,9 @@ mends_few TwoLf h = leb-true 0 44 refl
 
 pub mended_few : (old : List ℕ) → length (mended old) ≤ 44
 mended_few old = mends_few (ending old) (sound old)
+
+-- ---- bytes after bytes
+
+pub ending-append : (e : Ending) (xs ys : List ℕ) → ending_from e (xs ++ ys) ≡ ending_from (ending_from e xs) ys
+ending-append e [] ys = refl
+ending-append e (x ∷ xs) ys = ending-append (next e x) xs ys
