@@ -25,6 +25,7 @@ pub fn torn_mailboxes()
 
     // Within its lines.
     ensures line { IsReadAs (codes "From a\nx") (told ∷ []) }
+    ensures after_a_line { IsReadAs (codes "From a\nx\nF") (record told { body = codes "x\nF\n" } ∷ []) }
     ensures quoted { IsReadAs (codes "From a\nx\n\n>From") (record told { body = codes "x\n\n>From\n" } ∷ []) }
 
     // Where one of its lines begins as a From line does, after an empty one, two letters come of it.

@@ -28,6 +28,7 @@ returns c = record {
   date = bare_after _ _ refl refl;
   filled = bare_after _ _ refl refl;
   line = record { are = (told_is, tt); whole = refl };
+  after_a_line = record { are = (record { head = literal _ refl; body = inr (codes "x\nF", refl) }, tt); whole = refl };
   quoted = record { are = (record { head = literal _ refl; body = inr (codes "x\n\n>From", refl) }, tt); whole = refl };
   begins = record { rest = codes "ed\n\n"; whole = refl };
   two = bare_after _ _ refl refl;
