@@ -6,7 +6,7 @@ use Rattle.std.proofs.lemmas.Bool.Decides.{eqb_tells}
 use Rattle.std.proofs.lemmas.Bool.{eq-eqb, le-leb}
 use Rattle.mail_world.specs.Text.{lf, IsOneLine}
 use Rattle.mail_world.specs.FromLines.{missing_first, missing_after}
-use Rattle.mail_world.specs.Endings.{Part, F, Fr, Fro, From, Ending, Empty, Begun, InFromLine, InLine, OneLf, TwoLf}
+use Rattle.mail_world.specs.Endings.{Part, F, Fr, Fro, From, Ending, Empty, Begun, InFromLine, NoLf, OneLf, TwoLf}
 use Rattle.mail_world.specs.Endings.{from_line_room, in_line, next, ending_from, ending, part_rest, mends, mended}
 use Rattle.mail_world.proofs.OneLine.{one_line-tail, head_byte, literal}
 use Rattle.mail_world.proofs.Endings.{IsMissing, IsSoundEnd, sound_next, sound, ending-append}
@@ -17,7 +17,7 @@ abbrev pub IsInText : Ending → Type 0
 IsInText Empty = ⊥
 IsInText (Begun part) = ⊤
 IsInText (InFromLine room missing) = ⊤
-IsInText InLine = ⊤
+IsInText NoLf = ⊤
 IsInText OneLf = ⊥
 IsInText TwoLf = ⊥
 
@@ -41,7 +41,7 @@ part_whole From more = refl
 byte_is : (b c : ℕ) → (b == c) ≡ true → c ≡ b
 byte_is b c h = elim (eqb_tells b c) [ inl same ↦ sym same.1 | inr other ↦ let not' : (b == c) ≡ false = other.0 in cc ]
 
-stays_in : (b : ℕ) → (b == lf) ≡ false → in_line b ≡ InLine
+stays_in : (b : ℕ) → (b == lf) ≡ false → in_line b ≡ NoLf
 stays_in b h = rw h refl
 
 -- ---- byte by byte
@@ -75,7 +75,7 @@ step (Begun From) c more s h = step_at (Begun From) c more (byte " ") (missing_f
 step (InFromLine room []) c more s h = step_at (InFromLine room []) c more lf (lf ∷ []) refl refl h
 step (InFromLine room (m ∷ missing)) c more s h =
     step_at (InFromLine room (m ∷ missing)) c more m (missing ++ lf ∷ lf ∷ []) refl (from_line_step room m missing s) h
-step InLine c more s h = step_at InLine c more lf (lf ∷ []) refl refl h
+step NoLf c more s h = step_at NoLf c more lf (lf ∷ []) refl refl h
 step OneLf c more s h = step_at OneLf c more lf [] refl refl h
 step TwoLf c more s h = cc
 
@@ -107,7 +107,7 @@ begins_anew (Begun Fro) bytes h = cc
 begins_anew (Begun From) bytes h = cc
 begins_anew (InFromLine room []) bytes h = cc
 begins_anew (InFromLine room (m ∷ missing)) bytes h = cc
-begins_anew InLine bytes h = cc
+begins_anew NoLf bytes h = cc
 begins_anew OneLf bytes h = cc
 begins_anew TwoLf bytes h = refl
 
@@ -135,10 +135,10 @@ next_in (Begun Fro) b h = in_pick (b == byte "m") (Begun From) (in_line b) tt (i
 next_in (Begun From) b h = in_pick (b == byte " ") (InFromLine from_line_room missing_first) (in_line b) tt (in_other b h)
 next_in (InFromLine room missing) b h =
     let after : List ℕ = missing_after missing b in
-    rw h (in_pick (nat_le (length after) (room - 1)) (InFromLine (room - 1) after) InLine tt tt)
-next_in InLine b h = in_other b h
+    rw h (in_pick (nat_le (length after) (room - 1)) (InFromLine (room - 1) after) NoLf tt tt)
+next_in NoLf b h = in_other b h
 next_in OneLf b h = rw h tt
-next_in TwoLf b h = in_pick (b == byte "F") (Begun F) (cond (b == lf) TwoLf InLine) tt (rw h tt)
+next_in TwoLf b h = in_pick (b == byte "F") (Begun F) (cond (b == lf) TwoLf NoLf) tt (rw h tt)
 
 line_in : (e : Ending) (line : List ℕ) → IsOneLine line → IsInText e → IsInText (ending_from e line)
 line_in e [] one h = h
@@ -151,7 +151,7 @@ in_ends (Begun Fr) h = refl
 in_ends (Begun Fro) h = refl
 in_ends (Begun From) h = refl
 in_ends (InFromLine room missing) h = refl
-in_ends InLine h = refl
+in_ends NoLf h = refl
 in_ends OneLf h = absurd h
 in_ends TwoLf h = absurd h
 
@@ -163,14 +163,14 @@ line_after e b line one =
 
 -- ---- a part of a line
 
-stays : (line : List ℕ) → IsOneLine line → ending_from InLine line ≡ InLine
+stays : (line : List ℕ) → IsOneLine line → ending_from NoLf line ≡ NoLf
 stays [] one = refl
 stays (b ∷ line) one = ap (λ e. ending_from e line) (stays_in b (head_byte b line one)) ∙ stays line (one_line-tail b line one)
 
 -- after a line
-pub part_after_line : (b : ℕ) (line : List ℕ) → IsOneLine (b ∷ line) → ending_from OneLf (b ∷ line) ≡ InLine
+pub part_after_line : (b : ℕ) (line : List ℕ) → IsOneLine (b ∷ line) → ending_from OneLf (b ∷ line) ≡ NoLf
 part_after_line b line one =
-    let first : next OneLf b ≡ InLine = rw (head_byte b line one) refl in
+    let first : next OneLf b ≡ NoLf = rw (head_byte b line one) refl in
     ap (λ e. ending_from e line) first ∙ stays line (one_line-tail b line one)
 
 -- after `From ` where a letter may begin: the line is filled up, or too long for that
@@ -178,7 +178,7 @@ abbrev IsAfterWord : Ending → Type 0
 IsAfterWord Empty = ⊥
 IsAfterWord (Begun part) = ⊥
 IsAfterWord (InFromLine room missing) = ⊤
-IsAfterWord InLine = ⊤
+IsAfterWord NoLf = ⊤
 IsAfterWord OneLf = ⊥
 IsAfterWord TwoLf = ⊥
 
@@ -191,8 +191,8 @@ after_next Empty b no_lf h = absurd h
 after_next (Begun part) b no_lf h = absurd h
 after_next (InFromLine room missing) b no_lf h =
     let after : List ℕ = missing_after missing b in
-    rw no_lf (after_pick (nat_le (length after) (room - 1)) (InFromLine (room - 1) after) InLine tt tt)
-after_next InLine b no_lf h = rw no_lf tt
+    rw no_lf (after_pick (nat_le (length after) (room - 1)) (InFromLine (room - 1) after) NoLf tt tt)
+after_next NoLf b no_lf h = rw no_lf tt
 after_next OneLf b no_lf h = absurd h
 after_next TwoLf b no_lf h = absurd h
 
@@ -208,7 +208,7 @@ after_mends : (e : Ending) → IsAfterWord e → IsSoundEnd e → EndsLine (mend
 after_mends Empty h s = absurd h
 after_mends (Begun part) h s = absurd h
 after_mends (InFromLine room missing) h s = (missing, refl, s.short.one)
-after_mends InLine h s = ([], refl, literal [] refl)
+after_mends NoLf h s = ([], refl, literal [] refl)
 after_mends OneLf h s = absurd h
 after_mends TwoLf h s = absurd h
 
@@ -218,7 +218,7 @@ from_line_mended head one =
 
 -- after an empty line
 abbrev pub IsPartEnd : Ending → List ℕ → Type 0
-IsPartEnd e text = (e ≡ InLine) ⊎ (((part : Part) × (e ≡ Begun part) × (part_text part ≡ text)) ⊎ IsFromLine text)
+IsPartEnd e text = (e ≡ NoLf) ⊎ (((part : Part) × (e ≡ Begun part) × (part_text part ≡ text)) ⊎ IsFromLine text)
 
 goes_on : (t : Bool) (line : List ℕ) (part : Part) (b : ℕ) (text text' : List ℕ) → IsOneLine line → (b == lf) ≡ false
     → (t ≡ true → text' ≡ text)
@@ -248,9 +248,9 @@ pub part_after_empty : (b : ℕ) (line : List ℕ) → IsOneLine (b ∷ line) �
 part_after_empty b line one = begin_at (b == byte "F") refl
   where
     begin_at : (t : Bool) → (b == byte "F") ≡ t
-        → IsPartEnd (ending_from (cond t (Begun F) (cond (b == lf) TwoLf InLine)) line) (b ∷ line)
+        → IsPartEnd (ending_from (cond t (Begun F) (cond (b == lf) TwoLf NoLf)) line) (b ∷ line)
     begin_at true e =
         subst (λ c. IsPartEnd (ending_from (Begun F) line) (c ∷ line)) (byte_is b (byte "F") e) (begun_goes_on F line (one_line-tail b line one))
     begin_at false e =
-        let first : cond (b == lf) TwoLf InLine ≡ InLine = rw (head_byte b line one) refl in
+        let first : cond (b == lf) TwoLf NoLf ≡ NoLf = rw (head_byte b line one) refl in
         inl (ap (λ e. ending_from e line) first ∙ stays line (one_line-tail b line one))

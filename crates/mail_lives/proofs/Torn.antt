@@ -9,7 +9,7 @@ use Rattle.mail_world.proofs.OneLine.{one_line-append}
 use Rattle.mail_world.proofs.Places.{begins_with-append}
 use Rattle.mail_world.proofs.OneReading.{lines-each, quoted-each}
 use Rattle.mail_world.specs.FromLines.{missing_first}
-use Rattle.mail_world.specs.Endings.{Part, Empty, Begun, InLine, TwoLf, ending_from, ending, part_rest, mends}
+use Rattle.mail_world.specs.Endings.{Part, Empty, Begun, NoLf, TwoLf, ending_from, ending, part_rest, mends}
 use Rattle.mail_world.proofs.Fillings.{first_short}
 use Rattle.mail_world.proofs.Endings.{ending-append}
 use Rattle.mail_lives.specs.ReadAs.{IsReadAs, with_mended}
@@ -102,7 +102,7 @@ module _ (head : List ℕ) (single : IsOneLine head) where
 
   -- a line more, which isn't ended
   ends_in_line : (ls : List (List ℕ)) (text : List ℕ) → AllByRecursion IsOneLine ls → IsWritten text
-      → ending (opening head ls ++ text) ≡ InLine → Torn (opening head ls ++ text)
+      → ending (opening head ls ++ text) ≡ NoLf → Torn (opening head ls ++ text)
   ends_in_line ls text all w is =
       let more : List (List ℕ) = ls ++ w.line ∷ [] in
       one (opening head ls ++ text) head more single (all_both IsOneLine ls (w.line ∷ []) all (w.one, tt))

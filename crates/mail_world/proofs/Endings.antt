@@ -5,7 +5,7 @@ use Rattle.std.specs.Str.{byte}
 use Rattle.std.proofs.lemmas.Bool.{leb-true}
 use Rattle.mail_world.specs.Text.{lf}
 use Rattle.mail_world.specs.FromLines.{missing_first, missing_after}
-use Rattle.mail_world.specs.Endings.{F, Fr, Fro, From, Ending, Empty, Begun, InFromLine, InLine, OneLf, TwoLf}
+use Rattle.mail_world.specs.Endings.{F, Fr, Fro, From, Ending, Empty, Begun, InFromLine, NoLf, OneLf, TwoLf}
 use Rattle.mail_world.specs.Endings.{from_line_room, in_from_line, in_line, next, ending_from, ending, mends, mended}
 use Rattle.mail_world.proofs.Fillings.{IsShort, first_short, after_short}
 
@@ -19,7 +19,7 @@ abbrev pub IsSoundEnd : Ending → Type 0
 IsSoundEnd Empty = ⊤
 IsSoundEnd (Begun part) = ⊤
 IsSoundEnd (InFromLine room missing) = IsMissing room missing
-IsSoundEnd InLine = ⊤
+IsSoundEnd NoLf = ⊤
 IsSoundEnd OneLf = ⊤
 IsSoundEnd TwoLf = ⊤
 
@@ -28,10 +28,10 @@ sound_pick true e e' h k = h
 sound_pick false e e' h k = k
 
 sound_line : (b : ℕ) → IsSoundEnd (in_line b)
-sound_line b = sound_pick (b == lf) OneLf InLine tt tt
+sound_line b = sound_pick (b == lf) OneLf NoLf tt tt
 
 sound_within : (room : ℕ) (missing : List ℕ) (t : Bool) → nat_le (length missing) room ≡ t → IsShort 38 missing
-    → room ≤ from_line_room → IsSoundEnd (cond t (InFromLine room missing) InLine)
+    → room ≤ from_line_room → IsSoundEnd (cond t (InFromLine room missing) NoLf)
 sound_within room missing true e h k = record { short = h; fits = leb-true (length missing) room e; most = k }
 sound_within room missing false e h k = tt
 
@@ -54,9 +54,9 @@ sound_next (InFromLine room missing) b h =
     let most = h.most in
     sound_pick (b == lf) OneLf (in_from_line (room - 1) (missing_after missing b)) tt
     (sound_from_line (room - 1) (missing_after missing b) (after_short missing b h.short) (omega (arith, most)))
-sound_next InLine b h = sound_line b
-sound_next OneLf b h = sound_pick (b == lf) TwoLf InLine tt tt
-sound_next TwoLf b h = sound_pick (b == byte "F") (Begun F) (cond (b == lf) TwoLf InLine) tt (sound_pick (b == lf) TwoLf InLine tt tt)
+sound_next NoLf b h = sound_line b
+sound_next OneLf b h = sound_pick (b == lf) TwoLf NoLf tt tt
+sound_next TwoLf b h = sound_pick (b == byte "F") (Begun F) (cond (b == lf) TwoLf NoLf) tt (sound_pick (b == lf) TwoLf NoLf tt tt)
 
 pub sound_from : (e : Ending) (bytes : List ℕ) → IsSoundEnd e → IsSoundEnd (ending_from e bytes)
 sound_from e [] h = h
@@ -77,7 +77,7 @@ mends_few (InFromLine room missing) h =
     let len : length (missing ++ lf ∷ lf ∷ []) ≡ length missing + 2 = length-append missing (lf ∷ lf ∷ []) in
     let few = h.short.few in
     omega (arith, len, few)
-mends_few InLine h = leb-true 2 44 refl
+mends_few NoLf h = leb-true 2 44 refl
 mends_few OneLf h = leb-true 1 44 refl
 mends_few TwoLf h = leb-true 0 44 refl
 

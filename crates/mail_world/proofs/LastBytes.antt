@@ -6,7 +6,7 @@ use Rattle.std.proofs.lemmas.Bool.{leb-true, cases_Bool, eqb-true}
 use Rattle.mail_world.specs.declared.limits.TheConstants.{TAIL_SIZE}
 use Rattle.mail_world.specs.Text.{lf, space}
 use Rattle.mail_world.specs.FromLines.{date, missing_first, missing_after}
-use Rattle.mail_world.specs.Endings.{Part, F, Fr, Fro, From, Ending, Empty, Begun, InFromLine, InLine, OneLf, TwoLf}
+use Rattle.mail_world.specs.Endings.{Part, F, Fr, Fro, From, Ending, Empty, Begun, InFromLine, NoLf, OneLf, TwoLf}
 use Rattle.mail_world.specs.Endings.{from_line_room, in_from_line, in_line, next, ending_from, ending}
 use Rattle.mail_world.proofs.Fillings.{IsShort, after_short}
 use Rattle.mail_world.proofs.Endings.{IsMissing, IsSoundEnd, first_sound, sound, ending-append}
@@ -23,7 +23,7 @@ abbrev IsIn : ℕ → Ending → Type 0
 IsIn n Empty = ⊥
 IsIn n (Begun part) = n ≤ most_since part
 IsIn n (InFromLine room missing) = IsMissing room missing × (n + room ≤ 4095)
-IsIn n InLine = ⊤
+IsIn n NoLf = ⊤
 IsIn n OneLf = ⊥
 IsIn n TwoLf = ⊥
 
@@ -35,7 +35,7 @@ in_other : (n b : ℕ) → (b == lf) ≡ false → IsIn n (in_line b)
 in_other n b no_lf = rw no_lf tt
 
 in_within : (n room : ℕ) (missing : List ℕ) (t : Bool) → nat_le (length missing) (room - 1) ≡ t → IsShort 38 missing
-    → room ≤ from_line_room → n + room ≤ 4095 → 1 ≤ room → IsIn (suc n) (cond t (InFromLine (room - 1) missing) InLine)
+    → room ≤ from_line_room → n + room ≤ 4095 → 1 ≤ room → IsIn (suc n) (cond t (InFromLine (room - 1) missing) NoLf)
 in_within n room missing true e short most sum some =
     (record { short = short; fits = leb-true (length missing) (room - 1) e; most = omega (arith, most) }, omega (arith, sum, some))
 in_within n room missing false e short most sum some = tt
@@ -62,7 +62,7 @@ in_next n (Begun From) b no_lf h =
     in_pick (suc n) (b == byte " ") (InFromLine from_line_room missing_first) (in_line b)
     (first_sound, omega (arith, h)) (in_other (suc n) b no_lf)
 in_next n (InFromLine room missing) b no_lf h = rw no_lf (in_from n room missing b h.0 h.1)
-in_next n InLine b no_lf h = in_other (suc n) b no_lf
+in_next n NoLf b no_lf h = in_other (suc n) b no_lf
 in_next n OneLf b no_lf h = absurd h
 in_next n TwoLf b no_lf h = absurd h
 
@@ -76,9 +76,9 @@ in_first n (Begun From) b few no_lf h = in_next n (Begun From) b no_lf (omega (a
 in_first n (InFromLine room missing) b few no_lf h =
     let most = h.most in
     in_next n (InFromLine room missing) b no_lf (h, omega (arith, few, most))
-in_first n InLine b few no_lf h = in_other (suc n) b no_lf
+in_first n NoLf b few no_lf h = in_other (suc n) b no_lf
 in_first n OneLf b few no_lf h = rw no_lf tt
-in_first n TwoLf b few no_lf h = in_pick (suc n) (b == byte "F") (Begun F) (cond (b == lf) TwoLf InLine) (omega (arith, few)) (rw no_lf tt)
+in_first n TwoLf b few no_lf h = in_pick (suc n) (b == byte "F") (Begun F) (cond (b == lf) TwoLf NoLf) (omega (arith, few)) (rw no_lf tt)
 
 in_ends : (n : ℕ) (e : Ending) → IsIn n e → next e lf ≡ OneLf
 in_ends n Empty h = absurd h
@@ -87,30 +87,30 @@ in_ends n (Begun Fr) h = refl
 in_ends n (Begun Fro) h = refl
 in_ends n (Begun From) h = refl
 in_ends n (InFromLine room missing) h = refl
-in_ends n InLine h = refl
+in_ends n NoLf h = refl
 in_ends n OneLf h = absurd h
 in_ends n TwoLf h = absurd h
 
 -- ---- the last bytes of many
 
-in_long : (n : ℕ) (e : Ending) → 4096 ≤ n → IsIn n e → e ≡ InLine
+in_long : (n : ℕ) (e : Ending) → 4096 ≤ n → IsIn n e → e ≡ NoLf
 in_long n Empty many h = absurd h
 in_long n (Begun F) many h = absurd (omega (arith, many, h))
 in_long n (Begun Fr) many h = absurd (omega (arith, many, h))
 in_long n (Begun Fro) many h = absurd (omega (arith, many, h))
 in_long n (Begun From) many h = absurd (omega (arith, many, h))
 in_long n (InFromLine room missing) many h = absurd (let sum = h.1 in omega (arith, many, sum))
-in_long n InLine many h = refl
+in_long n NoLf many h = refl
 in_long n OneLf many h = absurd h
 in_long n TwoLf many h = absurd h
 
-alike : (n : ℕ) (e : Ending) (bytes : List ℕ) → IsIn n e → 4096 ≤ n + length bytes → ending_from e bytes ≡ ending_from InLine bytes
+alike : (n : ℕ) (e : Ending) (bytes : List ℕ) → IsIn n e → 4096 ≤ n + length bytes → ending_from e bytes ≡ ending_from NoLf bytes
 alike n e [] h many = in_long n e (omega (arith, many)) h
 alike n e (b ∷ bytes) h many = elim (cases_Bool (b == lf)) [
-  | inl is ↦ subst (λ c. ending_from (next e c) bytes ≡ ending_from (next InLine c) bytes) (sym (eqb-true b lf is))
+  | inl is ↦ subst (λ c. ending_from (next e c) bytes ≡ ending_from (next NoLf c) bytes) (sym (eqb-true b lf is))
       (ap (λ e. ending_from e bytes) (in_ends n e h))
   | inr no_lf ↦
-      let other : next InLine b ≡ InLine = rw no_lf refl in
+      let other : next NoLf b ≡ NoLf = rw no_lf refl in
       alike (suc n) (next e b) bytes (in_next n e b no_lf h) (omega (arith, many)) ∙ ap (λ e. ending_from e bytes) (sym other)
 ]
 
@@ -120,7 +120,7 @@ alike_after [] many = absurd (omega (arith, many))
 alike_after (b ∷ bytes) many = elim (cases_Bool (b == lf)) [
   | inl is ↦ subst (λ c. ending_from (next TwoLf c) bytes ≡ ending_from (next OneLf c) bytes) (sym (eqb-true b lf is)) refl
   | inr no_lf ↦
-      let other : next OneLf b ≡ InLine = rw no_lf refl in
+      let other : next OneLf b ≡ NoLf = rw no_lf refl in
       alike 2 (next TwoLf b) bytes (in_first 1 TwoLf b (omega arith) no_lf tt) (omega (arith, many))
       ∙ ap (λ e. ending_from e bytes) (sym other)
 ]
@@ -132,21 +132,21 @@ after_lf (Begun Fr) bytes many = refl
 after_lf (Begun Fro) bytes many = refl
 after_lf (Begun From) bytes many = refl
 after_lf (InFromLine room missing) bytes many = refl
-after_lf InLine bytes many = refl
+after_lf NoLf bytes many = refl
 after_lf OneLf bytes many = alike_after bytes many
 after_lf TwoLf bytes many = alike_after bytes many
 
-alike_from : (e : Ending) (last : List ℕ) → IsSoundEnd e → 4096 ≤ length last → ending_from e last ≡ ending_from InLine last
+alike_from : (e : Ending) (last : List ℕ) → IsSoundEnd e → 4096 ≤ length last → ending_from e last ≡ ending_from NoLf last
 alike_from e [] h many = absurd (omega (arith, many))
 alike_from e (b ∷ last) h many = elim (cases_Bool (b == lf)) [
-  | inl is ↦ subst (λ c. ending_from (next e c) last ≡ ending_from (next InLine c) last) (sym (eqb-true b lf is))
+  | inl is ↦ subst (λ c. ending_from (next e c) last ≡ ending_from (next NoLf c) last) (sym (eqb-true b lf is))
       (after_lf e last (omega (arith, many)))
   | inr no_lf ↦
-      let other : next InLine b ≡ InLine = rw no_lf refl in
+      let other : next NoLf b ≡ NoLf = rw no_lf refl in
       alike 1 (next e b) last (in_first 0 e b (omega arith) no_lf h) (omega (arith, many)) ∙ ap (λ e. ending_from e last) (sym other)
 ]
 
-pub last_bytes : (prefix last : List ℕ) → length last ≡ TAIL_SIZE → ending (prefix ++ last) ≡ ending_from InLine last
+pub last_bytes : (prefix last : List ℕ) → length last ≡ TAIL_SIZE → ending (prefix ++ last) ≡ ending_from NoLf last
 last_bytes prefix last len = ending-append Empty prefix last ∙ alike_from (ending prefix) last (sound prefix) (omega (arith, len))
 
 -- ---- the last two
@@ -162,7 +162,7 @@ after_two e b true is h = subst (λ c. next (next e c) lf ≡ TwoLf) (sym (eqb-t
     two (Begun Fro) = refl
     two (Begun From) = refl
     two (InFromLine room missing) = refl
-    two InLine = refl
+    two NoLf = refl
     two OneLf = refl
     two TwoLf = refl
 

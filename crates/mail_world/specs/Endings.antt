@@ -20,7 +20,7 @@ pub data Ending : Type 0 where
   Empty : Ending
   Begun : Part → Ending
   InFromLine : ℕ → List ℕ → Ending
-  InLine : Ending
+  NoLf : Ending
   OneLf : Ending
   TwoLf : Ending
 
@@ -31,10 +31,10 @@ from_line_room = TAIL_SIZE - 7
 
 -- a longer one is a line as any other
 abbrev pub in_from_line : ℕ → List ℕ → Ending
-in_from_line room missing = if nat_le (length missing) room then InFromLine room missing else InLine
+in_from_line room missing = if nat_le (length missing) room then InFromLine room missing else NoLf
 
 abbrev pub in_line : ℕ → Ending
-in_line b = if b == lf then OneLf else InLine
+in_line b = if b == lf then OneLf else NoLf
 
 -- with one byte more
 abbrev pub next_part : Part → ℕ → Ending
@@ -47,9 +47,9 @@ abbrev pub next : Ending → ℕ → Ending
 next Empty b = if b == byte "F" then Begun F else in_line b
 next (Begun part) b = next_part part b
 next (InFromLine room missing) b = if b == lf then OneLf else in_from_line (room - 1) (missing_after missing b)
-next InLine b = in_line b
-next OneLf b = if b == lf then TwoLf else InLine
-next TwoLf b = if b == byte "F" then Begun F else if b == lf then TwoLf else InLine
+next NoLf b = in_line b
+next OneLf b = if b == lf then TwoLf else NoLf
+next TwoLf b = if b == byte "F" then Begun F else if b == lf then TwoLf else NoLf
 
 abbrev pub ending_from : Ending → List ℕ → Ending
 ending_from e [] = e
@@ -72,7 +72,7 @@ abbrev pub mends : Ending → List ℕ
 mends Empty = []
 mends (Begun part) = part_rest part ++ (missing_first ++ lf ∷ lf ∷ [])
 mends (InFromLine room missing) = missing ++ lf ∷ lf ∷ []
-mends InLine = lf ∷ lf ∷ []
+mends NoLf = lf ∷ lf ∷ []
 mends OneLf = lf ∷ []
 mends TwoLf = []
 

@@ -1,5 +1,6 @@
 //! A file at a path, opened or made, and where it ends.
-use mbox_record::{Tail, tail_of};
+use mail_world::limits::TAIL_SIZE;
+use mbox_record::{Tail, tail_of, tail_of_last};
 use std::fs::{File, Files, OpenFile, OpenOptions, Permissions};
 use std::io;
 use std::io::{ErrorKind, Read, Seek, SeekFrom};
@@ -47,16 +48,34 @@ pub struct FileEnd {
     pub tail: Tail,
 }
 
-/// Where a file ends, and how: its last two bytes tell.
+/// Where a file ends, and how: its last two bytes tell, and where the last of them is no LF, the last TAIL_SIZE.
 pub fn end_of_file<F: Read + Seek>(file: &mut F) -> io::Result<FileEnd> {
     let at = file.seek(SeekFrom::End(0))?;
-    let count = at.min(2);
+    let mut room = [0; 2];
+    let last = read_last(file, at, &mut room)?;
+    let tail = match last {
+        [] | [.., b'\n'] => tail_of(last),
+        [..] => torn_tail(file, at)?,
+    };
+    Ok(FileEnd { at, tail })
+}
+
+// How a file of that size ends whose last line has no LF.
+fn torn_tail<F: Read + Seek>(file: &mut F, at: u64) -> io::Result<Tail> {
+    let mut room = [0; TAIL_SIZE];
+    let last = read_last(file, at, &mut room)?;
+    if at <= TAIL_SIZE as u64 {
+        Ok(tail_of(last))
+    } else {
+        Ok(tail_of_last(last))
+    }
+}
+
+// The last bytes of a file of that size, as many as there is room for.
+fn read_last<'a, F: Read + Seek>(file: &mut F, at: u64, room: &'a mut [u8]) -> io::Result<&'a [u8]> {
+    let count = at.min(room.len() as u64);
     file.seek(SeekFrom::Start(at - count))?;
-    let mut last = [0; 2];
-    let last = &mut last[..count as usize];
+    let last = &mut room[..count as usize];
     file.read_exact(last)?;
-    Ok(FileEnd {
-        at,
-        tail: tail_of(last),
-    })
+    Ok(last)
 }

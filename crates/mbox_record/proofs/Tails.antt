@@ -1,6 +1,6 @@
 -- How bytes end with a piece after them: its last line tells.
 use lib.Pointwise.{pointwise}
-use Rattle.std.proofs.Common.{◌≡◌, ◌≢◌, ◌⊎◌, ℕ, zero, suc, ◌+◌, ◌-◌, ◌<◌, ◌≤◌, arith, Bool, true, false, cond, ◌==◌, List, [], ◌∷◌, ◌++◌, length, take, drop}
+use Rattle.std.proofs.Common.{◌≡◌, ℕ, zero, suc, ◌+◌, ◌-◌, ◌<◌, ◌≤◌, arith, Bool, true, false, cond, ◌==◌, List, [], ◌∷◌, ◌++◌, length, take, drop}
 use Rattle.std.proofs.Common.{inl, inr, refl, sym, ap, ◌∙◌, append_assoc}
 use Rattle.std.specs.Prelude.{nat_eq, nat_le, slice_index}
 use Rattle.std.proofs.lemmas.Bool.{or_parts, eqb-true}
@@ -8,7 +8,7 @@ use Rattle.std.proofs.lemmas.Bool.Decides.{eqb_tells, nat_tests}
 use Rattle.std.proofs.lemmas.List.{take_all, drop_more, take-append-drop, length-take, length-drop}
 use Rattle.memchr.specs.Find.{Nowhere, NoneAfter, Passes, is_byte}
 use Rattle.mail_world.specs.Text.{lf, has_byte, ends_in}
-use Rattle.mail_world.specs.Endings.{F, Fr, Fro, From, Ending, Empty, Begun, InFromLine, InLine, OneLf, TwoLf}
+use Rattle.mail_world.specs.Endings.{F, Fr, Fro, From, Ending, Empty, Begun, InFromLine, NoLf, OneLf, TwoLf}
 use Rattle.mail_world.specs.Endings.{from_line_room, in_line, in_from_line, next, ending_from}
 use Rattle.mail_world.specs.FromLines.{missing_first, missing_after}
 use Rattle.mail_world.proofs.Endings.{ending-append}
@@ -17,7 +17,7 @@ use Rattle.mbox_record.specs.Tail.{missing_most}
 -- ---- within a line
 
 -- nothing but an LF leads out of it
-pub stays : (line : List ℕ) → has_byte line lf ≡ false → ending_from InLine line ≡ InLine
+pub stays : (line : List ℕ) → has_byte line lf ≡ false → ending_from NoLf line ≡ NoLf
 stays [] one = refl
 stays (b ∷ line) one =
     let parts = or_parts (b == lf) (has_byte line lf) one in
@@ -34,7 +34,7 @@ abbrev pub ends_line : Ending → Bool
 ends_line Empty = false
 ends_line (Begun part) = false
 ends_line (InFromLine room missing) = false
-ends_line InLine = false
+ends_line NoLf = false
 ends_line OneLf = true
 ends_line TwoLf = true
 
@@ -45,7 +45,7 @@ next_lf (Begun Fr) = refl
 next_lf (Begun Fro) = refl
 next_lf (Begun From) = refl
 next_lf (InFromLine room missing) = refl
-next_lf InLine = refl
+next_lf NoLf = refl
 next_lf OneLf = refl
 next_lf TwoLf = refl
 
@@ -57,7 +57,7 @@ line_goes_on : (b : ℕ) → (b == lf) ≡ false → ends_line (in_line b) ≡ f
 line_goes_on b h = rw h refl
 
 from_line_goes_on : (room : ℕ) (missing : List ℕ) → ends_line (in_from_line room missing) ≡ false
-from_line_goes_on room missing = pick (nat_le (length missing) room) (InFromLine room missing) InLine refl refl
+from_line_goes_on room missing = pick (nat_le (length missing) room) (InFromLine room missing) NoLf refl refl
 
 next_else : (e : Ending) (b : ℕ) → (b == lf) ≡ false → ends_line (next e b) ≡ false
 next_else Empty b h = pick (b == 70) (Begun F) (in_line b) refl (line_goes_on b h)
@@ -65,12 +65,12 @@ next_else (Begun F) b h = pick (b == 114) (Begun Fr) (in_line b) refl (line_goes
 next_else (Begun Fr) b h = pick (b == 111) (Begun Fro) (in_line b) refl (line_goes_on b h)
 next_else (Begun Fro) b h = pick (b == 109) (Begun From) (in_line b) refl (line_goes_on b h)
 next_else (Begun From) b h = pick (b == 32) (in_from_line from_line_room missing_first) (in_line b) (from_line_goes_on from_line_room missing_first) (line_goes_on b h)
-next_else (InFromLine room missing) b h = 
+next_else (InFromLine room missing) b h =
     let after = missing_after missing b in
     ap (λ t. ends_line (cond t OneLf (in_from_line (room - 1) after))) h ∙ from_line_goes_on (room - 1) after
-next_else InLine b h = line_goes_on b h
+next_else NoLf b h = line_goes_on b h
 next_else OneLf b h = rw h refl
-next_else TwoLf b h = pick (b == 70) (Begun F) (cond (b == lf) TwoLf InLine) refl (rw h refl)
+next_else TwoLf b h = pick (b == 70) (Begun F) (cond (b == lf) TwoLf NoLf) refl (rw h refl)
 
 after_lf : (e : Ending) → ends_line (next e lf) ≡ true
 after_lf Empty = refl
@@ -79,7 +79,7 @@ after_lf (Begun Fr) = refl
 after_lf (Begun Fro) = refl
 after_lf (Begun From) = refl
 after_lf (InFromLine room missing) = refl
-after_lf InLine = refl
+after_lf NoLf = refl
 after_lf OneLf = refl
 after_lf TwoLf = refl
 

@@ -2,7 +2,7 @@
 use Rattle.std.specs.Prelude.{ℕ, take}
 use Rattle.mbox_record.specs.declared.tail.Tail.{Tail}
 use Rattle.mbox_record.specs.declared.tail.Tail.TheVariants as tail
-use Rattle.mail_world.specs.Endings.{F, Fr, Fro, From, Ending, Empty, Begun, InFromLine, InLine, OneLf, TwoLf}
+use Rattle.mail_world.specs.Endings.{F, Fr, Fro, From, Ending, Empty, Begun, InFromLine, NoLf, OneLf, TwoLf}
 
 -- more than this is missing of no From line
 abbrev pub missing_most : ℕ
@@ -16,6 +16,6 @@ ending_of tail.Fr = Begun Fr
 ending_of tail.Fro = Begun Fro
 ending_of tail.From = Begun From
 ending_of (tail.InFromLine room missing) = InFromLine room (take missing_most missing.now)
-ending_of tail.NoLf = InLine
+ending_of tail.NoLf = NoLf
 ending_of tail.OneLf = OneLf
 ending_of tail.TwoLf = TwoLf

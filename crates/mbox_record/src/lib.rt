@@ -28,4 +28,4 @@ pub use mending::mend;
 pub use reading::{BadMailbox, read_mailbox};
 pub use record::RecordWriter;
 pub use spool::{InUse, Spool, SpoolFault};
-pub use tail::{Tail, tail_after, tail_of, what_mends};
+pub use tail::{Tail, tail_after, tail_of, tail_of_last, what_mends};

@@ -1,5 +1,6 @@
 //! How the bytes of a mailbox end, and what mends them.
-ghost use Rattle.std.specs.Prelude.{◌≡◌, ◌≤◌, [], ◌∷◌, ◌++◌, length, take, false};
+ghost use Rattle.std.specs.Prelude.{◌≡◌, ◌≤◌, ℕ, List, [], ◌∷◌, ◌++◌, length, take, false};
+ghost use Rattle.mail_world.specs.declared.limits.TheConstants.{TAIL_SIZE};
 ghost use Rattle.mail_world.specs.Text.{lf, has_byte};
 ghost use Rattle.mail_world.specs.Endings.{in_from_line, next, ending, ending_from, mends};
 ghost use Rattle.mbox_record.specs.Tail.{ending_of, missing_most};
@@ -45,6 +46,14 @@ pub fn tail_of(bytes: &[u8]) -> Tail
     ensures { ending_of result ≡ ending bytes.now }
 {
     tail_after(Tail::Empty, bytes)
+}
+
+/// How bytes end of which these are the last TAIL_SIZE, whatever stands before them.
+#[tactic(auto, using(mail_world::proofs::LastBytes::last_bytes))]
+pub fn tail_of_last(last: &[u8]) -> Tail
+    ensures { length last.now ≡ TAIL_SIZE → (before : List ℕ) → ending_of result ≡ ending (before ++ last.now) }
+{
+    tail_after(Tail::NoLf, last)
 }
 
 /// How bytes that end so end with the piece after them. It reads the piece's last line alone.

@@ -1,5 +1,5 @@
 use Rattle.std.proofs.Common.{sym, ap, ◌∙◌}
-use Rattle.mail_world.specs.Endings.{Ending, ending_from}
+use Rattle.mail_world.specs.Endings.{ending_from}
 use Rattle.mbox_record.specs.Tail.{ending_of}
 use Rattle.mbox_record.proofs.Tails.{stays}
 use Rattle.mbox_record.proofs.tail.within_line.Goals as goal
