@@ -1,4 +1,8 @@
 //! A file at a path, opened or made, and where it ends.
+ghost use Rattle.std.specs.Prelude.{◌≡◌, IfOk, length, min};
+ghost use Rattle.mail_world.specs.Endings.{Empty};
+ghost use Rattle.mbox_record.specs.Tail.{ending_of};
+
 use mail_world::limits::TAIL_SIZE;
 use mbox_record::{Tail, tail_of, tail_of_last};
 use std::fs::{File, Files, OpenFile, OpenOptions, Permissions};
@@ -49,7 +53,9 @@ pub struct FileEnd {
 }
 
 /// Where a file ends, and how: its last two bytes tell, and where the last of them is no LF, the last TAIL_SIZE.
-pub fn end_of_file<F: Read + Seek>(file: &mut F) -> io::Result<FileEnd> {
+pub fn end_of_file<F: Read + Seek>(file: &mut F) -> io::Result<FileEnd>
+    ensures empty { IfOk result (λ end. end.at ≡ 0 → ending_of end.tail ≡ Empty) }
+{
     let at = file.seek(SeekFrom::End(0))?;
     let mut room = [0; 2];
     let last = read_last(file, at, &mut room)?;
@@ -72,7 +78,13 @@ fn torn_tail<F: Read + Seek>(file: &mut F, at: u64) -> io::Result<Tail> {
 }
 
 // The last bytes of a file of that size, as many as there is room for.
-fn read_last<'a, F: Read + Seek>(file: &mut F, at: u64, room: &'a mut [u8]) -> io::Result<&'a [u8]> {
+fn read_last<'a, F: Read + Seek>(
+    file: &mut F,
+    at: u64,
+    room: &'a mut [u8],
+) -> io::Result<&'a [u8]>
+    ensures { IfOk result (λ last. length last.now ≡ min at (length room.old)) }
+{
     let count = at.min(room.len() as u64);
     file.seek(SeekFrom::Start(at - count))?;
     let last = &mut room[..count as usize];
