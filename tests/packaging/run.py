@@ -81,7 +81,7 @@ def check_install(folder):
     assert gzip.decompress((folder / "usr/share/man/man8/lmtpd.8.gz").read_bytes()).decode() == PAGE
     unit = (folder / "usr/lib/systemd/system/lmtpd.service").read_text()
     assert "ExecStart=/usr/sbin/lmtpd serve " in unit, unit
-    for words in ["--listen inherited", "--stop-file /run/lmtpd/stop", "--heal", "--log info"]:
+    for words in ["--listen inherited", "--stop-file /run/lmtpd/stop", "--heal", "--start-anyway", "--log info"]:
         assert f" {words} " in unit, words
     socket = (folder / "usr/lib/systemd/system/lmtpd.socket").read_text().splitlines()
     for line in ["ListenStream=/var/spool/postfix/private/lmtpd", "SocketUser=postfix", "SocketMode=0600"]:
