@@ -8,7 +8,7 @@ use crate::plain::{Node, OpenNode, is_plain, node_of, open_plain, system_fault};
 use crate::range_lock::{LockKind, RangeLock};
 use crate::stale::{is_stale, owner_text};
 use mbox_record::InUse;
-use std::alloc::Global;
+use std::alloc::{AllocError, Global};
 use std::fs::{FileTimes, Files, Metadata, OpenFile, OpenOptions};
 use std::io::{ErrorKind, Write};
 use std::os::unix::fs::{MetadataExt, OpenOptionsExt};
@@ -18,12 +18,13 @@ use std::{fs, io};
 /// Others read in a lock file whose it is.
 const LOCK_MODE: u32 = 0o644;
 
-/// A mailbox's file that is open, and its lock file `PATH.lock`. It tells contracts nothing.
+/// A mailbox's file that is open, or that could not be opened yet, and its lock file `PATH.lock`. It tells contracts
+/// nothing.
 pub struct StdMailboxFile<R: Files + Clock + Drop> {
     rt: R,
     path: String,
     mode: u32,
-    open: OpenNode<R::File>,
+    open: Option<OpenNode<R::File>>,
     lock_path: String,
     owner: String,
     source_path: String,
@@ -78,20 +79,46 @@ where
     /// that holds it is synced. Neither lock is held, and a lock file that was left behind is gone. An error says why
     /// it can't be used, of `ErrorKind::OutOfMemory` where memory is lacking.
     pub fn open(rt: R, alloc: Global, path: &str, mode: u32) -> io::Result<StdMailboxFile<R>> {
-        let mut file = StdMailboxFile {
+        let mut file = StdMailboxFile::unopened(rt, alloc, path, mode)?;
+        file.reopen().map_err(error_of)?;
+        let _ = file.remove_stale();
+        Ok(file)
+    }
+
+    /// The file at that path, of which nothing is touched before the first turn: each turn tries to open it, as `open`
+    /// does, until one can.
+    pub fn unopened(
+        rt: R,
+        alloc: Global,
+        path: &str,
+        mode: u32,
+    ) -> Result<StdMailboxFile<R>, AllocError> {
+        Ok(StdMailboxFile {
             path: format!(in alloc; "{path}")?,
             mode,
-            open: open_plain(&rt, path, mode).map_err(error_of)?,
+            open: None,
             lock_path: format!(in alloc; "{path}.lock")?,
             owner: owner_text(alloc)?,
             source_path: format!(in alloc; "{path}.source.lock")?,
             source: None,
             lock_file: Held::No,
             rt,
-        };
-        let _ = file.remove_stale();
-        file.source = file.make_source().ok();
-        Ok(file)
+        })
+    }
+
+    fn open_node(&self) -> Option<Node> {
+        match &self.open {
+            Some(open) => Some(open.node),
+            None => None,
+        }
+    }
+
+    // The open file. No call asks for it before one was opened.
+    fn opened(&mut self) -> io::Result<&mut R::File> {
+        match &mut self.open {
+            Some(open) => Ok(&mut open.file),
+            None => Err(io::Error::from_raw_os_error(libc::EBADF)),
+        }
     }
 
     // Makes the file that lock files are linked from. One that was left behind goes; where a server has one there is
@@ -280,7 +307,11 @@ where
     }
 
     fn try_range_lock(&mut self) -> Result<(), InUse> {
-        match self.open.file.try_lock_bytes(LockKind::Exclusive) {
+        let Some(open) = &self.open else {
+            // a look at what the path names is next, which opens it
+            return Ok(());
+        };
+        match open.file.try_lock_bytes(LockKind::Exclusive) {
             Ok(()) => Ok(()),
             Err(error) if error.kind() == ErrorKind::WouldBlock => Err(InUse::Locked),
             Err(error) => Err(system_fault(error)),
@@ -288,33 +319,40 @@ where
     }
 
     fn unlock_range(&mut self) {
-        let _ = self.open.file.unlock_bytes();
+        if let Some(open) = &self.open {
+            let _ = open.file.unlock_bytes();
+        }
     }
 
     fn is_named(&mut self) -> Result<bool, InUse> {
         match fs::symlink_metadata(&self.rt, self.path.as_str()) {
             Ok(found) if !is_plain(&found) => Err(InUse::NotPlain),
-            Ok(found) => Ok(node_of(&found) == self.open.node),
+            Ok(found) => Ok(Some(node_of(&found)) == self.open_node()),
             Err(error) if error.kind() == ErrorKind::NotFound => Ok(false),
             Err(error) => Err(system_fault(error)),
         }
     }
 
     fn reopen(&mut self) -> Result<(), InUse> {
-        self.open = open_plain(&self.rt, self.path.as_str(), self.mode)?;
+        let is_first = self.open.is_none();
+        self.open = Some(open_plain(&self.rt, self.path.as_str(), self.mode)?);
+        if is_first {
+            self.source = self.make_source().ok();
+        }
         Ok(())
     }
 
     fn end(&mut self) -> Result<FileEnd, InUse> {
-        end_of_file(&mut self.open.file).map_err(system_fault)
+        let file = self.opened().map_err(system_fault)?;
+        end_of_file(file).map_err(system_fault)
     }
 
     fn write(&mut self, bytes: &[u8]) -> io::Result<()> {
-        self.open.file.write_all(bytes)
+        self.opened()?.write_all(bytes)
     }
 
     fn keep(&mut self) -> io::Result<()> {
-        self.open.file.sync_data()
+        self.opened()?.sync_data()
     }
 
     /// Only while the lock file is its own: another program that took it for left behind may have written since.
@@ -322,6 +360,6 @@ where
         if !self.owns_lock_file()? {
             return Err(io::Error::from(ErrorKind::ResourceBusy));
         }
-        self.open.file.set_len(size)
+        self.opened()?.set_len(size)
     }
 }
