@@ -15,6 +15,22 @@ pub const OWNER_ONLY: u32 = 0o600;
 
 /// Opens the file at that path, or makes it with these permission bits, and has the folder that holds it synced.
 pub fn open_or_make<R: Files>(rt: &R, path: &str, mode: u32) -> io::Result<R::File> {
+    let opened = open_or_new(rt, path, mode)?;
+    if opened.is_new {
+        sync_folder(rt, path)?;
+    }
+    Ok(opened.file)
+}
+
+/// A file, and whether it was made.
+#[derive(Drop)]
+pub(crate) struct Opened<F: Drop> {
+    pub file: F,
+    pub is_new: bool,
+}
+
+/// Opens the file at that path, or makes it with these permission bits.
+pub(crate) fn open_or_new<R: Files>(rt: &R, path: &str, mode: u32) -> io::Result<Opened<R::File>> {
     let made = OpenOptions::new()
         .read(true)
         .append(true)
@@ -27,14 +43,19 @@ pub fn open_or_make<R: Files>(rt: &R, path: &str, mode: u32) -> io::Result<R::Fi
                 // what the process's mask took away
                 file.set_permissions(Permissions::from_mode(mode))?;
             }
-            File::open(rt, folder_of(path))?.sync_all()?;
-            Ok(file)
+            Ok(Opened { file, is_new: true })
         }
-        Err(error) if error.kind() == ErrorKind::AlreadyExists => {
-            OpenOptions::new().read(true).append(true).open(rt, path)
-        }
+        Err(error) if error.kind() == ErrorKind::AlreadyExists => Ok(Opened {
+            file: OpenOptions::new().read(true).append(true).open(rt, path)?,
+            is_new: false,
+        }),
         Err(error) => Err(error),
     }
+}
+
+/// Has the entries of the folder that holds that path kept through a crash.
+pub(crate) fn sync_folder<R: Files>(rt: &R, path: &str) -> io::Result<()> {
+    File::open(rt, folder_of(path))?.sync_all()
 }
 
 fn folder_of(path: &str) -> &str {

@@ -2,7 +2,7 @@
 //!
 //! A lock file is linked from one that is made at the start and stays, `PATH.source.lock`: to make a file and write to
 //! it for each turn takes ten times as long. Where there can be no link it is made.
-use crate::file::{FileEnd, end_of_file};
+use crate::file::{FileEnd, end_of_file, sync_folder};
 use crate::mailbox_file::MailboxFile;
 use crate::plain::{Node, OpenNode, is_plain, node_of, open_plain, system_fault};
 use crate::range_lock::{LockKind, RangeLock};
@@ -25,6 +25,8 @@ pub struct StdMailboxFile<R: Files + Clock + Drop> {
     path: String,
     mode: u32,
     open: Option<OpenNode<R::File>>,
+    // the folder was synced since this file is the open one
+    is_folder_synced: bool,
     lock_path: String,
     owner: String,
     source_path: String,
@@ -40,14 +42,15 @@ impl<R: Files + Clock + Drop> Drop for StdMailboxFile<R> {
             path: _,
             mode: _,
             open: _,
+            is_folder_synced: _,
             lock_path: _,
             owner: _,
             source_path,
             source,
             lock_file: _,
         } = self;
-        if source.is_some() {
-            let _ = fs::remove_file(&rt, source_path.as_str());
+        if let Some(source) = source {
+            let _ = remove_node(&rt, source_path.as_str(), source.node);
         }
     }
 }
@@ -75,9 +78,9 @@ impl<R: Files + Clock + Drop> StdMailboxFile<R>
 where
     R::File: RangeLock,
 {
-    /// Opens the plain file at that path. Where it is missing it is made with these permission bits, and the folder
-    /// that holds it is synced. Neither lock is held, and a lock file that was left behind is gone. An error says why
-    /// it can't be used, of `ErrorKind::OutOfMemory` where memory is lacking.
+    /// Opens the plain file at that path. Where it is missing it is made with these permission bits. Neither lock is
+    /// held, and a lock file that was left behind is gone. An error says why it can't be used, of
+    /// `ErrorKind::OutOfMemory` where memory is lacking.
     pub fn open(rt: R, alloc: Global, path: &str, mode: u32) -> io::Result<StdMailboxFile<R>> {
         let mut file = StdMailboxFile::unopened(rt, alloc, path, mode)?;
         file.reopen().map_err(error_of)?;
@@ -97,6 +100,7 @@ where
             path: format!(in alloc; "{path}")?,
             mode,
             open: None,
+            is_folder_synced: false,
             lock_path: format!(in alloc; "{path}.lock")?,
             owner: owner_text(alloc)?,
             source_path: format!(in alloc; "{path}.source.lock")?,
@@ -126,7 +130,7 @@ where
     fn make_source(&self) -> io::Result<OpenNode<R::File>> {
         match fs::symlink_metadata(&self.rt, self.source_path.as_str()) {
             Ok(found) if self.is_left(self.source_path.as_str(), &found) => {
-                fs::remove_file(&self.rt, self.source_path.as_str())?;
+                remove_node(&self.rt, self.source_path.as_str(), node_of(&found))?;
             }
             _ => {}
         }
@@ -154,7 +158,7 @@ where
         match made {
             Ok(node) => Ok(OpenNode { file, node }),
             Err(error) => {
-                let _ = fs::remove_file(&self.rt, path);
+                remove_open(&self.rt, path, &file);
                 Err(error)
             }
         }
@@ -174,12 +178,18 @@ where
             }
             Ok(()) => {
                 // another server's source stands in the place of this one's
-                let _ = fs::remove_file(&self.rt, self.lock_path.as_str());
+                let _ = self.remove_link();
                 None
             }
             Err(error) if error.kind() == ErrorKind::AlreadyExists => Some(false),
             Err(_) => None,
         }
+    }
+
+    // Removes the lock file where it is still what it was linked from: what the path of the source names.
+    fn remove_link(&self) -> io::Result<()> {
+        let linked = fs::symlink_metadata(&self.rt, self.source_path.as_str())?;
+        remove_node(&self.rt, self.lock_path.as_str(), node_of(&linked))
     }
 
     // Makes the lock file, unless there is one.
@@ -209,13 +219,19 @@ where
 
     // Removes the lock file, if one was made and it is still that one. Where that fails it is tried again later.
     fn remove_own(&mut self) -> io::Result<()> {
-        if self.lock_file.node().is_none() {
-            return Ok(());
+        if let Some(node) = self.lock_file.node() {
+            remove_node(&self.rt, self.lock_path.as_str(), node)?;
+            self.lock_file = Held::No;
         }
-        if self.owns_lock_file()? {
-            fs::remove_file(&self.rt, self.lock_path.as_str())?;
+        Ok(())
+    }
+
+    // Has the folder keep its entry for the open file through a crash. It need not be done again for that file.
+    fn sync_folder(&mut self) -> io::Result<()> {
+        if !self.is_folder_synced {
+            sync_folder(&self.rt, self.path.as_str())?;
+            self.is_folder_synced = true;
         }
-        self.lock_file = Held::No;
         Ok(())
     }
 
@@ -263,6 +279,23 @@ fn has_two_names<F: OpenFile>(file: &F) -> bool {
     match file.metadata() {
         Ok(metadata) => metadata.nlink() == 2,
         Err(_) => false,
+    }
+}
+
+// Removes what the path names, if it is still that file.
+fn remove_node<R: Files>(rt: &R, path: &str, node: Node) -> io::Result<()> {
+    match fs::symlink_metadata(rt, path) {
+        Ok(found) if node_of(&found) == node => fs::remove_file(rt, path),
+        Ok(_) => Ok(()),
+        Err(error) if error.kind() == ErrorKind::NotFound => Ok(()),
+        Err(error) => Err(error),
+    }
+}
+
+// Removes what the path names, if it is still the open file.
+fn remove_open<R: Files>(rt: &R, path: &str, file: &R::File) {
+    if let Ok(metadata) = file.metadata() {
+        let _ = remove_node(rt, path, node_of(&metadata));
     }
 }
 
@@ -334,15 +367,21 @@ where
     }
 
     fn reopen(&mut self) -> Result<(), InUse> {
+        let named = open_plain(&self.rt, self.path.as_str(), self.mode)?;
+        // it is compared while both are open, since a closed file's number may be given again
+        let is_same = self.open_node() == Some(named.node);
         let is_first = self.open.is_none();
-        self.open = Some(open_plain(&self.rt, self.path.as_str(), self.mode)?);
+        self.is_folder_synced = self.is_folder_synced && is_same;
+        self.open = Some(named);
         if is_first {
             self.source = self.make_source().ok();
         }
         Ok(())
     }
 
+    /// Of a file whose entry the folder keeps through a crash.
     fn end(&mut self) -> Result<FileEnd, InUse> {
+        self.sync_folder().map_err(system_fault)?;
         let file = self.opened().map_err(system_fault)?;
         end_of_file(file).map_err(system_fault)
     }
