@@ -1,12 +1,14 @@
-"""What the cases share in which users read and delete while clients deliver: numbered letters, and what became of each.
+"""What the cases share in which users read and delete while clients deliver to the installed service: numbered letters,
+and what became of each.
 
-Each letter is for one of the readers, who alone deletes it. A reader says which letters it deleted once it has seen
-that it did: what it only asked for may have failed.
+Each letter is for one of the readers, who alone deletes it, or for nobody, so that it stays. A reader says which
+letters it deleted once it has seen that it did: what it only asked for may have failed.
 """
 
 import collections
 import contextlib
 import fcntl
+import math
 import os
 import pathlib
 import re
@@ -16,14 +18,14 @@ import time
 
 from cases import equal
 from clients import Client
-from failing import environment
-from packages import need_root
 from replies import not_stored, stored
-from server import Server, run
+from server import run
+from service import FOLDER, LMTPD, Service
 
 CLIENTS = 4
 SECONDS = float(os.environ.get("READERS_SECONDS", "60"))
-MAIL = {"user": "mail", "group": "mail", "extra_groups": []}
+# One letter of so many is for nobody, and how long a client waits after 451, in seconds.
+NOBODYS, REST = 16, 0.25
 SUBJECT = re.compile(rb"^Subject: (for-\w+ \d+-\d+)$", re.MULTILINE)
 # Dovecot keeps its own data in such a letter, where the first of a mailbox goes.
 OF_DOVECOT = b"Subject: DON'T DELETE THIS MESSAGE -- FOLDER INTERNAL DATA\n"
@@ -39,16 +41,14 @@ def body_of(subject):
 
 
 class Beside:
-    """A server for one mailbox, by whom it is told, and what was told and deleted."""
+    """A service for one mailbox, by whom it is told, and what was told and deleted."""
 
-    def __init__(self, folder, *more, how=MAIL):
-        need_root()
+    def __init__(self, folder, *more, how=LMTPD):
+        """Readers run as `how` says."""
         folder.chmod(0o755)
         self.folder, self.how, self.more = folder, how, more
         self.home = self.made(folder / "home")
-        self.path = self.made(folder / "spool") / "anna.mbox"
-        # whoever the server runs as, it may read its program
-        self.program = shutil.copy(os.environ["LMTPD"], folder / "lmtpd")
+        self.path = FOLDER / "anna.mbox"
         self.told, self.refused, self.deleted = [], [], collections.Counter()
         self.deleted_by = collections.Counter()
         # by reader: what it saved of the letters that it deleted and isn't theirs
@@ -60,25 +60,24 @@ class Beside:
 
     def made(self, place):
         place.mkdir()
-        if self.how:
-            shutil.chown(place, self.how["user"], self.how["group"])
+        shutil.chown(place, self.how["user"], self.how["group"])
         return place
 
-    def server(self, connections, *more):
-        with environment({"LMTPD": str(self.program)}):
-            return Server(self.path.parent, ["anna"], connections, *self.more, *more, **self.how)
+    def service(self, lanes):
+        return Service(["anna"], "--lanes", lanes, "--timeout", 120, *self.more)
 
-    def run(self, readers, clients=CLIENTS, seconds=SECONDS):
-        """Delivers for that long beside the readers, each a function of a name, and gives how the server ended."""
-        with self.server(clients, "--lanes", clients, "--timeout", 120) as server:
+    def run(self, readers, clients=CLIENTS, seconds=SECONDS, letters=math.inf):
+        """Delivers for that long, or so many letters, beside the readers, each a function of a name, and gives how the
+        service ended, which never began again meanwhile."""
+        with self.service(clients) as service:
             until = time.monotonic() + seconds
-            jobs = [threading.Thread(target=self.guard, args=(self.read, who, reads)) for who, reads in readers.items()]
-            loads = [
-                threading.Thread(target=self.guard, args=(self.deliver, server.address, number, list(readers), until))
-                for number in range(clients)
-            ]
-            for thread in [*jobs, *loads]:
-                thread.start()
+
+            def is_over():
+                return self.stop.is_set() or time.monotonic() > until or len(self.told) >= letters
+
+            names, address = list(readers), service.address
+            jobs = [self.begin(self.read, who, reads) for who, reads in readers.items()]
+            loads = [self.begin(self.deliver, address, number, names, is_over) for number in range(clients)]
             for load in loads:
                 load.join()
             self.stop.set()
@@ -86,7 +85,13 @@ class Beside:
                 job.join()
             if self.faults:
                 raise self.faults[0]
-            return server.end()
+            equal(service.restarts(), 0)
+            return service.end()
+
+    def begin(self, *given):
+        thread = threading.Thread(target=self.guard, args=given)
+        thread.start()
+        return thread
 
     def guard(self, function, *given):
         try:
@@ -103,18 +108,22 @@ class Beside:
         self.deleted.update(subjects)
         self.deleted_by[who] += len(subjects)
 
-    def deliver(self, address, number, readers, until):
+    def deliver(self, address, number, readers, is_over):
         with Client(address) as client:
             client.socket.settimeout(120)
             client.greet()
             count = 0
-            while time.monotonic() < until and not self.stop.is_set():
-                subject = f"for-{readers[(count + number) % len(readers)]} {number}-{count}"
+            while not is_over():
+                whose = readers[(count + number) % len(readers)] if (count + number) % NOBODYS else "nobody"
+                subject = f"for-{whose} {number}-{count}"
                 lines = [f"Subject: {subject}", "From: <carl@a.example>", "", *body_of(subject)]
                 [final] = client.deliver_at_once(["anna"], *lines)[1]
                 assert final in [stored("anna"), not_stored("anna")], final
-                (self.told if final.startswith("250 ") else self.refused).append(subject)
+                is_stored = final == stored("anna")
+                (self.told if is_stored else self.refused).append(subject)
                 count += 1
+                if not is_stored:
+                    time.sleep(REST)
             client.quit()
 
     def look(self, asked):
@@ -127,7 +136,7 @@ class Beside:
     def judge(self, ended, idle=(), may_be_idle=()):
         """Each letter that was told 250 is there once and whole, or was deleted once, and none that wasn't told; each
         reader has deleted some, but those that are idle. Of letters that a reader misread it can't say that it deleted
-        them: as many of its own may be missing."""
+        them: as many of its own may be missing. Of those that are for nobody each is there."""
         found, torn = letters_of(self.path.read_bytes())
         told = collections.Counter(self.told)
         here = collections.Counter(found)
@@ -139,7 +148,8 @@ class Beside:
         back = [one for one in here if self.deleted[one] > 0]
         stray = [one for one in here | self.deleted if one not in told]
         each = ", ".join(f"{who} {count}" for who, count in sorted(self.deleted_by.items()))
-        print(f"told {len(told)}, refused {len(self.refused)}, still there {len(found)}, deleted by {each};", end=" ")
+        print(f"told {len(told)}, {count_of(told, 'nobody')} of them for nobody, refused {len(self.refused)},", end=" ")
+        print(f"still there {len(found)}, deleted by {each};", end=" ")
         faults = {"lost": lost, "doubled": doubled, "torn": torn, "back": back, "stray": stray}
         print(", ".join(f"{fault} {len(letters)}" for fault, letters in faults.items()), end="; ")
         print(*(f"{who} misread {count}, {count_of(missing, who)} missing" for who, count in self.misread.items()))

@@ -1,4 +1,4 @@
-"""The service of packaging/, under systemd, with its mailboxes on a file system of fixed size, full for a while."""
+"""The service as it is installed, with its mailboxes on a file system of fixed size, full for a while."""
 
 import contextlib
 import os
@@ -9,19 +9,13 @@ import time
 import letters
 from cases import Absent, case, equal
 from clients import Client
+from in_a_machine import installed
 from packages import program
 from replies import STOPPING, not_stored, stored
-from ten_lines import machine
 
 STORED, NOT_STORED = stored("anna"), not_stored("anna")
 MAIL = "/var/mail/lmtpd"
-PLACE = r"[Unit]\nAssertPathIsDirectory=\n[Socket]\nListenStream=\nListenStream=/run/lmtpd.socket\nSocketUser=\n"
-SET_UP = [
-    "make install",
-    "systemd-sysusers && systemd-tmpfiles --create",
-    f"mkdir -p /run/systemd/system/lmtpd.socket.d; printf '{PLACE}' > /run/systemd/system/lmtpd.socket.d/place.conf",
-    "systemctl daemon-reload",
-]
+SOCKET = "/var/spool/postfix/private/lmtpd"
 SIZE = 8 * 1024 * 1024
 BLOCK = 4096
 # A lock file takes a block; beside those of anna and ben some are left, in which no record of these lines has room.
@@ -162,12 +156,10 @@ class Sender:
 
 @contextlib.contextmanager
 def service(folder):
-    """The installed service, with a socket in /run; nothing listens yet."""
-    with machine(folder) as there:
-        for line in SET_UP:
-            equal((line, there.run(line)[0]), (line, 0))
+    """The installed service; nothing listens yet."""
+    with installed(folder) as there:
         root = pathlib.Path(f"/proc/{there.first()}/root")
-        there.mail, there.socket = root / MAIL.lstrip("/"), root / "run/lmtpd.socket"
+        there.mail, there.socket = root / MAIL.lstrip("/"), root / SOCKET.lstrip("/")
         yield there
 
 

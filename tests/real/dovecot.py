@@ -11,6 +11,7 @@ from cases import Absent
 from packages import install, program, need_root
 from started import Started, free_port, wait_for_port
 
+NEEDS = [("dovecot", "dovecot-core"), ("imap", "dovecot-imapd"), ("lmtp", "dovecot-lmtpd")]
 CONFIGURATION = """
 base_dir = {folder}/run
 state_dir = {folder}/state
@@ -53,7 +54,7 @@ passdb {{
 }}
 userdb {{
   driver = static
-  args = uid=mail gid=mail home={folder}/home allow_all_users=yes
+  args = uid={user} gid={user} home={folder}/home allow_all_users=yes
 }}
 namespace inbox {{
   inbox = yes
@@ -63,9 +64,9 @@ namespace inbox {{
 
 
 class Dovecot(Started):
-    """It runs as the user mail, to whom it gives the file where there is one."""
+    """It runs as the user mail, or another, to whom it gives the file where there is one."""
 
-    def __init__(self, folder, path, *more):
+    def __init__(self, folder, path, *more, user="mail"):
         need_root()
         for name in ["imapd", "lmtpd"]:
             need(name)
@@ -77,11 +78,11 @@ class Dovecot(Started):
             place.chmod(0o755)
         for place in [home, path]:
             if place.exists():
-                shutil.chown(place, "mail", "mail")
+                shutil.chown(place, user, user)
         self.imap, self.lmtp = free_port(), free_port()
         self.conf = self.folder / "dovecot.conf"
         places = {"folder": self.folder, "path": path, "imap": self.imap, "lmtp": self.lmtp}
-        self.conf.write_text(CONFIGURATION.format(**places, more="\n".join(more)))
+        self.conf.write_text(CONFIGURATION.format(**places, user=user, more="\n".join(more)))
 
     def start(self):
         words = [self.command, "-F", "-c", self.conf]

@@ -1,5 +1,7 @@
-"""A mailbox's file renamed, removed, emptied and torn, by the programs of a shell, while clients deliver to it."""
+"""A mailbox's file renamed, removed, emptied and torn, by the programs of a shell, while clients deliver to the
+installed service."""
 
+import shutil
 import stat
 import subprocess
 import threading
@@ -9,8 +11,10 @@ import letters
 from beside import both_held
 from cases import case, equal
 from clients import Client
+from in_a_machine import in_a_machine
 from replies import stored
-from server import Server, run
+from server import run
+from service import FOLDER, Service
 
 CLIENTS = 4
 ROUNDS = 5
@@ -26,13 +30,15 @@ CHANGES = {
 
 
 @case
+@in_a_machine()
 def mail_goes_on(folder):
     """a mailbox is renamed, removed, emptied and torn beside four clients: each letter that was told 250 is in the file
     that the path named then, the next ones follow in the one that it names now, and a new file has mode 0600"""
     for number, (name, line) in enumerate(CHANGES.items()):
+        told = change_beside(line)
         place = folder / str(number)
-        place.mkdir()
-        told = change_beside(place, line)
+        shutil.move(FOLDER, place)
+        subprocess.run(["systemd-tmpfiles", "--create", "lmtpd.conf"], check=True)
         path = place / "anna.mbox"
         equal((name, stat.S_IMODE(path.stat().st_mode)), (name, 0o600))
         equal(run(["check", path]).status, 0)
@@ -51,15 +57,16 @@ def mail_goes_on(folder):
         equal(b"the last\n" in here, True)
 
 
-def change_beside(place, line):
+def change_beside(line):
     """The letters that were told 250 while the file is changed a few times, and one after the last change."""
     told, lock = set(), threading.Lock()
-    with Server(place, ["anna"], CLIENTS + 1, "--lanes", CLIENTS) as server:
+    with Service(["anna"]) as service:
         stop = threading.Event()
-        loads = [threading.Thread(target=deliver, args=(server, who, told, lock, stop)) for who in range(CLIENTS)]
+        given = [(service.address, who, told, lock, stop) for who in range(CLIENTS)]
+        loads = [threading.Thread(target=deliver, args=each) for each in given]
         for load in loads:
             load.start()
-        path = server.mailbox("anna")
+        path = service.mailbox("anna")
         for number in range(ROUNDS):
             wait_for_letters(path, count_of(path) + 5)
             with both_held(path):
@@ -67,12 +74,12 @@ def change_beside(place, line):
         stop.set()
         for load in loads:
             load.join()
-        with Client(server.address).greet() as client:
+        with Client(service.address).greet() as client:
             equal(client.deliver(["anna"], "the last")[1], [STORED])
             told.add(b"the last\n")
             client.quit()
-        equal(vars(server.end()), {"status": 0, "said": [f"anna stored {len(told)}"], "errors": []})
-    equal(server.lock_file("anna").exists(), False)
+        equal(vars(service.end()), {"status": 0, "said": [f"anna stored {len(told)}"], "errors": []})
+        equal(service.lock_file("anna").exists(), False)
     return told
 
 
@@ -87,8 +94,8 @@ def wait_for_letters(path, count):
         time.sleep(0.01)
 
 
-def deliver(server, who, told, lock, stop):
-    with Client(server.address).greet() as client:
+def deliver(address, who, told, lock, stop):
+    with Client(address).greet() as client:
         number = 0
         while not stop.is_set():
             text = f"letter {who}-{number}, {'x' * 60}"
@@ -97,3 +104,6 @@ def deliver(server, who, told, lock, stop):
                 told.add(text.encode() + b"\n")
             number += 1
         client.quit()
+
+
+mail_goes_on.seconds = 180

@@ -1,4 +1,4 @@
-"""A server is killed while it has a mailbox's lock file."""
+"""The installed service is killed while it has a mailbox's lock file."""
 
 import os
 import random
@@ -8,56 +8,58 @@ import time
 import letters
 from cases import case, equal
 from clients import Client
+from in_a_machine import in_a_machine
 from replies import stored
-from server import Server
+from service import Service
 
 LEFT = 10  # lock files that are to be left
 MOST_KILLS = 200
 
 
 @case
+@in_a_machine()
 def its_lock_file_is_gone(folder):
     """SIGKILL under load until ten lock files were left: each is gone at the next start, mail goes on at once, and what
     was told 250 is there once and whole"""
     chance, told, left, empty = random.Random(1), [], 0, 0
-    lock = folder / "anna.mbox.lock"
-    for number in range(MOST_KILLS):
-        with Server(folder, ["anna"], 10) as server:
-            equal((number, lock.exists()), (number, False))
+    with Service(["anna"]) as service:
+        lock = service.lock_file("anna")
+        for number in range(MOST_KILLS):
             began = time.monotonic()
-            with Client(server.address).greet() as client:
+            with Client(service.address).greet() as client:
+                equal((number, lock.exists()), (number, False))
                 told.append(f"after {number}")
                 equal(client.deliver(["anna"], told[-1])[1], [stored("anna")])
                 equal((time.monotonic() - began < 1, lock.exists()), (True, False))
                 client.quit()
             if left == LEFT:
                 break
-            kill_under_load(server, number, told, chance.uniform(0.02, 0.1))
+            kill_under_load(service, number, told, chance.uniform(0.02, 0.1))
             left += lock.exists()
             if lock.exists() and not lock.read_text():
                 # it was killed before it wrote whose it is, which age alone can say then
                 then = time.time() - 400
                 os.utime(lock, (then, then))
                 empty += 1
-    found = letters.messages(folder / "anna.mbox")
+            service.begin_again()
+        found = letters.messages(service.mailbox("anna"))
     times = {text: found.count(text.encode() + b"\n") for text in told}
     equal([text for text, count in times.items() if count != 1], [])
     print(f"{left} lock files left by {number} kills, {empty} of them empty, {len(told)} letters told")
     equal(left, LEFT)
 
 
-its_lock_file_is_gone.seconds = 180
+its_lock_file_is_gone.seconds = 300
 
 
-def kill_under_load(server, number, told, after):
+def kill_under_load(service, number, told, after):
     loads = [
-        threading.Thread(target=deliver, args=(server.address, f"{number}-{client}", told)) for client in range(4)
+        threading.Thread(target=deliver, args=(service.address, f"{number}-{client}", told)) for client in range(4)
     ]
     for load in loads:
         load.start()
     time.sleep(after)
-    server.process.kill()
-    server.process.wait()
+    service.kill()
     for load in loads:
         load.join()
 

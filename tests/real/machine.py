@@ -106,11 +106,17 @@ class Machine(Started):
 
     def run(self, line, seconds=60):
         """Status and output of a line of shell there, as root in /root/site."""
-        enter = [self.nsenter, "-t", self.first(), "-m", "-u", "-i", "-n", "-p", "-C"]
         shell = ["env", "-i", f"PATH={PATH}", "HOME=/root", "sh", "-c", f"cd /root/site && {{ {line}\n}}"]
         ends = {"stdin": subprocess.DEVNULL, "stdout": subprocess.PIPE, "stderr": subprocess.STDOUT}
-        said = subprocess.run([*enter, *shell], timeout=seconds, **ends)
+        said = subprocess.run([*self.enter(), *shell], timeout=seconds, **ends)
         return said.returncode, said.stdout.decode(errors="replace")
+
+    def begin(self, words, **how):
+        """A process there, as root in /root/site; what is said of `how` it is started is said as to Popen."""
+        return subprocess.Popen([*self.enter(), "--wdns=/root/site", *words], stdin=subprocess.DEVNULL, **how)
+
+    def enter(self):
+        return [self.nsenter, "-t", self.first(), "-m", "-u", "-i", "-n", "-p", "-C"]
 
 
 def control_groups():

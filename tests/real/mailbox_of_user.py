@@ -1,67 +1,81 @@
-"""A mailbox that is its reader's, whose group is the server's: as Debian has it in /var/mail."""
+"""A mailbox that is its reader's, whose group is the server's, as docs/operating/MAILBOXES.md sets it up."""
 
-import grp
 import os
+import subprocess
 
 from beside import Beside
 from cases import case, equal
-from mutt import Mutt
-from packages import program
-from readers_delete import subjects_of
+from in_a_machine import in_a_machine
+from packages import need_root
+from pages import lines_of, type_lines
+from readers_delete import FORMAIL, MUTT, ByFormail, ByMutt, ByPython
 from server import Server
+from service import FOLDER
 
-# Users of no other purpose; both are in group mail besides.
-ANNA, SERVER = 61_001, 61_002
+ANNA = {"user": "anna", "group": "anna", "extra_groups": []}
+ANOTHER = 61_001
 SECONDS = 45  # so that it rests twice meanwhile
 
 
-def as_user(number):
-    return {"user": number, "group": number, "extra_groups": ["mail"]}
+class BesideAnna(Beside):
+    """She is a user of the machine, and the service is set up by the page's lines."""
+
+    def __init__(self, folder):
+        type_lines("useradd --create-home --shell /bin/bash anna")
+        super().__init__(folder, how=ANNA)
+
+    def service(self, lanes):
+        made = super().service(lanes)
+        type_lines(lines_of("MAILBOXES.md", "### Users' own programs on their own files"))
+        return made
+
+    def judge_hers(self, ended):
+        """Owner, group and mode stay; a shell of hers knows where the mailbox is."""
+        self.judge(ended)
+        said = subprocess.run(["stat", "-c", "%U %G %a", self.path], check=True, capture_output=True, text=True)
+        equal(said.stdout, "anna mail 660\n")
+        words = ["su", "-", "anna", "-c", "echo $MAIL"]
+        equal(subprocess.run(words, check=True, capture_output=True, text=True).stdout, f"{FOLDER}/anna.mbox\n")
 
 
 @case
-def a_readers_own(folder):
-    """a mailbox of mode 0660 that is anna's and of group mail, in a folder of group mail: a server that is another
-    user's of that group delivers, and mutt as anna reads and deletes; owner and mode stay"""
-    program("mutt", "mutt")
-    beside = Beside(folder, how={})
-    spool = beside.path.parent
-    group = spool_of_mail(spool)
-    beside.path.touch()
-    os.chown(beside.path, ANNA, group)
-    beside.path.chmod(0o660)
-    os.chown(beside.home, ANNA, ANNA)
-    mutt = Mutt(beside.home, as_user(ANNA))
-    beside.how = as_user(SERVER)
+@in_a_machine(*MUTT)
+def hers_with_mutt(folder):
+    """a mailbox of mode 0660 that is anna's and of group mail, by the typed lines: the service delivers, and mutt as
+    anna reads and deletes; owner and mode stay, and MAIL names it"""
+    beside = BesideAnna(folder)
+    beside.judge_hers(beside.run({"mutt": ByMutt(beside)}, seconds=SECONDS))
 
-    def delete(_who):
-        saved = subjects_of(mutt.delete(beside.path, '~s "for-mutt "'))
-        beside.stop.wait(0.2)
-        return beside.look(saved) if saved else []
 
-    ended = beside.run({"mutt": delete}, seconds=SECONDS)
-    beside.judge(ended)
-    there = beside.path.stat()
-    equal((there.st_uid, there.st_gid, oct(there.st_mode & 0o7777)), (ANNA, group, oct(0o660)))
+@case
+@in_a_machine(*FORMAIL)
+def hers_with_lockfile(folder):
+    """a mailbox of mode 0660 that is anna's and of group mail, by the typed lines: the service delivers, and two
+    scripts as anna with lockfile and formail cut letters and write the rest in place; owner and mode stay"""
+    beside = BesideAnna(folder)
+    beside.judge_hers(beside.run({who: ByFormail(beside, who) for who in ["one", "two"]}, seconds=SECONDS))
+
+
+@case
+@in_a_machine()
+def hers_with_python(folder):
+    """a mailbox of mode 0660 that is anna's and of group mail, by the typed lines: the service delivers, and two
+    scripts as anna lock, remove and flush by Python's mailbox, which renames; owner and mode stay"""
+    beside = BesideAnna(folder)
+    beside.judge_hers(beside.run({who: ByPython(beside) for who in ["one", "two"]}, seconds=SECONDS))
+
+
+for one in [hers_with_mutt, hers_with_lockfile, hers_with_python]:
+    one.seconds = SECONDS + 180
 
 
 @case
 def another_users_when_root(folder):
     """a server that runs as root refuses a mailbox that is another user's: cannot open, status 1"""
-    beside = Beside(folder, how={})
-    beside.path.touch()
-    os.chown(beside.path, ANNA, ANNA)
-    with Server(beside.path.parent, ["anna"], 1) as server:
+    need_root()
+    path = folder / "anna.mbox"
+    path.touch()
+    os.chown(path, ANOTHER, ANOTHER)
+    with Server(folder, ["anna"], 1) as server:
         expected = {"status": 1, "said": [], "errors": ["lmtpd: cannot open anna.mbox"]}
         equal((server.first, vars(server.end())), ("", expected))
-
-
-def spool_of_mail(spool):
-    """Gives the folder to group mail, as Debian's policy has it, and says that group's number."""
-    group = grp.getgrnam("mail").gr_gid
-    os.chown(spool, 0, group)
-    spool.chmod(0o2770)
-    return group
-
-
-a_readers_own.seconds = 240

@@ -1,19 +1,22 @@
-"""So many clients at one mailbox that it is hardly ever free, and users who look for a gap each second."""
+"""So many clients of the installed service at one mailbox that it is hardly ever free, and users who look for a gap
+each second."""
 
 import subprocess
 import time
 
 from beside import Beside
 from cases import case
+from in_a_machine import in_a_machine
 from mutt import Mutt
 from packages import program
-from readers_delete import subjects_of
+from readers_delete import FORMAIL, MUTT, subjects_of
 
 CLIENTS = 64
 WITHIN = 60  # seconds
 
 
 @case
+@in_a_machine(*MUTT, *FORMAIL)
 def users_get_their_turns(folder):
     """64 clients without a pause at one mailbox: mutt deletes letters, and `lockfile` has its lock, within a minute
     each; nothing is lost"""

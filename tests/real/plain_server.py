@@ -1,12 +1,13 @@
 #!/usr/bin/env python3
 """An LMTP server of a page for one mailbox, in the place of ours: what readers do to one another whoever delivers.
 
-It appends each letter under the lock file and the range lock, and syncs it. It takes the words that the cases give to
-ours, and leaves out all that they don't look at.
-usage: LMTPD=tests/real/plain_server.py tests/real/run.sh 'and mutt delete'
+It appends each letter under the lock file and the range lock, and syncs it. It is run by the unit of our package, in
+the place of its program, and takes the words that it gets there; it leaves out all that the cases don't look at.
+usage: PLAIN_SERVER=yes tests/real/run.sh 'and mutt delete'
 """
 
 import fcntl
+import itertools
 import os
 import pathlib
 import socket
@@ -16,6 +17,7 @@ import time
 
 TRIES = 100  # for a letter's locks, and one for the next letters while they can't be had
 PAUSE = 0.1
+INHERITED = 3  # the socket that systemd hands on
 
 
 class Mailbox:
@@ -24,7 +26,7 @@ class Mailbox:
         self.stored = self.missed = 0
         self.tries = TRIES
         self.turn = threading.Lock()
-        path.touch()
+        os.close(os.open(path, os.O_CREAT, 0o600))
 
     def put(self, record):
         with self.turn:
@@ -108,17 +110,21 @@ def main(word, *words):
         return
     given = {name: value for name, value in zip(words, words[1:], strict=False) if name.startswith("--")}
     mailbox = Mailbox(pathlib.Path(given["--dir"]) / f"{words[-1]}.mbox")
-    listener = socket.create_server(("127.0.0.1", 0))
-    print(f"listening on 127.0.0.1:{listener.getsockname()[1]}", flush=True)
-    clients = range(int(given["--connections"]))
-    jobs = [threading.Thread(target=Conversation(number, listener.accept()[0], mailbox).hold) for number in clients]
-    for job in jobs:
-        job.start()
-    for job in jobs:
-        job.join()
+    listener = socket.socket(fileno=INHERITED)
+    print("listening on inherited", flush=True)
+    for number in range(int(given["--lanes"])):
+        threading.Thread(target=serve, args=(number, listener, mailbox), daemon=True).start()
+    while not os.path.exists(given["--stop-file"]):
+        time.sleep(PAUSE)
     print(f"{words[-1]} stored {mailbox.stored}")
     if mailbox.missed:
         print(f"lmtpd: {words[-1]} in use {mailbox.missed}", file=sys.stderr)
+
+
+def serve(lane, listener, mailbox):
+    """One conversation after another."""
+    for number in itertools.count():
+        Conversation(f"{lane}-{number}", listener.accept()[0], mailbox).hold()
 
 
 main(*sys.argv[1:])

@@ -1,13 +1,13 @@
-"""A mailbox over its quota, from which a user deletes letters."""
-
-import subprocess
+"""A mailbox of the installed service over its quota, from which a user deletes letters."""
 
 from beside import Beside
 from cases import case, equal
 from clients import Client
+from in_a_machine import in_a_machine
 from mutt import Mutt
-from readers_delete import ByFormail
+from readers_delete import FORMAIL, MUTT, ByFormail
 from replies import over_quota, stored
+from server import run
 
 QUOTA = 10_000
 LINES = ["x" * 70] * 10
@@ -15,6 +15,7 @@ STORED, OVER = stored("anna"), over_quota("anna")
 
 
 @case
+@in_a_machine(*MUTT, *FORMAIL)
 def room_again(folder):
     """a quota that was reached: as many letters are taken again as fit once mutt, and then a script with formail,
     deleted some, with no restart"""
@@ -22,7 +23,7 @@ def room_again(folder):
     mutt = Mutt(beside.home, beside.how)
     formail = ByFormail(beside, "formail")
     refused = kept = number = 0
-    with beside.server(1, "--lanes", 1) as server, Client(server.address).greet() as client:
+    with beside.service(1) as service, Client(service.address).greet() as client:
         for delete in [None, "mutt", "formail", None]:
             if delete == "mutt":
                 equal(mutt.delete(beside.path, "~s 0-[0-3]$").count(b"\nSubject: "), 4)
@@ -42,5 +43,5 @@ def room_again(folder):
             kept, refused = kept + fitting, refused + 1
         client.quit()
         said, errors = [f"anna stored {kept}"], [f"lmtpd: anna over quota {refused}"]
-        equal(vars(server.end()), {"status": 0, "said": said, "errors": errors})
-    equal(subprocess.run([beside.program, "check", beside.path], stdout=subprocess.DEVNULL).returncode, 0)
+        equal(vars(service.end()), {"status": 0, "said": said, "errors": errors})
+    equal(run(["check", beside.path]).status, 0)

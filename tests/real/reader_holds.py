@@ -1,4 +1,4 @@
-"""A reader that never lets go of a mailbox's lock."""
+"""A reader that never lets go of the lock of a mailbox of the installed service."""
 
 import concurrent.futures
 import fcntl
@@ -7,8 +7,9 @@ import time
 import letters
 from cases import case, equal
 from clients import Client
+from in_a_machine import in_a_machine
 from replies import not_stored, stored
-from server import Server
+from service import Service
 
 WAIT = 10  # seconds, without --lock-wait
 NEXT = 6  # copies after the first
@@ -22,13 +23,14 @@ def timed(client, name):
 
 
 @case
-def a_reader_holds_for_good(folder):
+@in_a_machine()
+def a_reader_holds_for_good(_folder):
     """a reader holds anna's range lock for good: her first letter is told 451 after ten seconds, the next ones at once,
     ben's are stored at once meanwhile; 250 once it lets go, a line with their count, and status 0"""
-    with Server(folder, ["anna", "ben"], 2, "--lanes", 2) as server, Client(server.address).greet() as client:
-        with server.mailbox("anna").open("r+b") as held, concurrent.futures.ThreadPoolExecutor(1) as pool:
+    with Service(["anna", "ben"]) as service, Client(service.address).greet() as client:
+        with service.mailbox("anna").open("r+b") as held, concurrent.futures.ThreadPoolExecutor(1) as pool:
             fcntl.lockf(held, fcntl.LOCK_EX)
-            beside = pool.submit(deliver_to_ben, server.address)
+            beside = pool.submit(deliver_to_ben, service.address)
             final, took = timed(client, "anna")
             equal((final, WAIT - 0.5 < took < WAIT + 1), (NOT_STORED, True))
             for _ in range(NEXT):
@@ -41,8 +43,8 @@ def a_reader_holds_for_good(folder):
         print(f"ben's {count} letters took {longest:.3f} s at most")
         assert count > 100 and longest < 1, (count, longest)
         said, errors = ["anna stored 1", f"ben stored {count}"], [f"lmtpd: anna in use {NEXT + 1}"]
-        equal(vars(server.end()), {"status": 0, "said": said, "errors": errors})
-        equal(letters.messages(server.mailbox("anna")), [b"hello\n"])
+        equal(vars(service.end()), {"status": 0, "said": said, "errors": errors})
+        equal(letters.messages(service.mailbox("anna")), [b"hello\n"])
 
 
 def deliver_to_ben(address):
@@ -55,3 +57,6 @@ def deliver_to_ben(address):
             times.append(took)
         client.quit()
     return len(times), max(times)
+
+
+a_reader_holds_for_good.seconds = 120

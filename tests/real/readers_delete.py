@@ -1,4 +1,5 @@
-"""Users delete letters by Dovecot's IMAP, mutt, formail and Python, while four clients deliver without a pause."""
+"""Users delete letters by Dovecot's IMAP, mutt, formail and Python, while four clients deliver without a pause to the
+service as it is installed."""
 
 import imaplib
 import re
@@ -9,20 +10,23 @@ import time
 
 from beside import SECONDS, SUBJECT, Beside, reader_of, split, whole_of
 from cases import case, equal
-from dovecot import Dovecot
+from dovecot import NEEDS, Dovecot
+from in_a_machine import in_a_machine
 from mutt import Mutt
 from packages import program
 
+MUTT, FORMAIL = [("mutt", "mutt")], [("formail", "procmail"), ("lockfile", "procmail")]
 LOCKS = ["mbox_read_locks = fcntl", "mbox_write_locks = fcntl dotlock"]  # Debian's
-# Of the first letters it cuts those of one reader, and writes a new mailbox in its place.
+# Of 150 letters, from its reader's first one on, it cuts those of that reader, and writes a new mailbox in its place.
 BY_FORMAIL = r"""
 cd "$3" || exit 1
 lockfile -1 -r 100 "$1.lock" || exit 0
-if [ -s "$1" ]; then
-    : > kept
-    formail -150 -s sh -c 'cat > one; if grep -q "^Subject: $0 " one; then cat one >> cut; else cat one >> kept; fi' \
-        "for-$2" < "$1"
-    formail +150 -s < "$1" >> kept
+before=$(($(grep "^Subject: " "$1" | grep -n -m 1 "^Subject: for-$2 " | cut -d: -f1) - 1))
+if [ "$before" -ge 0 ]; then
+    formail -$before -s < "$1" > kept
+    formail +$before -150 -s sh -c \
+        'cat > one; if grep -q "^Subject: $0 " one; then cat one >> cut; else cat one >> kept; fi' "for-$2" < "$1"
+    formail +$((before + 150)) -s < "$1" >> kept
     cat kept > "$1"
 fi
 rm -f "$1.lock"
@@ -100,15 +104,17 @@ class ByFormail:
 
 
 @case
+@in_a_machine(*NEEDS)
 def dovecot_deletes(folder):
     """two sessions of Dovecot's IMAP delete and expunge: each letter is there once, or was deleted once"""
     beside = Beside(folder)
-    with Dovecot(folder, beside.path, *LOCKS) as dovecot:
+    with Dovecot(folder, beside.path, *LOCKS, user="lmtpd") as dovecot:
         readers = {who: ByDovecot(beside, dovecot) for who in ["one", "two"]}
         beside.judge(beside.run(readers))
 
 
 @case
+@in_a_machine(*MUTT)
 def mutt_deletes(folder):
     """mutt saves and deletes in a loop: each letter is there once, or was deleted once"""
     beside = Beside(folder)
@@ -116,6 +122,7 @@ def mutt_deletes(folder):
 
 
 @case
+@in_a_machine(*FORMAIL)
 def formail_deletes(folder):
     """two scripts with lockfile and formail cut letters and write the rest in place: each letter is there once, or
     was deleted once"""
@@ -124,51 +131,56 @@ def formail_deletes(folder):
 
 
 @case
+@in_a_machine(*NEEDS, *MUTT)
 def mutt_beside_dovecot_deletes(folder):
     """a session of Dovecot's IMAP and mutt delete from one mailbox: each letter is there once, or was deleted once"""
     beside = Beside(folder)
-    with Dovecot(folder, beside.path, *LOCKS) as dovecot:
+    with Dovecot(folder, beside.path, *LOCKS, user="lmtpd") as dovecot:
         readers = {"dovecot": ByDovecot(beside, dovecot), "mutt": ByMuttBesideOthers(beside)}
         # beside others that lock it as often mutt may never get its locks
         beside.judge(beside.run(readers), may_be_idle=["mutt"])
 
 
 @case
+@in_a_machine(*NEEDS, *MUTT, *FORMAIL)
 def all_three_delete(folder):
     """two sessions of Dovecot's IMAP, mutt and formail delete from one mailbox: each letter is there once, or was
     deleted once"""
     beside = Beside(folder)
-    with Dovecot(folder, beside.path, *LOCKS) as dovecot:
+    with Dovecot(folder, beside.path, *LOCKS, user="lmtpd") as dovecot:
         readers = {who: ByDovecot(beside, dovecot) for who in ["one", "two"]}
         readers |= {"mutt": ByMuttBesideOthers(beside), "formail": ByFormail(beside, "formail")}
         beside.judge(beside.run(readers), may_be_idle=["mutt"])
 
 
 @case
+@in_a_machine()
 def python_deletes(folder):
     """two scripts lock, remove and flush by Python's mailbox, which renames: each letter is there once, or was
     deleted once"""
-    beside = Beside(folder, how={})
-    beside.judge(beside.run({who: ByPython(beside, who) for who in ["one", "two"]}))
+    beside = Beside(folder)
+    beside.judge(beside.run({who: ByPython(beside) for who in ["one", "two"]}))
 
 
 class ByPython:
-    def __init__(self, beside, who):
-        beside.path.touch()
+    def __init__(self, beside):
         self.beside = beside
-        script = re.sub(r"\w+\.py$", "reads_by_python.py", __file__)
-        ends = {"stdin": subprocess.PIPE, "stdout": subprocess.PIPE}
-        self.process = subprocess.Popen([sys.executable, "-B", script, beside.path, who], text=True, **ends)
-        threading.Thread(target=self.end).start()
-
-    def end(self):
-        self.beside.stop.wait()
-        self.process.stdin.close()
 
     def __call__(self, who):
-        found = self.process.stdout.read().splitlines()
-        equal(self.process.wait(), 0)
+        while not self.beside.path.exists():
+            time.sleep(0.05)
+        script = re.sub(r"\w+\.py$", "reads_by_python.py", __file__)
+        ends = {"stdin": subprocess.PIPE, "stdout": subprocess.PIPE}
+        words = [sys.executable, "-B", script, self.beside.path, who]
+        process = subprocess.Popen(words, text=True, **ends, **self.beside.how)
+        threading.Thread(target=self.end, args=[process]).start()
+        found = process.stdout.read().splitlines()
+        equal(process.wait(), 0)
         return found
+
+    def end(self, process):
+        self.beside.stop.wait()
+        process.stdin.close()
 
 
 for function in [

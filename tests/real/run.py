@@ -2,8 +2,10 @@
 
 import sys
 
-import debian  # noqa: F401  (each adds its cases)
+import all_through_dovecot  # noqa: F401  (each adds its cases)
+import debian  # noqa: F401
 import disk_full_heals  # noqa: F401
+import dovecot_under_the_unit  # noqa: F401
 import exim_delivers  # noqa: F401
 import file_changed  # noqa: F401
 import five_questions  # noqa: F401
@@ -24,6 +26,7 @@ import reader_holds  # noqa: F401
 import readers_agree  # noqa: F401
 import readers_delete  # noqa: F401
 import several_servers  # noqa: F401
+import site_mailboxes  # noqa: F401
 import soak  # noqa: F401
 import ten_lines  # noqa: F401
 import torn_writes_read  # noqa: F401

@@ -45,8 +45,13 @@ def restart_under_load(folder, begin, address, times):
         last = begin()
         load.join()
         equal(ended_in_time(last, asked_to_stop(folder)).status, 0)
+    return judge(load, folder / "anna.mbox", times)
+
+
+def judge(load, path, times):
+    """Each letter that was told is in the mailbox once; it says how often a client was refused."""
     equal(load.faults, [])
-    found = [message.decode().strip() for message in letters.messages(folder / "anna.mbox")]
+    found = [message.decode().strip() for message in letters.messages(path)]
     equal(sorted(found), sorted(load.told))
     assert len(found) > times, len(found)
     print(f"{times} restarts, {len(found)} letters of {SENDERS} clients, each once; refused {len(load.refused)} times")

@@ -19,6 +19,7 @@ import refusals  # noqa: F401
 import sockets  # noqa: F401
 import torn_tails  # noqa: F401
 import torn_writes  # noqa: F401
+import unopened  # noqa: F401
 from cases import run_all
 
 sys.exit(0 if run_all(sys.argv[1:]) else 1)

@@ -1,0 +1,112 @@
+"""The service of the package as it is installed, for a case that runs in its machine (in_a_machine.py).
+
+Its socket is Postfix's, its mailboxes are those of /var/mail/lmtpd, which are the user lmtpd's; its words stand in
+/etc/lmtpd.conf, and no unit is changed.
+"""
+
+import pathlib
+import re
+import subprocess
+import time
+
+from cases import equal
+from server import Ended
+
+FOLDER = pathlib.Path("/var/mail/lmtpd")
+SOCKETS = pathlib.Path("/var/spool/postfix/private")
+CONF = pathlib.Path("/etc/lmtpd.conf")
+# Who may read the mailboxes: the server's own user, as whom a user's program runs then.
+LMTPD = {"user": "lmtpd", "group": "lmtpd", "extra_groups": []}
+
+
+class Service:
+    """One server, from its start to the end of a `with`, which ends it where it still runs; with a name of its own one
+    of several."""
+
+    def __init__(self, boxes, *more, name=""):
+        """It has these mailboxes, and more words before them."""
+        self.unit, self.boxes = f"lmtpd@{name}" if name else "lmtpd", boxes
+        self.address = str(SOCKETS / (f"lmtpd-{name}" if name else "lmtpd"))
+        if name:
+            pathlib.Path("/etc/lmtpd").mkdir(exist_ok=True)
+            pathlib.Path(f"/etc/lmtpd/{name}.boxes").write_text("\n".join([*boxes, ""]))
+        else:
+            words = " ".join(map(str, [*more, *boxes]))
+            CONF.write_text(re.sub("(?m)^BOXES=.*$", f"BOXES={words}", CONF.read_text()))
+
+    def __enter__(self):
+        systemctl("enable", "--now", f"{self.unit}.socket")
+        systemctl("start", self.unit)
+        return self
+
+    def __exit__(self, *_):
+        self.stop()
+
+    def stop(self):
+        """In order, and for good."""
+        systemctl("stop", f"{self.unit}.socket", self.unit)
+
+    def restart(self):
+        systemctl("restart", self.unit)
+
+    def kill(self):
+        """By SIGKILL, and until it is gone. It begins again in five seconds, as the unit has it, or by
+        `begin_again`."""
+        process = pathlib.Path("/proc", self.told("MainPID"))
+        self.systemctl_kill("main")
+        until = time.monotonic() + 10
+        while process.exists():
+            assert time.monotonic() < until, self.lines()[-5:]
+            time.sleep(0.01)
+
+    def begin_again(self):
+        """At once after it was killed: what the unit has wait for five seconds is ended, and how often it began is
+        forgotten."""
+        self.wait_for("SubState", "stop-post")
+        systemctl("reset-failed", self.unit)
+        self.systemctl_kill("control")
+        self.wait_for("SubState", "running")
+
+    def systemctl_kill(self, whom):
+        systemctl("kill", f"--kill-who={whom}", "--signal=KILL", self.unit)
+
+    def end(self):
+        """How its last run ended, once it was stopped in order, and what it said at its end."""
+        self.stop()
+        lines = self.lines()
+        begun = max((place for place, line in enumerate(lines) if line.startswith("listening on ")), default=0)
+        said = [line for line in lines[begun:] if re.fullmatch(r"\S+ stored \d+", line)]
+        errors = [line for line in lines[begun:] if line.startswith("lmtpd: ")]
+        return Ended(int(self.told("ExecMainStatus")), said, errors)
+
+    def lines(self):
+        """What all its runs said, in the journal."""
+        subprocess.run(["journalctl", "--sync"], check=True)
+        words = ["journalctl", "-u", self.unit, "-o", "cat", "--no-pager"]
+        return subprocess.run(words, check=True, capture_output=True).stdout.decode(errors="replace").splitlines()
+
+    def told(self, name):
+        """What systemd says of it by that name."""
+        words = ["systemctl", "show", "--property", name, "--value", self.unit]
+        return subprocess.run(words, check=True, capture_output=True, text=True).stdout.strip()
+
+    def restarts(self):
+        """How often it began again by itself."""
+        return int(self.told("NRestarts"))
+
+    def wait_for(self, name, value, seconds=20):
+        until = time.monotonic() + seconds
+        while self.told(name) != value:
+            assert time.monotonic() < until, (name, self.told(name), self.lines()[-5:])
+            time.sleep(0.02)
+
+    def mailbox(self, name):
+        return FOLDER / f"{name}.mbox"
+
+    def lock_file(self, name):
+        return FOLDER / f"{name}.mbox.lock"
+
+
+def systemctl(*words):
+    said = subprocess.run(["systemctl", *words], stdout=subprocess.PIPE, stderr=subprocess.STDOUT, text=True)
+    equal((words, said.returncode, said.stdout if said.returncode else ""), (words, 0, ""))
