@@ -17,6 +17,7 @@
 #   other_mailboxes, postfix_delivers, exim_delivers, opensmtpd_delivers, odd_clients;
 # - those that look at the process or at its disk from outside, while it runs: soak (its memory, by the second),
 #   power_cut (copies of its disk), read_only (a mailbox on a file system of its own, which goes read-only);
+# - those that are killed within a write, by a library that they are started with: torn_writes_read;
 # - those of what the unit never does: a Unix socket that the server makes itself (hundred_restarts), a server that is
 #   root (mailbox_of_user);
 # - killed_under_load, which is to follow.
