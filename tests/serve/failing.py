@@ -71,6 +71,12 @@ def built(folder):
     return library
 
 
+def with_calls(library, folder, fails=0):
+    """What a server is started with that writes its calls on anna's mailbox down in that folder, of which that fails."""
+    given = {"LD_PRELOAD": library, "FAIL_FILE": "/anna.mbox", "FAIL_LOG": folder / "log", "FAIL_CALL": fails}
+    return {name: str(value) for name, value in given.items()}
+
+
 def called(folder):
     """The calls so far, each with its place."""
     log = folder / "log"
