@@ -129,9 +129,11 @@ try 2 clap "${serve[@]}" --dir /nowhere --stop-file '' anna
 try 2 clap "${serve[@]}" --dir /nowhere --stop-file= anna
 try 2 clap "${serve[@]}" --dir /nowhere --heal=yes anna
 try 2 clap "${serve[@]}" --dir /nowhere --heal --heal anna
+try 2 clap "${serve[@]}" --dir /nowhere --start-anyway=yes anna
+try 2 clap "${serve[@]}" --dir /nowhere --start-anyway --start-anyway anna
 try 2 clap "${serve[@]}" --dir /nowhere --log-addresses=yes anna
 try 2 clap "${serve[@]}" --dir /nowhere --log-addresses --log-addresses anna
-for word in --heal --log-addresses --stop-file=stop --socket-mode=0660 --session-time=9 --connections=9; do
+for word in --heal --start-anyway --log-addresses --stop-file=stop --socket-mode=0660 --session-time=9 --connections=9; do
     try 2 clap "${good[@]}" "$word" anna
     try 2 clap check "$word" anna.mbox
     try 1 'lmtpd: cannot open anna.mbox' "${serve[@]:0:5}" --dir /nowhere "$word" anna

@@ -93,19 +93,25 @@ def rehearse(refusing, says=GIVEN, stored=STORED, names=("anna", "ben")):
     return what
 
 
-def serve(refusing):
+def serve_anyway(refusing):
+    """A third mailbox can't be opened, and keeps the server from nothing."""
+    return serve(refusing, ["--start-anyway", "anna", "ben", "carla"], COUNTED + b"carla stored 0\n")
+
+
+def serve(refusing, more=("anna", "ben"), counted=COUNTED):
     with tempfile.TemporaryDirectory() as folder:
+        pathlib.Path(folder, "carla.mbox").mkdir()
         place = ["--host", "mx.example", "--listen", "127.0.0.1:0", "--dir", folder]
-        process = refusing.start(["serve", *place, "--connections", "2", "--lanes", "2", "anna", "ben"])
+        process = refusing.start(["serve", *place, "--connections", "2", "--lanes", "2", *more])
         first = process.stdout.readline()
         heard = [converse(first), converse(first)]
         output, errors = process.communicate(timeout=SECONDS)
-        files = [path.read_bytes() for path in sorted(pathlib.Path(folder).iterdir())]
+        files = [path.read_bytes() for path in sorted(pathlib.Path(folder).iterdir()) if path.is_file()]
     ended, what = (process.returncode, first + output, errors), refusing.refused()
     if is_refused(what, ended, refusing.is_all):
         check_refused(what, ended, [b"", first])
         check_kept(ended[2], heard, files)
-    elif ended[0] != 0 or errors or output != COUNTED or any(STORED not in text for text in heard):
+    elif ended[0] != 0 or errors or output != counted or any(STORED not in text for text in heard):
         raise Wrong(f"not refused: {ended!r:.300}, {heard!r:.300}")
     return what
 
@@ -171,6 +177,7 @@ try:
         in_turn("rehearse, one recipient", rehearse_one, is_all)
         in_turn("rehearse, a mailbox of a file", rehearse_listed, is_all)
         in_turn("serve", serve, is_all)
+        in_turn("serve, a mailbox that can't be opened", serve_anyway, is_all)
         in_turn("check", check, is_all)
 except Wrong as wrong:
     tell("refused in turn", "FAILED", str(wrong))

@@ -81,7 +81,7 @@ def check_install(folder):
     assert gzip.decompress((folder / "usr/share/man/man8/lmtpd.8.gz").read_bytes()).decode() == PAGE
     unit = (folder / "usr/lib/systemd/system/lmtpd.service").read_text()
     assert "ExecStart=/usr/sbin/lmtpd serve " in unit, unit
-    for words in ["--listen inherited", "--stop-file /run/lmtpd/stop", "--heal", "--log info"]:
+    for words in ["--listen inherited", "--stop-file /run/lmtpd/stop", "--heal", "--start-anyway", "--log info"]:
         assert f" {words} " in unit, words
     socket = (folder / "usr/lib/systemd/system/lmtpd.socket").read_text().splitlines()
     for line in ["ListenStream=/var/spool/postfix/private/lmtpd", "SocketUser=postfix", "SocketMode=0600"]:
@@ -147,6 +147,31 @@ def check_map(folder):
     assert len(expected) == 2 + 3 + 256 and said.splitlines() == expected, said[:400]
 
 
+def check_folder(folder):
+    """The folder of the mailboxes is made where it is missing, and one that is there keeps its mode and owner, also as
+    the machine boots."""
+    said_of_it = (folder / "all/usr/lib/tmpfiles.d/lmtpd.conf").read_text()
+    [line] = re.findall("^[^#].*$", said_of_it, re.MULTILINE)
+    assert line == "d /var/mail/lmtpd :0700 :lmtpd :lmtpd -", line
+    if os.geteuid() != 0 or not shutil.which("systemd-tmpfiles"):
+        return
+    made, conf = folder / "made", folder / "made.conf"
+    # the user of this machine that there is for sure
+    conf.write_text(line.replace("/var/mail/lmtpd", str(made)).replace(":lmtpd", ":daemon") + "\n")
+    create = ["systemd-tmpfiles", "--create", "--boot", str(conf)]
+    assert said_by(*create) == (0, "")
+    assert whose(made) == ("daemon", "daemon", 0o700), whose(made)
+    shutil.chown(made, "root", "mail")
+    made.chmod(0o2775)
+    assert said_by(*create) == (0, "")
+    assert whose(made) == ("root", "mail", 0o2775), whose(made)
+
+
+def whose(path):
+    """Owner, group and permission bits."""
+    return path.owner(), path.group(), path.stat().st_mode & 0o7777
+
+
 def check_forms(folder):
     """systemd finds nothing wrong with the units of a program that is there, and groff nothing with the page."""
     prefix = folder / "local"
@@ -173,7 +198,8 @@ check_words()
 check_version()
 with tempfile.TemporaryDirectory() as room:
     check_install(pathlib.Path(room) / "all")
+    check_folder(pathlib.Path(room))
     check_forms(pathlib.Path(room))
     check_map(pathlib.Path(room) / "boxes")
-print("ok: page, completion, version, unit and install")
+print("ok: page, completion, version, unit, folder and install")
 sys.exit(0)

@@ -26,8 +26,10 @@ import reader_holds  # noqa: F401
 import readers_agree  # noqa: F401
 import readers_delete  # noqa: F401
 import several_servers  # noqa: F401
+import site_mailboxes  # noqa: F401
 import soak  # noqa: F401
 import ten_lines  # noqa: F401
+import torn_writes_read  # noqa: F401
 from cases import run_all
 
 sys.exit(0 if run_all(sys.argv[1:]) else 1)

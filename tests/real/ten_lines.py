@@ -61,10 +61,9 @@ def a_service_that_is_killed_begins_again(folder):
         equal(there.run("systemctl kill lmtpd"), (0, ""))
         wait_for_restarts(there, 1)
         assert time.monotonic() - begun < 3, "not at once"
-        # a folder is in a mailbox's place for eight seconds, so that the server ends with status 1
+        # the mailboxes' folder is away for eight seconds, so that the server ends with status 1
         begun = time.monotonic()
-        there.run("cd /var/mail/lmtpd; mv ben.mbox ben.kept; mkdir ben.mbox")
-        there.run("cd /var/mail/lmtpd; (sleep 8; rmdir ben.mbox; mv ben.kept ben.mbox) > /dev/null 2>&1 &")
+        there.run("cd /var/mail; mv lmtpd away; (sleep 8; mv away lmtpd) > /dev/null 2>&1 &")
         there.run("systemctl kill --signal=KILL lmtpd")
         wait_for_letter(there, "later")
         assert time.monotonic() - begun > 4, "it didn't wait"

@@ -1,17 +1,20 @@
 -- What a worker's count under a quota tells of the next record.
 use Rattle.std.proofs.Common.{◌≡◌, ℕ, ◌+◌, ◌≤◌, ◌<◌, ◌^◌, Bool, true, false, List, [], ◌∷◌, ◌++◌, length, Option, Some, None, refl, ap, sym, ◌∙◌, subst, arith}
-use Rattle.std.proofs.Common.{length-append}
+use Rattle.std.proofs.Common.{length-append, take}
+use Rattle.std.proofs.lemmas.Bool.{leb-true}
+use Rattle.std.proofs.lemmas.List.{length-take}
 use Rattle.std.specs.Prelude.{if◌then◌else◌, nat_le}
 use Rattle.std.specs.Option.{IfSome}
 use Rattle.std.proofs.lemmas.Bool.Decides.{nat_tests}
 use Rattle.mail_world.specs.Counts.{counted}
 use Rattle.mail_world.specs.Quotas.{fits}
-use Rattle.mail_world.specs.Records.{mended}
-use Rattle.mail_world.specs.Text.{lf, ends_in}
+use Rattle.mail_world.specs.Endings.{ending, mends, mended}
+use Rattle.mail_world.specs.Text.{lf}
 use Rattle.mbox_record.specs.Sharing.{Sharing}
-use Rattle.mbox_record.specs.Spool.{SpoolState, tail_of}
-use Rattle.mbox_record.specs.declared.spool.Tail.{Tail}
-use Rattle.mbox_record.specs.declared.spool.Tail.TheVariants.{Empty, NoLf, OneLf, TwoLf}
+use Rattle.mbox_record.specs.Spool.{SpoolState}
+use Rattle.mbox_record.specs.Tail.{ending_of}
+use Rattle.mbox_record.specs.declared.tail.Tail.{Tail}
+use Rattle.mbox_record.specs.declared.tail.Tail.TheVariants as tail
 use Rattle.box_worker.specs.declared.limit.Limit.{Limit}
 use Rattle.box_worker.specs.Limits.{CountsTo, StartsAt, missing, IsLetIn, IsKeptOut}
 
@@ -39,21 +42,22 @@ pub kept_out : (quota : Option ℕ) (n size : ℕ) (old : Option Limit) → Coun
 kept_out None n size old counts h = let P : Option Limit → Type 0 = λ l. IsKeptOut l size in absurd (subst P counts h)
 kept_out (Some quota) n size old counts h = let P : Option Limit → Type 0 = λ l. IsKeptOut l size in unfitting quota n size (subst P counts.1 h)
 
-missing_by : (two one : Bool) → length (if two then [] else if one then lf ∷ [] else lf ∷ lf ∷ [])
-    ≡ missing (if two then TwoLf else if one then OneLf else NoLf)
-missing_by true one = refl
-missing_by false true = refl
-missing_by false false = refl
+pub mending_size : (held : List ℕ) (tail : Tail) → ending_of tail ≡ ending held → missing tail ≡ length (mended held)
+mending_size held tail ends = ap (λ e. length (mends e)) ends
 
-pub mending_size : (held : List ℕ) → length (mended held) ≡ missing (tail_of held)
-mending_size [] = refl
-mending_size (b ∷ held) = missing_by (ends_in (lf ∷ lf ∷ []) (b ∷ held)) (ends_in (lf ∷ []) (b ∷ held))
-
-missing_most : (tail : Tail) → missing tail ≤ 2
-missing_most Empty = omega arith
-missing_most NoLf = omega arith
-missing_most OneLf = omega arith
-missing_most TwoLf = omega arith
+missing_most : (tail : Tail) → missing tail ≤ 44
+missing_most tail.Empty = leb-true 0 44 refl
+missing_most tail.F = leb-true 44 44 refl
+missing_most tail.Fr = leb-true 43 44 refl
+missing_most tail.Fro = leb-true 42 44 refl
+missing_most tail.From = leb-true 41 44 refl
+missing_most (tail.InFromLine room missing) =
+    let long = length-append (take 38 missing.now) (lf ∷ lf ∷ []) in
+    let most = length-take 38 missing.now in
+    omega (arith, long, most)
+missing_most tail.NoLf = leb-true 2 44 refl
+missing_most tail.OneLf = leb-true 1 44 refl
+missing_most tail.TwoLf = leb-true 0 44 refl
 
 -- what stands before the first record of a spool, by what the spool says
 pub record HasStart (spool : SpoolState) (tail : Tail) (held : ℕ) : Type 0 where
@@ -62,7 +66,7 @@ pub record HasStart (spool : SpoolState) (tail : Tail) (held : ℕ) : Type 0 whe
   pub count : counted (held + missing tail) ≡ counted start
 
 start_by : (bytes : Option (List ℕ)) (failures : ℕ) (limit : Option ℕ) (synced had : ℕ) (sharing : Sharing) (tail : Tail) (held : ℕ)
-    → IfSome bytes (λ b. tail ≡ tail_of b) → held ≡ counted had → IfSome bytes (λ b. held ≡ counted (length b))
+    → IfSome bytes (λ b. ending_of tail ≡ ending b) → held ≡ counted had → IfSome bytes (λ b. held ≡ counted (length b))
     → HasStart (record { bytes = bytes; failures = failures; limit = limit; synced = synced; held = had; sharing = sharing }) tail held
 start_by None failures limit synced had sharing tail held ends says known = record {
   start = had + missing tail;
@@ -70,7 +74,7 @@ start_by None failures limit synced had sharing tail held ends says known = reco
   count = rw says (omega arith);
 }
 start_by (Some b) failures limit synced had sharing tail held ends says known =
-    let same : missing tail ≡ length (mended b) = ap missing ends ∙ sym (mending_size b) in
+    let same : missing tail ≡ length (mended b) = mending_size b tail ends in
     let long = length-append b (mended b) in
     record {
       start = length (b ++ mended b);
@@ -78,6 +82,6 @@ start_by (Some b) failures limit synced had sharing tail held ends says known =
       count = omega (arith, same, long, known);
     }
 
-pub starts_at : (spool : SpoolState) (tail : Tail) (held : ℕ) → IfSome spool.bytes (λ b. tail ≡ tail_of b) → held ≡ counted spool.held
+pub starts_at : (spool : SpoolState) (tail : Tail) (held : ℕ) → IfSome spool.bytes (λ b. ending_of tail ≡ ending b) → held ≡ counted spool.held
     → IfSome spool.bytes (λ b. held ≡ counted (length b)) → HasStart spool tail held
 starts_at spool tail held ends says known = start_by spool.bytes spool.failures spool.limit spool.synced spool.held spool.sharing tail held ends says known

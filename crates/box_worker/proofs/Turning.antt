@@ -10,19 +10,21 @@ use Rattle.mail_world.specs.declared.Outcome.{Outcome}
 use Rattle.mail_world.specs.declared.Outcome.TheVariants.{Stored, Failed, NoRoom, TooLarge, OverQuota}
 use Rattle.mail_world.specs.Counts.{counted}
 use Rattle.mail_world.specs.Failures.{Rises}
-use Rattle.mail_world.specs.Records.{record_of, mended}
+use Rattle.mail_world.specs.Records.{record_of}
+use Rattle.mail_world.specs.Endings.{ending, mended}
+use Rattle.mbox_record.specs.Tail.{ending_of}
 use Rattle.mail_world.specs.Quotas.{fits}
 use Rattle.mail_world.specs.Turns.{Standing, Turn, NotHad, Had, AllFailed, AreTurns, IsTurn, breaks}
 use Rattle.mail_world.proofs.GivenAway.{count-append}
 use Rattle.mbox_record.specs.Sharing.{Sharing, had, not_had}
-use Rattle.mbox_record.specs.Spool.{SpoolState, tail_of, CoversAll, standing, BeginsTurn, MissesTurn, EndsTurn}
+use Rattle.mbox_record.specs.Spool.{SpoolState, CoversAll, standing, BeginsTurn, MissesTurn, EndsTurn}
 use Rattle.box_worker.specs.declared.limit.Limit.{Limit}
 use Rattle.box_worker.specs.Limits.{Setting, StartsAt, CountsTo, missing, IsLetIn, IsKeptOut}
 use Rattle.box_worker.specs.Stored.{MailboxState, CountedMailbox, HasKept, HasNotKept}
 use Rattle.box_worker.specs.Turned.{MeasuresAgain, SharedMailbox, shared_of, HasKeptMended, HasNotKeptMended, Measures, StoresInTurn, KeepsOutOfTurn, BreaksTurn}
 use Rattle.box_worker.specs.Turned.{FromLock, HadTurn, TakesTurn, DoesInTurn, EndsInTurn, HaveTurned, is_not_had, TellsTurns}
 use Rattle.mbox_record.specs.Mending.{HasMended, HasNotMended}
-use Rattle.mbox_record.specs.declared.spool.Tail.{Tail}
+use Rattle.mbox_record.specs.declared.tail.Tail.{Tail}
 use Rattle.mbox_record.proofs.Taken.{Appends-then, FailsTurn-then}
 use Rattle.box_worker.proofs.Counting.{starts_at, let_in, kept_out}
 
@@ -333,7 +335,7 @@ pub tells_told : (at : Setting) (notes : List Note) (outcomes : List Outcome) (o
 tells_told at notes outcomes old new h = tells_by at notes outcomes old new old.bytes refl h
 
 -- what a worker counts at a lock
-pub measures : (locked : SpoolState) (limit new : Limit) (held : ℕ) (tail : Tail) → IfSome locked.bytes (λ b. tail ≡ tail_of b) → held ≡ counted locked.held
+pub measures : (locked : SpoolState) (limit new : Limit) (held : ℕ) (tail : Tail) → IfSome locked.bytes (λ b. ending_of tail ≡ ending b) → held ≡ counted locked.held
     → IfSome locked.bytes (λ b. held ≡ counted (length b)) → new ≡ record { quota = limit.quota; held = counted (held + missing tail) }
     → MeasuresAgain locked (Some limit) (Some new)
 measures locked limit new held tail ends says known is None n counts = absurd (cc)

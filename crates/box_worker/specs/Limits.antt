@@ -3,12 +3,13 @@ use Rattle.std.specs.Prelude.{◌≡◌, ℕ, ◌+◌, ◌<◌, ◌≤◌, ◌^�
 use Rattle.std.specs.Option.{IfSome}
 use Rattle.mail_world.specs.declared.Note.{Note}
 use Rattle.mail_world.specs.Counts.{counted}
-use Rattle.mail_world.specs.Records.{Calendar, mended}
+use Rattle.mail_world.specs.Records.{Calendar}
+use Rattle.mail_world.specs.Endings.{mends, mended}
 use Rattle.mail_world.specs.Quotas.{are_kept_after, marked}
 use Rattle.lmtp_text.specs.Calendar.{civil_at}
 use Rattle.mbox_record.specs.Spool.{SpoolState, Grows}
-use Rattle.mbox_record.specs.declared.spool.Tail.{Tail}
-use Rattle.mbox_record.specs.declared.spool.Tail.TheVariants.{Empty, NoLf, OneLf, TwoLf}
+use Rattle.mbox_record.specs.declared.tail.Tail.{Tail}
+use Rattle.mbox_record.specs.Tail.{ending_of}
 use Rattle.box_worker.specs.declared.limit.Limit.{Limit}
 
 -- what stays while a worker runs: the calendar and the host of its records, the limit of bytes for its mailbox, and its
@@ -31,20 +32,17 @@ marks_after at start copies = are_kept_after at.calendar at.host at.quota start 
 abbrev pub kept_after : Setting → ℕ → List Note → List Note
 kept_after at start copies = marked (marks_after at start copies) copies
 
--- That many bytes stand before the first record: what the spool held, and what mends that, which is two bytes at most
+-- That many bytes stand before the first record: what the spool held, and what mends that, which is 44 bytes at most
 -- where the spool doesn't tell what it holds.
 pub record StartsAt (spool : SpoolState) (start : ℕ) : Type 0 where
   pub mending : ℕ
-  pub within : mending ≤ 2
+  pub within : mending ≤ 44
   pub grown : Grows spool.held start mending
   pub known : IfSome spool.bytes (λ held. start ≡ length (held ++ mended held))
 
 -- how many bytes mend a text that ends so
 abbrev pub missing : Tail → ℕ
-missing Empty = 0
-missing NoLf = 2
-missing OneLf = 1
-missing TwoLf = 0
+missing tail = length (mends (ending_of tail))
 
 -- the count of a worker in whose mailbox that many bytes stand: there is none without a quota
 abbrev pub CountsTo : Option ℕ → ℕ → Option Limit → Type 0

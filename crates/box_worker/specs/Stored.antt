@@ -8,7 +8,8 @@ use Rattle.mail_world.specs.declared.Outcome.{Outcome}
 use Rattle.mail_world.specs.declared.Outcome.TheVariants.{Stored, Failed, OverQuota}
 use Rattle.mail_world.specs.Counts.{counted}
 use Rattle.mail_world.specs.Failures.{Rises}
-use Rattle.mail_world.specs.Records.{Calendar, mended, mailbox}
+use Rattle.mail_world.specs.Records.{Calendar, mailbox}
+use Rattle.mail_world.specs.Endings.{mended}
 use Rattle.mail_world.specs.Prefixes.{IsPrefix}
 use Rattle.mail_world.specs.Deliveries.{IsTorn}
 use Rattle.mbox_record.specs.Spool.{SpoolState, CoversAll, IsFull, FailsTurn}

@@ -6,7 +6,8 @@ use Rattle.mail_world.specs.declared.Note.{Note}
 use Rattle.mail_world.specs.declared.Outcome.{Outcome}
 use Rattle.mail_world.specs.declared.Outcome.TheVariants.{Stored, Failed, OverQuota}
 use Rattle.mail_world.specs.Counts.{counted}
-use Rattle.mail_world.specs.Records.{mended, record_of}
+use Rattle.mail_world.specs.Records.{record_of}
+use Rattle.mail_world.specs.Endings.{mended}
 use Rattle.mail_world.specs.Quotas.{fits}
 use Rattle.mail_world.specs.Turns.{Turn, NotHad, Had, AreTurns}
 use Rattle.mbox_record.specs.Spool.{SpoolState, BeginsTurn, MissesTurn, EndsTurn}

@@ -4,7 +4,7 @@ ghost use Rattle.std.specs.Prelude.{◌≡◌, ◌+◌, ◌<◌, ◌^◌, ℕ, S
 ghost use Rattle.mail_world.specs.Counts.{counted};
 ghost use Rattle.box_worker.specs.Limits.{StartsAt, Admits, missing};
 
-use mbox_record::{Spool, Tail};
+use mbox_record::{Spool, Tail, what_mends};
 
 /// A quota of bytes, and how many stand in the mailbox by the worker's own count, which stays at 2^64 - 1.
 #[derive(Clone, Copy, Debug, PartialEq, Eq)]
@@ -45,13 +45,10 @@ impl Limit {
     }
 }
 
-// How many bytes end the last line, and the empty line after it, where a mailbox ends so.
+// How many bytes mend a mailbox that ends so.
 fn missing(tail: Tail) -> u64
     ensures { result ≡ missing tail }
 {
-    match tail {
-        Tail::Empty | Tail::TwoLf => 0,
-        Tail::OneLf => 1,
-        Tail::NoLf => 2,
-    }
+    let (missing, lfs) = what_mends(tail);
+    (missing.len() + lfs.len()) as u64
 }

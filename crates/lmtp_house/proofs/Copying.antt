@@ -8,7 +8,8 @@ use Rattle.mail_world.specs.declared.Note.{Note}
 use Rattle.mail_world.specs.declared.Outcome.{Outcome}
 use Rattle.mail_world.specs.declared.Outcome.TheVariants.{Stored, OverQuota}
 use Rattle.mail_world.specs.Prefixes.{IsPrefix}
-use Rattle.mail_world.specs.Records.{record_of, mended, mailbox}
+use Rattle.mail_world.specs.Records.{record_of, mailbox}
+use Rattle.mail_world.specs.Endings.{mended}
 use Rattle.mail_world.specs.Quotas.{fits, are_kept_after, marked, outcomes_settled}
 use Rattle.mail_world.specs.Deliveries.{IsTorn}
 use Rattle.mail_runs.specs.Courses.{Server, Spooled, TakesOne, TakesAll, IsCourse}

@@ -7,7 +7,8 @@ use Rattle.std.specs.Io.KnownBytes.{Appends}
 use Rattle.mail_world.specs.declared.Note.{Note}
 use Rattle.mail_world.specs.declared.Outcome.{Outcome}
 use Rattle.mail_world.specs.Prefixes.{IsPrefix}
-use Rattle.mail_world.specs.Records.{Calendar, record_of, mended, mailbox}
+use Rattle.mail_world.specs.Records.{Calendar, record_of, mailbox}
+use Rattle.mail_world.specs.Endings.{mended}
 use Rattle.mail_world.specs.Quotas.{are_kept_after, marked, outcomes_settled}
 use Rattle.mail_world.specs.Deliveries.{IsTorn}
 use Rattle.mail_runs.specs.Courses.{Server, Course, IsCourse}

@@ -86,10 +86,11 @@ no_server words cause site sizes count address made asked boxes only (inr good) 
     (λ bad. absurd (bad (size_asked words site sizes count made.0 asked boxes good))))
 
 -- it wasn't set up
-pub unset : (words : ServeWords) (s : Stop) → IsListenAddress words.listen.now → IsNotSetUp words.site s → IsNotServed words s
+pub unset : (words : ServeWords) (s : Stop) → IsListenAddress words.listen.now → IsNotSetUp words s → IsNotServed words s
 unset words s address (inl memory) = inl memory
 unset words s address (inr (inl (f, is, fault_of_site))) = inr (inr (address, inl (f, is, fault_of_site)))
 unset words (stop.Unopened name) address (inr (inr (sound, named))) = inr (inr (address, inr (sound, named)))
+unset words (stop.NoFolder name) address (inr (inr (sound, named))) = inr (inr (address, inr (sound, named)))
 unset words (stop.Fault f) address (inr (inr (sound, is))) = inl (ap stop.Fault is)
 unset words (stop.Words refused) address (inr (inr (sound, never))) = absurd never
 unset words (stop.Unread path) address (inr (inr (sound, never))) = absurd never

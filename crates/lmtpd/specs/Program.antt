@@ -1,6 +1,6 @@
 -- What a run of the program comes to: the words say what is asked for, and then come what was done, the lines on
 -- standard error and the status.
-use Rattle.std.specs.Prelude.{◌≡◌, ◌⊎◌, ◌*◌, ◌-◌, ◌^◌, min, ℕ, true, List, ◌++◌, length, Option, Some, None, Contains}
+use Rattle.std.specs.Prelude.{◌≡◌, ◌⊎◌, ◌*◌, ◌-◌, ◌^◌, min, ℕ, true, false, List, ◌++◌, length, Option, Some, None, Contains}
 use Rattle.std.specs.Option.{option_map_or}
 use Rattle.clap.specs.Words.{Text, kind_of, subcommand_of, takes}
 use Rattle.clap.specs.declared.error.Error.{Error}
@@ -108,12 +108,13 @@ pub record IsServedAsAsked (L C E : Type 0) {G S : Type 0} (told : G → Option 
   pub ran : IsServerRun L C E (named_site words.site) state told
       (record { lanes = words.lanes; capacity = words.capacity; quota = words.quota }) spools served
 
--- why none ran though its site is sound: a mailbox's file, what it listens on, or the server; a port that none may
--- have is seen only now where the socket was passed
+-- why none ran though its site is sound: a mailbox's file, or only their folder where it is to start anyway, what it
+-- listens on, or the server; a port that none may have is seen only now where the socket was passed
 abbrev pub IsNotServedAt : ServeWords → Stop → Type 0
 IsNotServedAt words (stop.Words error) = ⊥
 IsNotServedAt words (stop.Unread path) = ⊥
-IsNotServedAt words (stop.Unopened name) = Contains words.site.boxes.items name
+IsNotServedAt words (stop.Unopened name) = (words.start_anyway ≡ false) × Contains words.site.boxes.items name
+IsNotServedAt words (stop.NoFolder name) = (words.start_anyway ≡ true) × Contains words.site.boxes.items name
 IsNotServedAt words (stop.Fault f) = (f ≡ fault.Listen)
     ⊎ (((f ≡ fault.Port) × AsksInherited words.listen.now) ⊎ IsNotRun (IsSizeAsked words) f)
 

@@ -6,7 +6,8 @@ use Rattle.std.specs.Option.{IfSome}
 use Rattle.std.specs.List.{AllByRecursion}
 use Rattle.mail_world.specs.declared.Note.{Note}
 use Rattle.mail_world.specs.declared.Outcome.TheVariants.{Stored, OverQuota}
-use Rattle.mail_world.specs.Records.{Calendar, record_of, mended}
+use Rattle.mail_world.specs.Records.{Calendar, record_of}
+use Rattle.mail_world.specs.Endings.{mended}
 use Rattle.mail_world.specs.Quotas.{fits, are_kept_after, are_kept, kept, marked, outcomes_settled}
 use Rattle.mbox_record.specs.Spool.{SpoolState}
 use Rattle.box_worker.specs.Limits.{StartsAt}

@@ -10,7 +10,7 @@ use Rattle.lmtpd_setup.specs.declared.stop.Stop.TheVariants as stop
 abbrev pub fault_line : Fault → List ℕ
 fault_line f = codes "lmtpd: " ++ fault_text f ++ (lf ∷ [])
 
--- the line for a mailbox whose file can't be opened
+-- the line for a mailbox whose file can't be opened, whatever the cause
 abbrev pub unopened_line : List ℕ → List ℕ
 unopened_line name = codes "lmtpd: cannot open " ++ name ++ (codes ".mbox" ++ (lf ∷ []))
 
@@ -23,6 +23,7 @@ abbrev pub stop_line : Stop → List ℕ
 stop_line (stop.Words error) = []
 stop_line (stop.Fault f) = fault_line f
 stop_line (stop.Unopened name) = unopened_line name.now
+stop_line (stop.NoFolder name) = unopened_line name.now
 stop_line (stop.Unread path) = unread_line path.now
 
 -- the line and the status where all was done that was asked for, but for a fault

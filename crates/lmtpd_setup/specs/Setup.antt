@@ -2,7 +2,6 @@
 use Rattle.std.specs.Prelude.{◌≡◌, ◌⊎◌, Some, None}
 use Rattle.lmtpd_words.specs.Words.{named_site}
 use Rattle.lmtpd_words.specs.declared.words.ServeWords.{ServeWords}
-use Rattle.lmtpd_words.specs.declared.words.SiteWords.{SiteWords}
 use Rattle.lmtpd_listen.specs.Opened.{IsUnopened}
 use Rattle.lmtpd_listen.specs.declared.fault.ListenFault.{ListenFault}
 use Rattle.lmtpd_listen.specs.declared.listen_address.ListenAddress.{ListenAddress}
@@ -10,6 +9,7 @@ use Rattle.lmtpd_setup.specs.Faults.{first_fault, listen_refusal}
 use Rattle.lmtpd_setup.specs.Unopened.{AreNotOpen}
 use Rattle.lmtpd_setup.specs.declared.ends.Ends.{Ends}
 use Rattle.lmtpd_setup.specs.declared.fault.Fault.{Fault}
+use Rattle.lmtpd_setup.specs.declared.mailboxes.Access.{Access}
 use Rattle.lmtpd_setup.specs.declared.fault.Fault.TheVariants as fault
 use Rattle.lmtpd_setup.specs.declared.stop.Stop.{Stop}
 use Rattle.lmtpd_setup.specs.declared.stop.Stop.TheVariants as stop
@@ -18,12 +18,22 @@ use Rattle.lmtpd_setup.specs.declared.stop.Stop.TheVariants as stop
 abbrev pub ends_asked : ServeWords → Ends
 ends_asked words = record { stop_file = words.stop_file; heals = words.heal; session_time = words.session_time }
 
+-- where mailboxes are, how a turn at one is waited for, how a file is made, and whether one that can't be opened keeps
+-- the server from starting
+abbrev pub access_asked : ServeWords → Access
+access_asked words = record {
+  folder = words.dir;
+  wait = words.lock_wait;
+  mode = words.mailbox_mode;
+  anyway = words.start_anyway;
+}
+
 -- why a server isn't set up: memory is lacking, and else the first fault of the site, and then one of its mailboxes'
--- files
-abbrev pub IsNotSetUp : SiteWords → Stop → Type 0
+-- files, or only their folder where it is to start anyway
+abbrev pub IsNotSetUp : ServeWords → Stop → Type 0
 IsNotSetUp words s = (s ≡ stop.Fault fault.Memory)
-    ⊎ (((f : Fault) × (s ≡ stop.Fault f) × (first_fault (named_site words) ≡ Some f))
-    ⊎ ((first_fault (named_site words) ≡ None) × AreNotOpen words.boxes.items s))
+    ⊎ (((f : Fault) × (s ≡ stop.Fault f) × (first_fault (named_site words.site) ≡ Some f))
+    ⊎ ((first_fault (named_site words.site) ≡ None) × AreNotOpen words.start_anyway words.site.boxes.items s))
 
 -- why nothing was opened there
 abbrev pub IsUnopenedAt : ListenAddress → Fault → Type 0

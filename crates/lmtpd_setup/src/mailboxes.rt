@@ -26,16 +26,19 @@ type SharedMailbox<R, G> = SharedSpool<LoggedFile<StdMailboxFile<R>, G>, Hurried
 /// One whose failure ends a server that heals, and of which it is logged that it is in use.
 pub type ServedMailbox<R, G> = LoggedMailbox<WatchedMailbox<SharedMailbox<R, G>, R>, G>;
 
-/// Where mailboxes are, how many seconds a turn at one is waited for, and the permission bits of a file that is made.
+/// Where mailboxes are, how many seconds a turn at one is waited for, the permission bits of a file that is made, and
+/// whether a mailbox is had though its file can't be opened.
 #[derive(Clone, Copy, Debug)]
 pub struct Access<'a> {
     pub folder: &'a str,
     pub wait: u32,
     pub mode: u32,
+    pub anyway: bool,
 }
 
 /// Opens the file of each mailbox, `FOLDER/NAME.mbox`, in their order, up to the first that can't be opened, of which
-/// the log says why. A mailbox that fails is logged, and one that is in use.
+/// the log says why. With `anyway` it goes on after such a one, whose turns are missed until its file is in order; only a
+/// folder that can't be read ends it. A mailbox that fails is logged, and one that is in use.
 pub fn open_mailboxes<'a, R, G>(
     rt: R,
     alloc: Global,
@@ -49,7 +52,7 @@ where
     R::File: RangeLock,
     G: Log + Copy + Drop,
     ensures count { IfOk result (λ spools. vec_len spools ≡ length names.now) }
-    ensures refused { IfErr result (AreNotOpen names.now) }
+    ensures refused { IfErr result (AreNotOpen access.entry.anyway names.now) }
 {
     let mut spools = match Vec::with_capacity(alloc, names.len()) {
         Ok(spools) => spools,
@@ -89,7 +92,7 @@ where
     R: Files + Clock + Copy + Drop,
     R::File: RangeLock,
     G: Log + Drop,
-    ensures { IfErr result (IsNotOpen name.entry) }
+    ensures { IfErr result (IsNotOpen access.entry.anyway name.entry) }
 {
     let file = open_file(rt, alloc, access, name, &log)?;
     let file = logged_file(alloc, file, name, log)?;
@@ -100,7 +103,7 @@ where
     }
 }
 
-// Where it can't be opened the log says why.
+// What can't be opened, and is had all the same, is opened by the first turn that can.
 fn open_file<'a, R: Files + Clock + Copy + Drop, G: Log>(
     rt: R,
     alloc: Global,
@@ -110,27 +113,45 @@ fn open_file<'a, R: Files + Clock + Copy + Drop, G: Log>(
 ) -> Result<StdMailboxFile<R>, Stop<'a>>
 where
     R::File: RangeLock,
-    ensures { IfErr result (IsNotOpen name.entry) }
+    ensures { IfErr result (IsNotOpen access.entry.anyway name.entry) }
 {
     let folder = access.folder;
     let path = match format!(in alloc; "{folder}/{name}.mbox") {
         Ok(path) => path,
         Err(_) => return Err(Stop::Fault(Fault::Memory)),
     };
-    match StdMailboxFile::open(rt, alloc, path.as_str(), access.mode) {
+    let path = path.as_str();
+    match StdMailboxFile::open(rt, alloc, path, access.mode) {
+        Ok(file) => return Ok(file),
+        Err(reason) => allow_unopened(&rt, access, name, reason, log)?,
+    }
+    match StdMailboxFile::unopened(rt, alloc, path, access.mode) {
         Ok(file) => Ok(file),
-        Err(reason) => Err(unopened(name, reason, log)),
+        Err(_) => Err(Stop::Fault(Fault::Memory)),
     }
 }
 
-fn unopened<'a, G: Log>(name: &'a str, reason: io::Error, log: &G) -> Stop<'a>
-    ensures { IsNotOpen name.entry result }
+// Whether a mailbox is had whose file can't be opened, of which the log says why.
+fn allow_unopened<'a, R: Files, G: Log>(
+    rt: &R,
+    access: Access<'_>,
+    name: &'a str,
+    reason: io::Error,
+    log: &G,
+) -> Result<(), Stop<'a>>
+    ensures { IfErr result (IsNotOpen access.entry.anyway name.entry) }
 {
     if reason.kind() == ErrorKind::OutOfMemory {
-        return Stop::Fault(Fault::Memory);
+        return Err(Stop::Fault(Fault::Memory));
     }
     error!(log; target: "lmtpd", mailbox = name, reason:%; "cannot open");
-    Stop::Unopened(name)
+    if !access.anyway {
+        return Err(Stop::Unopened(name));
+    }
+    if rt.open_dir(access.folder).is_err() {
+        return Err(Stop::NoFolder(name));
+    }
+    Ok(())
 }
 
 fn logged_file<'a, F: Drop, G: Drop>(

@@ -4,7 +4,7 @@ ghost use Rattle.std.specs.Prelude.{◌≡◌, length, None, IfOk, IfErr};
 ghost use Rattle.std.specs.Arc.{arc_value};
 ghost use Rattle.lmtpd_words.specs.Words.{named_site};
 ghost use Rattle.lmtpd_setup.specs.Faults.{first_fault};
-ghost use Rattle.lmtpd_setup.specs.Setup.{IsNotSetUp, ends_asked};
+ghost use Rattle.lmtpd_setup.specs.Setup.{IsNotSetUp, access_asked, ends_asked};
 
 use crate::ends::{Ends, ServerCurfew};
 use crate::fault::Fault;
@@ -56,17 +56,13 @@ where
     ensures site { IfOk result (λ setup. arc_value setup.site ≡ named_site words.now.site) }
     ensures sound { IfOk result (λ setup. first_fault (named_site words.now.site) ≡ None) }
     ensures count { IfOk result (λ setup. length setup.spools.items ≡ length words.now.site.boxes.items) }
-    ensures refused { IfErr result (IsNotSetUp words.now.site) }
+    ensures refused { IfErr result (IsNotSetUp words.now) }
 {
     let alloc = rt.alloc();
     let site = shared_site(alloc, &words.site)?;
     let log = server_log(rt, threads, words.log);
     tell_of_room(words, &log);
-    let access = Access {
-        folder: words.dir,
-        wait: words.lock_wait,
-        mode: words.mailbox_mode,
-    };
+    let access = access_asked(words);
     let curfew = shared_curfew(threads, alloc, words)?;
     let spools = open_mailboxes(threads, alloc, access, &words.site.boxes, &curfew, log)?;
     let logs = line_setting(threads, log, words, &site)?;
@@ -77,6 +73,18 @@ where
         spools,
         logs,
     })
+}
+
+// How the mailboxes' files are had.
+fn access_asked<'a>(words: &ServeWords<'a>) -> Access<'a>
+    ensures { result ≡ access_asked words.now }
+{
+    Access {
+        folder: words.dir,
+        wait: words.lock_wait,
+        mode: words.mailbox_mode,
+        anyway: words.start_anyway,
+    }
 }
 
 // What ends the server and its conversations, for lanes and mailboxes to share.

@@ -21,14 +21,16 @@ pub struct Exit {
     pub cut: bool,
 }
 
-/// Words that `clap` refuses or answers with help, a fault, a mailbox whose file can't be opened, or a file of
-/// mailboxes that can't be read.
+/// Words that `clap` refuses or answers with help, a fault, a mailbox whose file can't be opened, alone or since its
+/// folder can't be read, or a file of mailboxes that can't be read.
 #[derive(Debug, Drop)]
 pub enum Stop<'a> {
     Words(Error),
     Fault(Fault),
     /// The mailbox of this name.
     Unopened(&'a str),
+    /// The mailbox of this name, of a folder that isn't there or can't be read.
+    NoFolder(&'a str),
     /// The file at this path.
     Unread(&'a str),
 }
@@ -80,7 +82,7 @@ impl Stop<'_> {
                 }
             }
             Stop::Fault(fault) => report_fault(Some(*fault), error),
-            Stop::Unopened(name) => report_unopened(name, error),
+            Stop::Unopened(name) | Stop::NoFolder(name) => report_unopened(name, error),
             Stop::Unread(path) => report_unread(path, error),
         }
     }

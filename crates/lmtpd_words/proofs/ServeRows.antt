@@ -21,6 +21,14 @@ pub heal_left_out : of_rows (one_of (codes "heal")) (served (codes "anna" ∷ []
 unfolding clap_on_literals
 heal_left_out = refl
 
+pub start_anyway_given : of_rows (one_of (codes "start-anyway")) (served (codes "--start-anyway" ∷ codes "anna" ∷ [])) ≡ Some (Some (codes "true"))
+unfolding clap_on_literals
+start_anyway_given = refl
+
+pub start_anyway_left_out : of_rows (one_of (codes "start-anyway")) (served (codes "anna" ∷ [])) ≡ Some (Some (codes "false"))
+unfolding clap_on_literals
+start_anyway_left_out = refl
+
 pub log_addresses_given : of_rows (one_of (codes "log-addresses")) (served (codes "--log-addresses" ∷ codes "anna" ∷ [])) ≡ Some (Some (codes "true"))
 unfolding clap_on_literals
 log_addresses_given = refl

@@ -174,6 +174,7 @@ pub record IsServeRead (rows : List Row) (words : ServeWords) : Type 0 where
   pub connections : option_map number (one_of (codes "connections") rows) ≡ words.connections
   pub stop_file : IsPathIfGiven (first_of (codes "stop-file") rows) (option_map (λ path. path.now) words.stop_file)
   pub heal : IsFlag (one_of (codes "heal") rows) words.heal
+  pub start_anyway : IsFlag (one_of (codes "start-anyway") rows) words.start_anyway
 
 -- what the values of a check's argument ask for
 pub record IsCheckRead (rows : List Row) (words : CheckWords) : Type 0 where

@@ -71,7 +71,7 @@ pub const REHEARSE: [Argument; 9] = [
 ];
 
 /// What a server takes: what must be given, what may be, what ends it, and the mailboxes.
-pub const SERVE: [Argument; 23] = [
+pub const SERVE: [Argument; 24] = [
     HOST,
     LISTEN,
     DIR,
@@ -93,6 +93,7 @@ pub const SERVE: [Argument; 23] = [
     CONNECTIONS,
     STOP_FILE,
     HEAL,
+    START_ANYWAY,
     BOXES_FILE,
     BOXES,
 ];
@@ -304,6 +305,14 @@ const HEAL: Argument = Argument {
     name: "heal",
     value: "",
     help: "Ends with status 1, 30 seconds after a mailbox failed, so that a service manager starts the server again",
+    is_required: false,
+    kind: ValueKind::Flag,
+};
+
+const START_ANYWAY: Argument = Argument {
+    name: "start-anyway",
+    value: "",
+    help: "Starts where a mailbox's file can't be opened too: its copies are told 451 until it can be",
     is_required: false,
     kind: ValueKind::Flag,
 };

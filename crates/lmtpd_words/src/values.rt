@@ -136,6 +136,7 @@ fn serve_words<'a>(
         socket_mode,
         stop_file,
         heal: is_given(matches, "heal"),
+        start_anyway: is_given(matches, "start-anyway"),
     }))
 }
 

@@ -108,6 +108,8 @@ pub struct ServeWords<'a> {
     pub stop_file: Option<&'a str>,
     /// The server ends some seconds after a mailbox failed, so that a service manager starts it again.
     pub heal: bool,
+    /// The server starts though the file of a mailbox can't be opened.
+    pub start_anyway: bool,
 }
 
 /// What a check is asked to do.

@@ -3,7 +3,8 @@ use Rattle.std.specs.Prelude.{◌≡◌, ◌⊎◌, ℕ, Bool, true, false, List
 use Rattle.mail_world.specs.declared.Note.{Note}
 use Rattle.mail_world.specs.declared.Outcome.{Outcome}
 use Rattle.mail_world.specs.declared.Outcome.TheVariants.{Stored, Failed, OverQuota}
-use Rattle.mail_world.specs.Records.{Calendar, record_of, mended}
+use Rattle.mail_world.specs.Records.{Calendar, record_of}
+use Rattle.mail_world.specs.Endings.{mended}
 use Rattle.mail_world.specs.Quotas.{fits}
 
 -- what stays while a server runs: the calendar and the host of its records, the limit of bytes for each mailbox, and

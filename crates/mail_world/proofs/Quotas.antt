@@ -5,7 +5,8 @@ use Rattle.std.specs.Prelude.{if◌then◌else◌, flat_map, nat_le}
 use Rattle.std.proofs.lemmas.Bool.{leb-true}
 use Rattle.std.proofs.lemmas.List.{length-append}
 use Rattle.mail_world.specs.declared.Note.{Note}
-use Rattle.mail_world.specs.Records.{Calendar, record_of, mended, mailbox}
+use Rattle.mail_world.specs.Records.{Calendar, record_of, mailbox}
+use Rattle.mail_world.specs.Endings.{mended}
 use Rattle.mail_world.specs.Quotas.{fits, are_kept_after, are_kept, marked, kept}
 
 -- what holds of all holds of those that are marked

@@ -4,7 +4,8 @@ use Rattle.std.specs.Prelude.{if◌then◌else◌}
 use Rattle.mail_world.specs.declared.Note.{Note}
 use Rattle.mail_world.specs.declared.Outcome.{Outcome}
 use Rattle.mail_world.specs.declared.Outcome.TheVariants.{Stored, Failed, OverQuota}
-use Rattle.mail_world.specs.Records.{Calendar, record_of, mended, mailbox}
+use Rattle.mail_world.specs.Records.{Calendar, record_of, mailbox}
+use Rattle.mail_world.specs.Endings.{mended}
 use Rattle.mail_world.specs.Quotas.{fits, are_kept_after, are_kept, kept, marked, outcomes_settled}
 use Rattle.mail_world.specs.Slips.{slip_of, slips_from}
 use Rattle.mail_world.proofs.Quotas.{kept_next}

@@ -4,7 +4,8 @@ use Rattle.std.specs.Prelude.{Option, Some, None}
 use Rattle.mail_world.specs.declared.Note.{Note}
 use Rattle.mail_world.specs.declared.Outcome.{Outcome}
 use Rattle.mail_world.specs.declared.Outcome.TheVariants.{Stored, Failed, OverQuota}
-use Rattle.mail_world.specs.Records.{Calendar, record_of, mended}
+use Rattle.mail_world.specs.Records.{Calendar, record_of}
+use Rattle.mail_world.specs.Endings.{mended}
 
 -- a record of that size may stand after that many bytes
 abbrev pub fits : Option ℕ → ℕ → ℕ → Bool

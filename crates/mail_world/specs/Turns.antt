@@ -6,7 +6,8 @@ use Rattle.mail_world.specs.declared.Outcome.{Outcome}
 use Rattle.mail_world.specs.declared.Outcome.TheVariants.{Stored, Failed, OverQuota}
 use Rattle.mail_world.specs.Failures.{Rises}
 use Rattle.mail_world.specs.Prefixes.{IsPrefix}
-use Rattle.mail_world.specs.Records.{Calendar, record_of, mended}
+use Rattle.mail_world.specs.Records.{Calendar, record_of}
+use Rattle.mail_world.specs.Endings.{mended}
 use Rattle.mail_world.specs.Quotas.{fits}
 
 -- a mailbox at a lock or at an unlock: its bytes, how many of the first of them a sync covered, and how often its spool

@@ -54,6 +54,9 @@ pub const WORKER_BUFFER_SIZE: usize = 512;
 /// The bytes of a message that a lane takes from its data at once.
 pub const DATA_BUFFER_SIZE: usize = 512;
 
+/// The bytes at a mailbox's end that tell what mends it.
+pub const TAIL_SIZE: usize = 4096;
+
 /// The slots of an arena.
 pub const SLOT_LIMIT: u32 = 64;
 

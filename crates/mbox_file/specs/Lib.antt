@@ -1,1 +1,2 @@
 pub mod MailboxFile
+pub mod Holder

@@ -4,7 +4,8 @@ use Rattle.mail_world.specs.Counts.{counted}
 use Rattle.mail_world.specs.Failures.{Rises}
 use Rattle.mail_world.specs.Prefixes.{IsPrefix}
 use Rattle.mbox_file.specs.declared.file.FileEnd.{FileEnd}
-use Rattle.mbox_record.specs.Spool.{tail_of}
+use Rattle.mail_world.specs.Endings.{ending}
+use Rattle.mbox_record.specs.Tail.{ending_of}
 
 -- Other programs change the file, and what the path names, only while a lock isn't held. Contracts see it in the calls
 -- that ask for a lock or open the path again.
@@ -87,7 +88,7 @@ HasLooked old new false = HasRefused old new
 -- so the file ends
 pub record IsEnd (file : FileState) (end : FileEnd) : Type 0 where
   pub at : end.at ≡ counted (length file.bytes)
-  pub tail : end.tail ≡ tail_of file.bytes
+  pub tail : ending_of end.tail ≡ ending file.bytes
 
 -- the end was read, and nothing changed
 pub record HasFoundEnd (old new : FileState) (end : FileEnd) : Type 0 where
@@ -111,9 +112,10 @@ pub record HasNotAppended (old new : FileState) (text : List ℕ) : Type 0 where
 abbrev pub KeepsFile : FileState → FileState → Type 0
 KeepsFile old new = new ≡ record old { kept = length old.bytes }
 
--- nobody knows what a crash leaves
+-- nobody knows what a crash leaves of what wasn't kept before
 pub record FailsToKeep (old new : FileState) : Type 0 where
   pub same : new ≡ record old { kept = new.kept; faults = new.faults }
+  pub kept : old.kept ≤ new.kept
   pub failed : Rises old.faults new.faults
 
 -- only that many of the first bytes are left

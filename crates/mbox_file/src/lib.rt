@@ -7,6 +7,7 @@
 
 mod file;
 mod file_lock;
+mod holder;
 mod mailbox_file;
 mod memory_file;
 mod plain;

@@ -1,6 +1,6 @@
 //! Which files a mailbox may be: plain ones, so that nobody who may write the folder has letters appended to a file
 //! that a link leads to.
-use crate::file::open_or_make;
+use crate::file::open_or_new;
 use mbox_record::InUse;
 use std::fs::{Files, Metadata, OpenFile};
 use std::io::ErrorKind;
@@ -43,7 +43,7 @@ pub(crate) fn open_plain<R: Files>(
     mode: u32,
 ) -> Result<OpenNode<R::File>, InUse> {
     names_plain(rt, path)?;
-    let file = open_or_make(rt, path, mode).map_err(system_fault)?;
+    let file = open_or_new(rt, path, mode).map_err(system_fault)?.file;
     let metadata = file.metadata().map_err(system_fault)?;
     if !is_plain(&metadata) || !names_plain(rt, path)? {
         return Err(InUse::NotPlain);

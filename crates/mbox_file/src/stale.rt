@@ -1,27 +1,21 @@
 //! Lock files that nobody has: their process is gone, or they are older than any turn.
-ghost use Rattle.std.specs.Prelude.{◌≤◌, length, IfOk};
-
+use crate::holder::{Holder, Named, is_left_behind};
 use crate::plain::node_of;
 use std::alloc::{AllocError, Global};
-use std::fs::{File, Files, Metadata, OpenFile};
+use std::fs::{Files, Metadata, OpenFile, OpenOptions};
+use std::io;
 use std::io::Read;
 use std::os::unix::fs::MetadataExt;
 use std::time::Clock;
-use std::{fs, io};
 
-/// A lock file that is older is left behind, where no process of this host has it.
-const STALE_SECONDS: u64 = 300;
-
-/// Room for the text of a lock file.
+/// Room for the text of a lock file; one that fills it names nobody.
 const TEXT_SIZE: usize = 320;
 
 /// Room for the host's name, which Linux has up to 64 bytes of.
 const HOST_SIZE: usize = 256;
 
-/// More digits than a process's number has.
-const DIGITS_SIZE: usize = 10;
-
-const PROCESSES: &[u8] = b"/proc/";
+/// The clock that counts from the host's boot on, also while it is suspended.
+const CLOCK_BOOTTIME: i32 = 7;
 
 /// Who has a lock file, in the form that others read: PROCESS:HOST.
 pub(crate) fn owner_text(alloc: Global) -> Result<String, AllocError> {
@@ -42,37 +36,34 @@ pub(crate) fn is_stale<R: Files + Clock>(
 ) -> bool {
     let mut bytes = [0; TEXT_SIZE];
     let n = read_text(rt, lock_path, found, &mut bytes);
-    let (process, host) = parts_of(text_of(&bytes[..n]));
-    let (own_process, own_host) = parts_of(owner);
+    let text = if n < TEXT_SIZE { &bytes[..n] } else { &[] };
     let is_own_user = found.uid() == libc::geteuid();
-    let is_own_host = !host.is_empty() && host == own_host;
-    if is_own_user && is_own_host && (process == own_process || is_gone(rt, process)) {
-        return true;
-    }
-    let may_be_here = host.is_empty() || is_own_host;
-    is_old(rt, found) && !(may_be_here && is_alive(rt, process))
+    let holder = holder_of(str::from_utf8(text).unwrap_or(""), owner, is_own_user);
+    is_left_behind(holder, age_of(rt, found), since_boot())
 }
 
-fn text_of<'a>(bytes: &'a [u8]) -> &'a str {
-    match str::from_utf8(bytes) {
-        Ok(text) => text.trim(),
-        Err(_) => "",
+// Who has the lock file of that text, as far as this host can tell.
+fn holder_of(text: &str, owner: &str, is_own_user: bool) -> Holder {
+    let named = Named::of(text);
+    let own = Named::of(owner);
+    let is_own_host = !named.host.is_empty() && named.host == own.host;
+    match named.process {
+        Some(process) if named.host.is_empty() || is_own_host => {
+            let is_own = named.process == own.process;
+            Holder::here(is_own, is_gone(process), is_own_user && is_own_host)
+        }
+        _ => Holder::Unknown,
     }
 }
 
-// The process and its host; a lock file may name no host.
-fn parts_of<'a>(owner: &'a str) -> (&'a str, &'a str) {
-    match owner.split_once(':') {
-        Some(parts) => parts,
-        None => (owner, ""),
-    }
+// Whether there is no process of that number. One of which nothing may be known is there.
+fn is_gone(process: u32) -> bool {
+    libc::getsid(process.cast_signed()) < 0 && os::errno() == libc::ESRCH
 }
 
 // How many bytes were read of the lock file, as far as there is room. What is no plain file isn't opened, since that
 // could wait.
-fn read_text<R: Files>(rt: &R, lock_path: &str, found: &Metadata, bytes: &mut [u8]) -> usize
-    ensures { result ≤ length bytes.new }
-{
+fn read_text<R: Files>(rt: &R, lock_path: &str, found: &Metadata, bytes: &mut [u8]) -> usize {
     if !found.is_file() {
         return 0;
     }
@@ -82,53 +73,43 @@ fn read_text<R: Files>(rt: &R, lock_path: &str, found: &Metadata, bytes: &mut [u
     }
 }
 
+// A FIFO that was put there meanwhile is opened at once for reading and writing; for reading alone it would wait for
+// somebody who writes.
 fn read_found<R: Files>(
     rt: &R,
     lock_path: &str,
     found: &Metadata,
     bytes: &mut [u8],
-) -> io::Result<usize>
-    ensures { IfOk result (λ n. n ≤ length bytes.new) }
-{
-    let mut file = File::open(rt, lock_path)?;
-    if node_of(&file.metadata()?) != node_of(found) {
+) -> io::Result<usize> {
+    let mut file = OpenOptions::new()
+        .read(true)
+        .write(true)
+        .open(rt, lock_path)?;
+    let metadata = file.metadata()?;
+    // a number that a file had may be a FIFO's by now
+    if !metadata.is_file() || node_of(&metadata) != node_of(found) {
         return Ok(0);
     }
     file.read(bytes)
 }
 
-fn is_old<R: Clock>(rt: &R, found: &Metadata) -> bool {
+// How many seconds ago the lock file was written or touched; 0 where that isn't known.
+fn age_of<R: Clock>(rt: &R, found: &Metadata) -> u64 {
     let Ok(now) = rt.since_1970() else {
-        return false;
+        return 0;
     };
-    let made = u64::try_from(found.mtime()).unwrap_or(0);
-    now.as_secs().saturating_sub(made) > STALE_SECONDS
+    let touched = u64::try_from(found.mtime()).unwrap_or(0);
+    now.as_secs().saturating_sub(touched)
 }
 
-// Whether there is no process of that number, so far as /proc tells.
-fn is_gone<R: Files>(rt: &R, process: &str) -> bool {
-    find_process(rt, process) == Some(false)
-}
-
-fn is_alive<R: Files>(rt: &R, process: &str) -> bool {
-    find_process(rt, process) == Some(true)
-}
-
-// None: it is no number, or nobody knows.
-fn find_process<R: Files>(rt: &R, process: &str) -> Option<bool> {
-    let digits = process.as_bytes();
-    let is_number = digits.iter().all(|digit| digit.is_ascii_digit());
-    if !is_number || digits.is_empty() || digits.len() > DIGITS_SIZE {
-        return None;
+// How many seconds ago this host was booted; where nobody knows it never was.
+fn since_boot() -> u64 {
+    let mut time = libc::types::timespec {
+        tv_sec: 0,
+        tv_nsec: 0,
+    };
+    if libc::clock_gettime(CLOCK_BOOTTIME, &mut time) != 0 {
+        return u64::MAX;
     }
-    let mut path = [0; PROCESSES.len() + DIGITS_SIZE];
-    let end = PROCESSES.len() + digits.len();
-    path[..PROCESSES.len()].copy_from_slice(PROCESSES);
-    path[PROCESSES.len()..end].copy_from_slice(digits);
-    let path = str::from_utf8(&path[..end]).ok()?;
-    // where no process is shown, not even this one, it tells nothing of others
-    match (fs::exists(rt, "/proc/self"), fs::exists(rt, path)) {
-        (Ok(true), Ok(is_there)) => Some(is_there),
-        _ => None,
-    }
+    u64::try_from(time.tv_sec).unwrap_or(u64::MAX)
 }

@@ -2,13 +2,13 @@
 //!
 //! A lock file is linked from one that is made at the start and stays, `PATH.source.lock`: to make a file and write to
 //! it for each turn takes ten times as long. Where there can be no link it is made.
-use crate::file::{FileEnd, end_of_file};
+use crate::file::{FileEnd, end_of_file, sync_folder};
 use crate::mailbox_file::MailboxFile;
 use crate::plain::{Node, OpenNode, is_plain, node_of, open_plain, system_fault};
 use crate::range_lock::{LockKind, RangeLock};
 use crate::stale::{is_stale, owner_text};
 use mbox_record::InUse;
-use std::alloc::Global;
+use std::alloc::{AllocError, Global};
 use std::fs::{FileTimes, Files, Metadata, OpenFile, OpenOptions};
 use std::io::{ErrorKind, Write};
 use std::os::unix::fs::{MetadataExt, OpenOptionsExt};
@@ -18,12 +18,15 @@ use std::{fs, io};
 /// Others read in a lock file whose it is.
 const LOCK_MODE: u32 = 0o644;
 
-/// A mailbox's file that is open, and its lock file `PATH.lock`. It tells contracts nothing.
+/// A mailbox's file that is open, or that could not be opened yet, and its lock file `PATH.lock`. It tells contracts
+/// nothing.
 pub struct StdMailboxFile<R: Files + Clock + Drop> {
     rt: R,
     path: String,
     mode: u32,
-    open: OpenNode<R::File>,
+    open: Option<OpenNode<R::File>>,
+    // the folder was synced since this file is the open one
+    is_folder_synced: bool,
     lock_path: String,
     owner: String,
     source_path: String,
@@ -39,14 +42,15 @@ impl<R: Files + Clock + Drop> Drop for StdMailboxFile<R> {
             path: _,
             mode: _,
             open: _,
+            is_folder_synced: _,
             lock_path: _,
             owner: _,
             source_path,
             source,
             lock_file: _,
         } = self;
-        if source.is_some() {
-            let _ = fs::remove_file(&rt, source_path.as_str());
+        if let Some(source) = source {
+            let _ = remove_node(&rt, source_path.as_str(), source.node);
         }
     }
 }
@@ -74,24 +78,51 @@ impl<R: Files + Clock + Drop> StdMailboxFile<R>
 where
     R::File: RangeLock,
 {
-    /// Opens the plain file at that path. Where it is missing it is made with these permission bits, and the folder
-    /// that holds it is synced. Neither lock is held, and a lock file that was left behind is gone. An error says why
-    /// it can't be used, of `ErrorKind::OutOfMemory` where memory is lacking.
+    /// Opens the plain file at that path. Where it is missing it is made with these permission bits. Neither lock is
+    /// held, and a lock file that was left behind is gone. An error says why it can't be used, of
+    /// `ErrorKind::OutOfMemory` where memory is lacking.
     pub fn open(rt: R, alloc: Global, path: &str, mode: u32) -> io::Result<StdMailboxFile<R>> {
-        let mut file = StdMailboxFile {
+        let mut file = StdMailboxFile::unopened(rt, alloc, path, mode)?;
+        file.reopen().map_err(error_of)?;
+        let _ = file.remove_stale();
+        Ok(file)
+    }
+
+    /// The file at that path, of which nothing is touched before the first turn: each turn tries to open it, as `open`
+    /// does, until one can.
+    pub fn unopened(
+        rt: R,
+        alloc: Global,
+        path: &str,
+        mode: u32,
+    ) -> Result<StdMailboxFile<R>, AllocError> {
+        Ok(StdMailboxFile {
             path: format!(in alloc; "{path}")?,
             mode,
-            open: open_plain(&rt, path, mode).map_err(error_of)?,
+            open: None,
+            is_folder_synced: false,
             lock_path: format!(in alloc; "{path}.lock")?,
             owner: owner_text(alloc)?,
             source_path: format!(in alloc; "{path}.source.lock")?,
             source: None,
             lock_file: Held::No,
             rt,
-        };
-        let _ = file.remove_stale();
-        file.source = file.make_source().ok();
-        Ok(file)
+        })
+    }
+
+    fn open_node(&self) -> Option<Node> {
+        match &self.open {
+            Some(open) => Some(open.node),
+            None => None,
+        }
+    }
+
+    // The open file. No call asks for it before one was opened.
+    fn opened(&mut self) -> io::Result<&mut R::File> {
+        match &mut self.open {
+            Some(open) => Ok(&mut open.file),
+            None => Err(io::Error::from_raw_os_error(libc::EBADF)),
+        }
     }
 
     // Makes the file that lock files are linked from. One that was left behind goes; where a server has one there is
@@ -99,7 +130,7 @@ where
     fn make_source(&self) -> io::Result<OpenNode<R::File>> {
         match fs::symlink_metadata(&self.rt, self.source_path.as_str()) {
             Ok(found) if self.is_left(self.source_path.as_str(), &found) => {
-                fs::remove_file(&self.rt, self.source_path.as_str())?;
+                remove_node(&self.rt, self.source_path.as_str(), node_of(&found))?;
             }
             _ => {}
         }
@@ -127,7 +158,7 @@ where
         match made {
             Ok(node) => Ok(OpenNode { file, node }),
             Err(error) => {
-                let _ = fs::remove_file(&self.rt, path);
+                remove_open(&self.rt, path, &file);
                 Err(error)
             }
         }
@@ -147,12 +178,18 @@ where
             }
             Ok(()) => {
                 // another server's source stands in the place of this one's
-                let _ = fs::remove_file(&self.rt, self.lock_path.as_str());
+                let _ = self.remove_link();
                 None
             }
             Err(error) if error.kind() == ErrorKind::AlreadyExists => Some(false),
             Err(_) => None,
         }
+    }
+
+    // Removes the lock file where it is still what it was linked from: what the path of the source names.
+    fn remove_link(&self) -> io::Result<()> {
+        let linked = fs::symlink_metadata(&self.rt, self.source_path.as_str())?;
+        remove_node(&self.rt, self.lock_path.as_str(), node_of(&linked))
     }
 
     // Makes the lock file, unless there is one.
@@ -182,13 +219,19 @@ where
 
     // Removes the lock file, if one was made and it is still that one. Where that fails it is tried again later.
     fn remove_own(&mut self) -> io::Result<()> {
-        if self.lock_file.node().is_none() {
-            return Ok(());
+        if let Some(node) = self.lock_file.node() {
+            remove_node(&self.rt, self.lock_path.as_str(), node)?;
+            self.lock_file = Held::No;
         }
-        if self.owns_lock_file()? {
-            fs::remove_file(&self.rt, self.lock_path.as_str())?;
+        Ok(())
+    }
+
+    // Has the folder keep its entry for the open file through a crash. It need not be done again for that file.
+    fn sync_folder(&mut self) -> io::Result<()> {
+        if !self.is_folder_synced {
+            sync_folder(&self.rt, self.path.as_str())?;
+            self.is_folder_synced = true;
         }
-        self.lock_file = Held::No;
         Ok(())
     }
 
@@ -239,6 +282,23 @@ fn has_two_names<F: OpenFile>(file: &F) -> bool {
     }
 }
 
+// Removes what the path names, if it is still that file.
+fn remove_node<R: Files>(rt: &R, path: &str, node: Node) -> io::Result<()> {
+    match fs::symlink_metadata(rt, path) {
+        Ok(found) if node_of(&found) == node => fs::remove_file(rt, path),
+        Ok(_) => Ok(()),
+        Err(error) if error.kind() == ErrorKind::NotFound => Ok(()),
+        Err(error) => Err(error),
+    }
+}
+
+// Removes what the path names, if it is still the open file.
+fn remove_open<R: Files>(rt: &R, path: &str, file: &R::File) {
+    if let Ok(metadata) = file.metadata() {
+        let _ = remove_node(rt, path, node_of(&metadata));
+    }
+}
+
 // A number may be given again to a file that is made after another one was removed.
 fn is_same(again: &Metadata, found: &Metadata) -> bool {
     node_of(again) == node_of(found)
@@ -280,7 +340,11 @@ where
     }
 
     fn try_range_lock(&mut self) -> Result<(), InUse> {
-        match self.open.file.try_lock_bytes(LockKind::Exclusive) {
+        let Some(open) = &self.open else {
+            // a look at what the path names is next, which opens it
+            return Ok(());
+        };
+        match open.file.try_lock_bytes(LockKind::Exclusive) {
             Ok(()) => Ok(()),
             Err(error) if error.kind() == ErrorKind::WouldBlock => Err(InUse::Locked),
             Err(error) => Err(system_fault(error)),
@@ -288,33 +352,46 @@ where
     }
 
     fn unlock_range(&mut self) {
-        let _ = self.open.file.unlock_bytes();
+        if let Some(open) = &self.open {
+            let _ = open.file.unlock_bytes();
+        }
     }
 
     fn is_named(&mut self) -> Result<bool, InUse> {
         match fs::symlink_metadata(&self.rt, self.path.as_str()) {
             Ok(found) if !is_plain(&found) => Err(InUse::NotPlain),
-            Ok(found) => Ok(node_of(&found) == self.open.node),
+            Ok(found) => Ok(Some(node_of(&found)) == self.open_node()),
             Err(error) if error.kind() == ErrorKind::NotFound => Ok(false),
             Err(error) => Err(system_fault(error)),
         }
     }
 
     fn reopen(&mut self) -> Result<(), InUse> {
-        self.open = open_plain(&self.rt, self.path.as_str(), self.mode)?;
+        let named = open_plain(&self.rt, self.path.as_str(), self.mode)?;
+        // it is compared while both are open, since a closed file's number may be given again
+        let is_same = self.open_node() == Some(named.node);
+        let is_first = self.open.is_none();
+        self.is_folder_synced = self.is_folder_synced && is_same;
+        self.open = Some(named);
+        if is_first {
+            self.source = self.make_source().ok();
+        }
         Ok(())
     }
 
+    /// Of a file whose entry the folder keeps through a crash.
     fn end(&mut self) -> Result<FileEnd, InUse> {
-        end_of_file(&mut self.open.file).map_err(system_fault)
+        self.sync_folder().map_err(system_fault)?;
+        let file = self.opened().map_err(system_fault)?;
+        end_of_file(file).map_err(system_fault)
     }
 
     fn write(&mut self, bytes: &[u8]) -> io::Result<()> {
-        self.open.file.write_all(bytes)
+        self.opened()?.write_all(bytes)
     }
 
     fn keep(&mut self) -> io::Result<()> {
-        self.open.file.sync_data()
+        self.opened()?.sync_data()
     }
 
     /// Only while the lock file is its own: another program that took it for left behind may have written since.
@@ -322,6 +399,6 @@ where
         if !self.owns_lock_file()? {
             return Err(io::Error::from(ErrorKind::ResourceBusy));
         }
-        self.open.file.set_len(size)
+        self.opened()?.set_len(size)
     }
 }

@@ -3,7 +3,7 @@ use Rattle.std.specs.Prelude.{◌≡◌, ℕ, ◌+◌, ◌-◌, ◌^◌, min, Bo
 use Rattle.std.specs.Io.KnownBytes.{append_known}
 use Rattle.std.specs.Io.Buffered.{writer_inner, writer_buffer}
 use Rattle.mail_world.specs.Prefixes.{IsPrefix}
-use Rattle.mbox_record.specs.declared.spool.Tail.{Tail}
+use Rattle.mbox_record.specs.declared.tail.Tail.{Tail}
 use Rattle.mbox_rd.specs.declared.file.Sink.{Sink}
 use Rattle.mbox_rd.specs.declared.file.Sink.TheVariants.{Sound, Broken}
 

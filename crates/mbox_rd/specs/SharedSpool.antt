@@ -1,11 +1,12 @@
 -- What contracts see of a spool over a file that other programs use too.
-use Rattle.std.specs.Prelude.{◌≡◌, ℕ, ◌+◌, ◌-◌, ◌^◌, min, ◌||◌, Bool, true, false, List, [], ◌++◌, length}
+use Rattle.std.specs.Prelude.{◌≡◌, ℕ, ◌+◌, ◌-◌, ◌≤◌, ◌^◌, min, ◌||◌, Bool, true, false, List, [], ◌++◌, length}
 use Rattle.mail_world.specs.Counts.{counted}
 use Rattle.mail_world.specs.Failures.{Rises}
 use Rattle.mail_world.specs.Prefixes.{IsPrefix}
-use Rattle.mbox_record.specs.declared.spool.Tail.{Tail}
+use Rattle.mbox_record.specs.declared.tail.Tail.{Tail}
 use Rattle.mbox_file.specs.MailboxFile.{FileState, LeavesNoLockFile}
-use Rattle.mbox_record.specs.Spool.{tail_of}
+use Rattle.mail_world.specs.Endings.{ending}
+use Rattle.mbox_record.specs.Tail.{ending_of}
 use Rattle.mbox_rd.specs.Turn.{IsCutBack}
 
 pub record SharedSpool (F : Type 0) : Type 0 where
@@ -50,7 +51,7 @@ pub record HasTurn {F : Type 0} (state : F → FileState) (old new : SharedSpool
   pub range_lock : (state new.file).has_range_lock ≡ true
   pub named : (state new.file).is_named ≡ true
   pub began : new.began ≡ counted (length (state new.file).bytes)
-  pub tail : new.tail ≡ tail_of (state new.file).bytes
+  pub tail : ending_of new.tail ≡ ending (state new.file).bytes
   pub unchanged : (state new.file).changes ≡ (state old.file).changes
 
 -- It didn't: something was refused, no lock is left but where the lock file couldn't be removed, and nothing was
@@ -131,7 +132,7 @@ failed_again spool = record spool {
   failures = min (spool.failures + 1) (2 ^ 64 - 1);
 }
 
--- the file failed: it has a part of what waited after what it had, and no lock changed
+-- the file failed: it has a part of what waited after what it had, what was kept stays kept, and no lock changed
 pub record HasLost {F : Type 0} (state : F → FileState) (old new : SharedSpool F) : Type 0 where
   pub prefix : List ℕ
   pub part : IsPrefix prefix old.waiting
@@ -141,6 +142,7 @@ pub record HasLost {F : Type 0} (state : F → FileState) (old new : SharedSpool
     changes = (state new.file).changes;
     faults = (state new.file).faults;
   }
+  pub kept : (state old.file).kept ≤ (state new.file).kept
   pub failed : Rises (state old.file).faults (state new.file).faults
 
 -- it broke in this call

@@ -8,7 +8,8 @@ ghost use Rattle.mail_world.specs.Counts.{counted};
 ghost use Rattle.mail_world.specs.Failures.{Rises};
 ghost use Rattle.mail_world.specs.Prefixes.{IsPrefix};
 ghost use Rattle.mbox_record.specs.Spool.{SpoolTook, SpoolFailed, HasSynced, HasNotSynced, AsksForTurn, EndsTurn};
-ghost use Rattle.mbox_record.specs.Spool.{tail_of};
+ghost use Rattle.mail_world.specs.Endings.{ending, ending_from};
+ghost use Rattle.mbox_record.specs.Tail.{ending_of};
 
 use crate::file::BUFFER_SIZE;
 use crate::turn::{cut_back, let_go, tries_in, wait_for_turn};
@@ -176,8 +177,7 @@ impl<F: MailboxFile + Drop, C: Clock + Drop> SharedSpool<F, C> {
           is_unsynced = true;
           tail = self.new.tail;
         } }
-        ensures tail { (prefix : List ℕ) → self.old.tail ≡ tail_of prefix
-            → self.new.tail ≡ tail_of (prefix ++ take result piece.now) }
+        ensures tail { ending_of self.new.tail ≡ ending_from (ending_of self.old.tail) (take result piece.now) }
     {
         let n = piece.len().min(BUFFER_SIZE - self.waiting.len());
         let taken = &piece[..n];
@@ -293,8 +293,8 @@ impl<F: MailboxFile + Drop, C: Clock + Drop> Spool for SharedSpool<F, C> {
         ensures taken { F.tells ≡ true → IfOk result (λ n. HasTaken F.state self.old self.new (take n piece.now)) }
         ensures grows { F.tells ≡ true
             → OnOk result (IsPrefix (F.state self.old.file).bytes (F.state self.new.file).bytes) }
-        ensures ends { F.tells ≡ true → OnOk result (self.old.tail ≡ tail_of (contents_of F.state self.old)
-            → self.new.tail ≡ tail_of (contents_of F.state self.new)) }
+        ensures ends { F.tells ≡ true → OnOk result (ending_of self.old.tail ≡ ending (contents_of F.state self.old)
+            → ending_of self.new.tail ≡ ending (contents_of F.state self.new)) }
         ensures held { IfOk result (λ n. self.new.held ≡ counted (self.old.held + n)) }
         ensures breaks { OnErr result (Breaks self.old self.new) }
         ensures lost { F.tells ≡ true → self.old.in_turn ≡ true → self.old.is_broken ≡ false
@@ -352,7 +352,7 @@ impl<F: MailboxFile + Drop, C: Clock + Drop> Spool for SharedSpool<F, C> {
         ensures exact { result ≡ self.now.tail }
 
         // what every spool ensures
-        ensures known { IfSome (⟦<SharedSpool<F, C> as Spool>⟧.state self.now).bytes (λ held. result ≡ tail_of held) }
+        ensures known { IfSome (⟦<SharedSpool<F, C> as Spool>⟧.state self.now).bytes (λ held. ending_of result ≡ ending held) }
     {
         self.tail
     }

@@ -1,6 +1,6 @@
 -- What contracts see of a spool that only counts.
 use Rattle.std.specs.Prelude.{ℕ, Bool}
-use Rattle.mbox_record.specs.declared.spool.Tail.{Tail}
+use Rattle.mbox_record.specs.declared.tail.Tail.{Tail}
 
 pub record CountSpool : Type 0 where
   -- how many bytes it took, which stays at 2^64 - 1

@@ -1,6 +1,7 @@
 pub mod Envelope
 pub mod Sharing
 pub mod Spool
+pub mod Tail
 pub mod MemorySpool
 pub mod CountSpool
 pub mod Mending

@@ -1,7 +1,7 @@
--- An old mailbox whose torn tail is mended: its last line is ended, and the empty line after it.
+-- An old mailbox whose torn tail is mended, so that a record may follow.
 use Rattle.std.specs.Prelude.{◌≡◌, ℕ, List}
 use Rattle.std.specs.Option.{IfSome}
-use Rattle.mail_world.specs.Records.{mended}
+use Rattle.mail_world.specs.Endings.{mended}
 use Rattle.mbox_record.specs.Spool.{SpoolState, SpoolTook, SpoolFailed}
 
 -- the spool took what the bytes that it held need

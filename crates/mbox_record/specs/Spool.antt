@@ -1,14 +1,11 @@
 -- What a spool took, by what it holds, how often it failed and what its syncs covered.
-use Rattle.std.specs.Prelude.{◌≡◌, ◌⊎◌, ◌||◌, ℕ, ◌+◌, true, false, List, [], ◌∷◌, ◌++◌, length, if◌then◌else◌, ⊤}
+use Rattle.std.specs.Prelude.{◌≡◌, ◌⊎◌, ◌||◌, ℕ, ◌+◌, true, false, List, ◌++◌, length, ⊤}
 use Rattle.std.specs.Prelude.{Option, Some, None, is_some, Result, Ok, Err}
 use Rattle.std.specs.Option.{IfSome, option_map}
 use Rattle.std.specs.Io.KnownBytes.{Appends, Keeps}
 use Rattle.mail_world.specs.Counts.{counted}
 use Rattle.mail_world.specs.Failures.{Rises}
-use Rattle.mail_world.specs.Text.{lf, ends_in}
 use Rattle.mail_world.specs.Turns.{Standing}
-use Rattle.mbox_record.specs.declared.spool.Tail.{Tail}
-use Rattle.mbox_record.specs.declared.spool.Tail.TheVariants.{Empty, NoLf, OneLf, TwoLf}
 use Rattle.mbox_record.specs.declared.spool.InUse.{InUse}
 use Rattle.mbox_record.specs.Sharing.{Sharing, had, not_had}
 
@@ -139,11 +136,3 @@ pub record EndsTurn (old new : SpoolState) : Type 0 where
     began = None;
     turns = old.sharing.turns ++ had old.sharing.began (standing new);
   }
-
--- how the bytes end
-abbrev pub tail_of : List ℕ → Tail
-tail_of [] = Empty
-tail_of (b ∷ held) =
-    if ends_in (lf ∷ lf ∷ []) (b ∷ held) then TwoLf
-    else if ends_in (lf ∷ []) (b ∷ held) then OneLf
-    else NoLf

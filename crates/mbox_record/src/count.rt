@@ -3,10 +3,13 @@ ghost use Rattle.std.specs.Prelude.{◌≡◌, ◌+◌, ◌<◌, ◌≤◌, ℕ,
 ghost use Rattle.std.specs.Prelude.{OnErr};
 ghost use Rattle.std.specs.Prelude.{true, false};
 ghost use Rattle.mail_world.specs.Counts.{counted};
-ghost use Rattle.mbox_record.specs.Spool.{SpoolTook, SpoolFailed, HasSynced, HasNotSynced, tail_of};
+ghost use Rattle.mbox_record.specs.Spool.{SpoolTook, SpoolFailed, HasSynced, HasNotSynced};
+ghost use Rattle.mail_world.specs.Endings.{ending_from};
+ghost use Rattle.mbox_record.specs.Tail.{ending_of};
 ghost use Rattle.mbox_record.specs.Sharing.{unshared};
 
-use crate::spool::{InUse, Spool, SpoolFault, Tail, tail_of};
+use crate::spool::{InUse, Spool, SpoolFault};
+use crate::tail::{Tail, tail_after};
 use std::marker::Model;
 
 /// A spool that counts the bytes that it takes, and knows how they end. It never fails, and takes no memory. Its count
@@ -39,23 +42,6 @@ impl CountSpool {
     }
 }
 
-const LF: &[u8] = b"\n";
-
-/// How bytes that end so end with the piece after them.
-pub fn tail_after(tail: Tail, piece: &[u8]) -> Tail
-    requires { 0 < length piece.now }
-    ensures { (prefix : List ℕ) → tail ≡ tail_of prefix → result ≡ tail_of (prefix ++ piece.now) }
-{
-    if piece == LF {
-        match tail {
-            Tail::Empty | Tail::NoLf => Tail::OneLf,
-            Tail::OneLf | Tail::TwoLf => Tail::TwoLf,
-        }
-    } else {
-        tail_of(piece)
-    }
-}
-
 impl Spool for CountSpool {
     ghost state = { λ s. record {
       bytes = None;
@@ -81,8 +67,7 @@ impl Spool for CountSpool {
         requires { 0 < length piece.now }
         ensures whole { result ≡ Ok (length piece.now) }
         ensures held { self.new.held ≡ counted (self.old.held + length piece.now) }
-        ensures tail { (prefix : List ℕ) → self.old.tail ≡ tail_of prefix
-            → self.new.tail ≡ tail_of (prefix ++ piece.now) }
+        ensures tail { ending_of self.new.tail ≡ ending_from (ending_of self.old.tail) piece.now }
 
         // what every spool ensures
         ensures within { IfOk result (λ n. (1 ≤ n) × (n ≤ length piece.now)) }

@@ -9,6 +9,7 @@
 mod append;
 mod count;
 mod envelope;
+mod from_line;
 mod head;
 mod letter;
 mod memory;
@@ -17,12 +18,14 @@ mod pending;
 mod reading;
 mod record;
 mod spool;
+mod tail;
 
-pub use count::{CountSpool, tail_after};
+pub use count::CountSpool;
 pub use envelope::Envelope;
 pub use letter::Letter;
 pub use memory::MemorySpool;
 pub use mending::mend;
 pub use reading::{BadMailbox, read_mailbox};
 pub use record::RecordWriter;
-pub use spool::{InUse, Spool, SpoolFault, Tail, tail_of};
+pub use spool::{InUse, Spool, SpoolFault};
+pub use tail::{Tail, tail_after, tail_of, tail_of_last, what_mends};

@@ -3,10 +3,13 @@ ghost use Rattle.std.specs.Prelude.{◌≡◌, ◌↔◌, ◌+◌, ◌-◌, ◌^
 ghost use Rattle.std.specs.Prelude.{OnOk, OnErr, Some, true, false};
 ghost use Rattle.std.specs.Option.{IfSome};
 ghost use Rattle.mail_world.specs.Counts.{counted};
-ghost use Rattle.mbox_record.specs.Spool.{SpoolTook, SpoolFailed, HasSynced, HasNotSynced, tail_of};
+ghost use Rattle.mbox_record.specs.Spool.{SpoolTook, SpoolFailed, HasSynced, HasNotSynced};
+ghost use Rattle.mail_world.specs.Endings.{ending};
+ghost use Rattle.mbox_record.specs.Tail.{ending_of};
 ghost use Rattle.mbox_record.specs.Sharing.{unshared};
 
-use crate::spool::{InUse, Spool, SpoolFault, Tail, tail_of};
+use crate::spool::{InUse, Spool, SpoolFault};
+use crate::tail::{Tail, tail_of};
 use std::alloc::{AllocError, Global};
 use std::marker::Model;
 
@@ -146,10 +149,10 @@ impl Spool for MemorySpool {
     }
 
     fn tail(&self) -> Tail
-        ensures exact { result ≡ tail_of self.now.bytes }
+        ensures exact { ending_of result ≡ ending self.now.bytes }
 
         // what every spool ensures
-        ensures known { IfSome (⟦<MemorySpool as Spool>⟧.state self.now).bytes (λ held. result ≡ tail_of held) }
+        ensures known { IfSome (⟦<MemorySpool as Spool>⟧.state self.now).bytes (λ held. ending_of result ≡ ending held) }
     {
         tail_of(&self.bytes)
     }

@@ -2,9 +2,12 @@
 ghost use Rattle.std.specs.Prelude.{◌≡◌, ◌<◌, ◌≤◌, length, take, true, false, Ok, None, IsErr, IfOk, OnOk, OnErr};
 ghost use Rattle.std.specs.Option.{IfSome};
 ghost use Rattle.mail_world.specs.Counts.{counted};
-ghost use Rattle.mbox_record.specs.Spool.{SpoolState, SpoolTook, SpoolFailed, HasSynced, HasNotSynced, tail_of};
+ghost use Rattle.mbox_record.specs.Spool.{SpoolState, SpoolTook, SpoolFailed, HasSynced, HasNotSynced};
+ghost use Rattle.mail_world.specs.Endings.{ending};
+ghost use Rattle.mbox_record.specs.Tail.{ending_of};
 ghost use Rattle.mbox_record.specs.Spool.{AsksForTurn, EndsTurn};
 
+use crate::tail::Tail;
 use thiserror::Error;
 
 /// A spool took no more bytes, or couldn't make sure of those that it has, for a reason that it keeps to itself: no
@@ -25,19 +28,6 @@ pub enum InUse {
     /// The system refused a call before anything was appended, with this number of its own.
     #[error("system error {0}")]
     System(i32),
-}
-
-/// How the bytes of a mailbox end. `NoLf` and `OneLf` are torn tails, which `mend` mends.
-#[derive(Clone, Copy, Debug, PartialEq, Eq)]
-pub enum Tail {
-    /// There are none.
-    Empty,
-    /// The last line has no LF.
-    NoLf,
-    /// The last line has its LF, and no empty line stands after it.
-    OneLf,
-    /// The last two bytes are LFs.
-    TwoLf,
 }
 
 /// A mailbox that is written at its end. A private one is nobody else's. A shared one is changed by other programs
@@ -84,25 +74,10 @@ pub trait Spool {
 
     /// How its bytes end.
     fn tail(&self) -> Tail
-        ensures { IfSome (state self.now).bytes (λ held. result ≡ tail_of held) };
+        ensures { IfSome (state self.now).bytes (λ held. ending_of result ≡ ending held) };
 
     /// How many bytes it holds. The count stays at 2^64 - 1.
     fn held(&self) -> u64
         ensures exact { result ≡ counted (state self.now).held }
         ensures known { IfSome (state self.now).bytes (λ held. result ≡ counted (length held)) };
-}
-
-/// How these bytes end. The last two are enough.
-pub fn tail_of(bytes: &[u8]) -> Tail
-    ensures { result ≡ tail_of bytes.now }
-{
-    if bytes.is_empty() {
-        Tail::Empty
-    } else if bytes.ends_with(b"\n\n") {
-        Tail::TwoLf
-    } else if bytes.ends_with(b"\n") {
-        Tail::OneLf
-    } else {
-        Tail::NoLf
-    }
 }

@@ -29,4 +29,5 @@ returns c =
       connections = c.in-Some-Some.ensures';
       stop_file = c.in-Some-Some-2.ensures;
       heal = c.is_given-2.ensures;
+      start_anyway = c.is_given-3.ensures;
     }

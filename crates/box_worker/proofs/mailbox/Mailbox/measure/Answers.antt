@@ -1,6 +1,8 @@
 use Rattle.std.proofs.Common.{◌≡◌, ◌∙◌, Option, Some, ap, sym, subst}
 use Rattle.std.specs.Option.{IfSome}
-use Rattle.mbox_record.specs.Spool.{SpoolState, tail_of}
+use Rattle.mbox_record.specs.Spool.{SpoolState}
+use Rattle.mail_world.specs.Endings.{ending}
+use Rattle.mbox_record.specs.Tail.{ending_of}
 use Rattle.box_worker.specs.declared.limit.Limit.{Limit}
 use Rattle.box_worker.specs.Stored.{CountedMailbox}
 use Rattle.box_worker.specs.Turned.{MeasuresAgain}
@@ -12,6 +14,6 @@ returns-in-Some-clause-counts g c says known =
     let now = c.args.self.now in
     let had : Some c.in-Some.limit ≡ now.limit = sym c.in-Some.is ∙ ap (λ (m : CountedMailbox). m.limit) c.self.view_is in
     let P : Option Limit → Type 0 = λ l. MeasuresAgain now.mailbox.state l (Some c.at.result) in
-    let E : SpoolState → Type 0 = λ s. IfSome s.bytes (λ bytes. c.tail.result ≡ tail_of bytes) in
+    let E : SpoolState → Type 0 = λ s. IfSome s.bytes (λ bytes. ending_of c.tail.result ≡ ending bytes) in
     let ends = subst E (ap (λ (m : CountedMailbox). m.mailbox.state) c.self.view_is) c.tail.ensures in
     subst P had (measures now.mailbox.state c.in-Some.limit c.at.result c.args.held c.tail.result ends says known c.at.ensures)

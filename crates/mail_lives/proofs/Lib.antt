@@ -1,0 +1,5 @@
+pub mod Lists
+pub mod Mending
+pub mod Bodies
+pub mod Torn
+pub mod Stepping

@@ -1,0 +1,4 @@
+pub mod ReadAs
+pub mod Fates
+pub mod Steps
+pub mod Rows

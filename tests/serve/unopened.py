@@ -1,0 +1,154 @@
+"""What the server does where a mailbox can't be opened as it starts, with --start-anyway and without."""
+
+import os
+import shutil
+
+import letters
+from cases import Absent, case, equal
+from clients import Client
+from replies import not_stored, stored
+from server import Ended, Server, start, words
+
+NOBODY = 65_534
+PERMISSION_DENIED = "Permission denied (os error 13)"
+ANYWAY = "--start-anyway"
+REFUSED = "lmtpd: cannot open anna.mbox"
+
+
+def second_link(path):
+    path.touch()
+    path.with_name("other").hardlink_to(path)
+
+
+def remove_second_link(path):
+    path.with_name("other").unlink()
+
+
+def symbolic_link(path):
+    path.with_name("other").touch()
+    path.symlink_to("other")
+
+
+def remove_symbolic_link(path):
+    path.with_name("other").unlink()
+    path.unlink()
+
+
+def no_right(path):
+    path.touch()
+    path.chmod(0)
+    if os.geteuid() == 0:
+        os.chown(path, NOBODY, NOBODY)
+
+
+def give_right(path):
+    path.chmod(0o600)
+
+
+def another_owner(path):
+    path.touch()
+    os.chown(path, NOBODY, -1)
+
+
+def own_again(path):
+    os.chown(path, 0, -1)
+
+
+# What stands in anna's place, how it gets in order, and the reason that the log has.
+NOT_PLAIN = [
+    (second_link, remove_second_link, "not plain"),
+    (symbolic_link, remove_symbolic_link, "not plain"),
+    (os.mkdir, os.rmdir, "not plain"),
+]
+
+
+def run_with(given, **how):
+    """How the program ends with these words, where it ends at once."""
+    process = start(given, **how)
+    try:
+        said, errors = process.communicate(timeout=20)
+    finally:
+        process.kill()
+    return vars(Ended(process.returncode, said.splitlines(), errors.splitlines()))
+
+
+def starts_anyway(folder, break_file, mend, reason, **how):
+    """Without the word the mailbox keeps the server from starting. With it each copy for it is told 451 and the other
+    mailbox's 250, `in use` counts them, and the first turn that finds it in order stores."""
+    break_file(folder / "anna.mbox")
+    logged = f"[ERROR lmtpd] cannot open mailbox=anna reason={reason}"
+    given = words(folder, ["anna", "ben"], 1, "--lanes", 1, "--log", "error")
+    equal(run_with(given, **how), {"status": 1, "said": [], "errors": [logged, REFUSED]})
+    with Server(folder, ["anna", "ben"], 1, "--lanes", 1, "--log", "error", ANYWAY, **how) as server:
+        with Client(server.address).greet() as client:
+            for _ in range(2):
+                equal(client.deliver(["anna", "ben"], "one")[1], [not_stored("anna"), stored("ben")])
+            mend(folder / "anna.mbox")
+            for _ in range(2):
+                equal(client.deliver(["anna", "ben"], "two")[1], [stored("anna"), stored("ben")])
+            equal((folder / "anna.mbox.source.lock").exists(), True)
+            client.quit()
+        ended = vars(server.end())
+    in_use = f"[ERROR lmtpd] mailbox in use mailbox=anna reason={reason}"
+    errors = [logged, in_use, "[ERROR lmtpd] mailbox free again mailbox=anna", "lmtpd: anna in use 2"]
+    equal(ended, {"status": 0, "said": ["anna stored 2", "ben stored 4"], "errors": errors})
+    equal(letters.messages(folder / "anna.mbox"), [b"two\n"] * 2)
+    equal(letters.messages(folder / "ben.mbox"), [b"one\n"] * 2 + [b"two\n"] * 2)
+    equal(sorted(path.name for path in folder.iterdir()), ["anna.mbox", "ben.mbox"])
+
+
+@case
+def no_plain_file_is_no_hindrance(folder):
+    """--start-anyway: a second link, a symbolic link or a folder in a mailbox's place: 451 for it and 250 for the other
+    one, and 250 once it is in order; without the word cannot open, status 1"""
+    for break_file, mend, reason in NOT_PLAIN:
+        place = folder / break_file.__name__
+        place.mkdir()
+        starts_anyway(place, break_file, mend, reason)
+
+
+def as_nobody(folder):
+    """How a server is started as a user who isn't root and whose folder that is."""
+    if os.geteuid() != 0:
+        return {}
+    program = folder.parent / "lmtpd"
+    shutil.copy(os.environ["LMTPD"], program)
+    for path in [folder.parent, folder]:
+        path.chmod(0o755)
+        os.chown(path, NOBODY, NOBODY)
+    return {"user": NOBODY, "group": NOBODY, "extra_groups": [], "executable": program}
+
+
+@case
+def no_right_is_no_hindrance(folder):
+    """--start-anyway, as a user who isn't root: a mailbox of mode 0000 is told 451, the other one 250, and 250 once it
+    may be read and written; without the word cannot open, status 1"""
+    place = folder / "mail"
+    place.mkdir()
+    starts_anyway(place, no_right, give_right, PERMISSION_DENIED, **as_nobody(place))
+
+
+@case
+def another_owner_is_no_hindrance(folder):
+    """--start-anyway, as root: a mailbox of another owner is told 451, the other one 250, and 250 once it is root's;
+    without the word cannot open, status 1"""
+    if os.geteuid() != 0:
+        raise Absent("root")
+    starts_anyway(folder, another_owner, own_again, "not plain")
+
+
+@case
+def a_folder_that_cannot_be_read_is_one(folder):
+    """--start-anyway and without: a folder that isn't there, a file in its place, one that can't be read: cannot open
+    the first mailbox, status 1, and nothing is made"""
+    file, hidden = folder / "file", folder / "hidden"
+    file.touch()
+    hidden.mkdir()
+    how = as_nobody(hidden)
+    hidden.chmod(0)
+    for place in [folder / "none", file, hidden]:
+        for more in [], [ANYWAY]:
+            ended = run_with(words(place, ["anna", "ben"], 1, *more), **how)
+            equal((place.name, more, ended), (place.name, more, {"status": 1, "said": [], "errors": [REFUSED]}))
+    hidden.chmod(0o700)
+    equal((list(hidden.iterdir()), file.read_bytes()), ([], b""))
