@@ -38,11 +38,19 @@ class Mutt:
     def delete(self, path, pattern, seconds=100):
         """Saves the letters of that pattern elsewhere, deletes them, and leaves: what it saved. Whether they are
         deleted is to be seen: it may not have got its locks."""
-        self.saved.unlink(missing_ok=True)
         keys = f"<tag-pattern>{pattern}<enter><tag-prefix-cond><save-message>{self.saved}<enter><end-cond>"
-        given = ["-n", "-F", "/dev/null", "-e", f"{SETTINGS} dotlock_program={self.dotlock} folder={self.home}/Mail"]
         # a user whose first try to write doesn't get its lock tries again
-        given += ["-e", f"push '{keys}{'<sync-mailbox>' * 5}<exit>'", "-f", str(path)]
+        return self.session(path, keys + "<sync-mailbox>" * 5, seconds)
+
+    def copy(self, path, seconds=20):
+        """Copies all letters elsewhere, in their order, and leaves the mailbox as it is: what it copied."""
+        keys = f"<tag-pattern>~A<enter><tag-prefix-cond><copy-message>{self.saved}<enter><end-cond>"
+        return self.session(path, keys, seconds, "-R", "-e", "set sort=mailbox-order")
+
+    def session(self, path, keys, seconds, *more):
+        self.saved.unlink(missing_ok=True)
+        given = ["-n", "-F", "/dev/null", "-e", f"{SETTINGS} dotlock_program={self.dotlock} folder={self.home}/Mail"]
+        given += [*more, "-e", f"push '{keys}<exit>'", "-f", str(path)]
         environment = {"PATH": os.environ["PATH"], "HOME": str(self.home), "USER": "anna", "TERM": "xterm"}
         main, side = pty.openpty()
         words = [self.setsid, "--ctty", self.command, *given]

@@ -1,6 +1,8 @@
 """What a disk holds of the mailboxes when the power goes."""
 
 import contextlib
+import os
+import pathlib
 import random
 import shutil
 import signal
@@ -8,17 +10,22 @@ import subprocess
 import time
 
 from cases import Absent, case, equal
+from clients import deliver_one
 from killed_under_load import BOXES, under_load
 from packages import program, need_root
+from replies import stored
 from server import Server
+from told_letters import judge
 
 ROUNDS = 20
+MOST_SECONDS = 20  # until each mailbox has a letter of this round, and until a server stands still
 SIZE = 64 * 1024 * 1024
 
 
 @case
 def power_cut(folder):
-    """the power goes twenty times: each copy that was told 250 is whole on what the disk had been given by then"""
+    """the power goes twenty times: git, Python and Dovecot find each letter that was told 250, once and whole, in what
+    the disk had been given by then and the next server went on with"""
     need_root()
     chance = random.Random(2)
     told = {name: [] for name in BOXES}
@@ -32,24 +39,56 @@ def power_cut(folder):
         # what was written to the files and not to the disk is gone
         copy.rename(disk)
         with mounted(disk, folder / "mail") as mail:
-            for name in BOXES:
-                path = mail / f"{name}.mbox"
-                held = path.read_bytes() if path.exists() else b""
-                lost = [one[:40] for one in told[name] if held.count(b" +0000\n" + one + b"\n") != 1]
-                equal((number, name, lost), (number, name, []))
-    equal([name for name in BOXES if len(told[name]) < ROUNDS], [])
+            let_go_of_locks(mail)
+            deliver_after(mail, told, number)
+            judge({name: (mail / f"{name}.mbox").read_bytes() for name in BOXES}, told, unwritten=True)
 
 
 power_cut.seconds = 240
 
 
 def run_until_the_cut(mail, disk, copy, told, load, seconds):
-    """Clients deliver for that long; then the copy is what the disk has been given."""
+    """Clients deliver until each mailbox has a letter, and then for that long; then the copy is what the disk has been
+    given."""
+    before = {name: len(told[name]) for name in BOXES}
     with Server(mail, BOXES, 1000) as server, under_load(server, told, load):
+        until = time.monotonic() + MOST_SECONDS
+        while any(len(told[name]) == before[name] for name in BOXES) and time.monotonic() < until:
+            time.sleep(0.01)
         time.sleep(seconds)
-        server.process.send_signal(signal.SIGSTOP)
+        stop(server.process)
         shutil.copyfile(disk, copy)
         server.process.kill()
+    equal([name for name in BOXES if len(told[name]) == before[name]], [])
+
+
+def stop(process):
+    """Until none of its threads runs or is in a call: what was told then is what the copy has to have."""
+    process.send_signal(signal.SIGSTOP)
+    until = time.monotonic() + MOST_SECONDS
+    while states_of(process) != {"T"}:
+        assert time.monotonic() < until, states_of(process)
+        time.sleep(0.001)
+
+
+def states_of(process):
+    tasks = pathlib.Path(f"/proc/{process.pid}/task").glob("*/stat")
+    return {task.read_text().rpartition(")")[2].split()[0] for task in tasks}
+
+
+def let_go_of_locks(mail):
+    """The text of a lock file isn't synced, so that an empty one may be left, which goes by its age: it is as if the
+    machine had been away for longer than that."""
+    for lock in mail.glob("*.lock"):
+        os.utime(lock, times=(0, 0))
+
+
+def deliver_after(mail, told, number):
+    """A server on what the cut left tells a letter for each mailbox."""
+    with Server(mail, BOXES, 1, "--lanes", 1) as server:
+        equal(deliver_one(server.address, BOXES, f"after {number}"), [stored(name) for name in BOXES])
+    for name in BOXES:
+        told[name].append(b"after %d\n" % number)
 
 
 @contextlib.contextmanager

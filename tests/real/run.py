@@ -29,6 +29,7 @@ import several_servers  # noqa: F401
 import site_mailboxes  # noqa: F401
 import soak  # noqa: F401
 import ten_lines  # noqa: F401
+import torn_writes_read  # noqa: F401
 from cases import run_all
 
 sys.exit(0 if run_all(sys.argv[1:]) else 1)

@@ -50,10 +50,13 @@ def by_git(path):
 def by_python(path):
     box = mailbox.mbox(path, create=False)
     for key in box.iterkeys():
-        text = box.get_bytes(key, from_=True).removeprefix(b"From ")
         # it leaves the quoting
-        yield re.sub(rb"^>(>*From )", rb"\1", text, flags=re.MULTILINE)
+        yield unquoted(box.get_bytes(key, from_=True).removeprefix(b"From "))
     box.close()
+
+
+def unquoted(text):
+    return re.sub(rb"^>(>*From )", rb"\1", text, flags=re.MULTILINE)
 
 
 def letter_of(text):

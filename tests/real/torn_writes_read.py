@@ -1,0 +1,76 @@
+"""A server is killed within its write of a record, and five readers take what the next one made of it."""
+
+import re
+import shutil
+
+import letters
+from cases import case, equal
+from cut_writes import READERS, TOLD, Killer, Reader, deliver_after, judge
+from dovecot import Dovecot
+from mutt import Mutt
+from packages import need_root
+from told_letters import by_dovecot
+
+LAST = 8  # bytes of the record, at each of which the server is killed
+# What mutt adds to a letter that it copies.
+OF_MUTT = re.compile(rb"^(?:Content-Length|Lines): \d+\n", re.MULTILINE)
+LENGTH = re.compile(rb"^Content-Length: (\d+)$", re.MULTILINE)
+
+
+@case
+def five_readers_after_a_cut(folder):
+    """a server is killed at each place of a record's From line and of its last eight bytes, after a told letter: then
+    git, Python, the check, mutt and Dovecot find that letter unchanged and the next one whole"""
+    cut_and_read(folder, TOLD)
+
+
+@case
+def five_readers_after_a_first_cut(folder):
+    """the same of a mailbox's first record"""
+    cut_and_read(folder, [])
+
+
+five_readers_after_a_cut.seconds = five_readers_after_a_first_cut.seconds = 240
+
+
+def cut_and_read(folder, told):
+    need_root()
+    folder.chmod(0o755)
+    killer = Killer(folder)
+    cuts = [killer.cut(f"box{place}", place, told) for place in places_of(folder, killer, told)]
+    said = deliver_after(folder, cuts)
+    mutt = Mutt(folder, {})
+    with Dovecot(folder, folder / "inbox") as dovecot, dovecot.login() as client:
+        home = dovecot.folder / "home"
+        by_mutt = Reader(lambda path: copied_by(mutt, path))
+        by_imap = Reader(lambda path: by_dovecot(client, put(path, home)), without_from_line)
+        judge(cuts, said, READERS | {"mutt": by_mutt, "Dovecot": by_imap})
+
+
+def places_of(folder, killer, told):
+    """Those within the From line of a record, one past it, and those of its last bytes."""
+    equal(killer.cut("whole", 10_000, told), None)
+    found = (folder / "whole.mbox").read_bytes()
+    record = found[found.rfind(b"\n\nFrom ") + 2 if told else 0 :]
+    from_line = record.find(b"\n") + 1
+    return [*range(from_line + 2), *range(len(record) - LAST, len(record) + 1)]
+
+
+def copied_by(mutt, path):
+    """The letters that it copies, without the lines that it adds to their heads and with the quoting undone."""
+    copied = mutt.copy(path)
+    while copied:
+        head, _, rest = copied.removeprefix(b"From ").partition(b"\n\n")
+        length = int(LENGTH.search(head)[1])
+        body, copied = rest[:length], rest[length:].removeprefix(b"\n")
+        yield letters.unquoted(OF_MUTT.sub(b"", head + b"\n") + (b"\n" + body if body else b""))
+
+
+def put(path, home):
+    """The name of a copy in that folder of Dovecot's."""
+    shutil.chown(shutil.copy(path, home), "mail", "mail")
+    return path.name
+
+
+def without_from_line(text):
+    return text.partition(b"\n")[2]
