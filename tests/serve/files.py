@@ -88,7 +88,7 @@ def a_full_device_beside_a_quota(folder):
 
 @case
 def a_torn_tail(folder):
-    """a tail that is torn is closed by the fewest LFs before the next letter"""
+    """a tail that is torn within a line, or after it, is mended by the fewest LFs before the next letter"""
     closed_as = {b"abc": b"abc\n\n", b"abc\n": b"abc\n\n", b"abc\n\n": b"abc\n\n", b"x": b"x\n\n"}
     for old, closed in closed_as.items():
         with Server(folder, ["anna"], 1, "--lanes", 1) as server:
