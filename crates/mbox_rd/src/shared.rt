@@ -8,7 +8,7 @@ ghost use Rattle.mail_world.specs.Counts.{counted};
 ghost use Rattle.mail_world.specs.Failures.{Rises};
 ghost use Rattle.mail_world.specs.Prefixes.{IsPrefix};
 ghost use Rattle.mbox_record.specs.Spool.{SpoolTook, SpoolFailed, HasSynced, HasNotSynced, AsksForTurn, EndsTurn};
-ghost use Rattle.mail_world.specs.Endings.{ending, ending_from};
+ghost use Rattle.mail_world.specs.Endings.{ending};
 ghost use Rattle.mbox_record.specs.Tail.{ending_of};
 
 use crate::file::BUFFER_SIZE;
@@ -186,7 +186,8 @@ impl<F: MailboxFile + Drop, C: Clock + Drop> SharedSpool<F, C> {
           is_unsynced = true;
           tail = self.new.tail;
         } }
-        ensures tail { ending_of self.new.tail ≡ ending_from (ending_of self.old.tail) (take result piece.now) }
+        ensures tail { (prefix : List ℕ) → ending_of self.old.tail ≡ ending prefix
+            → ending_of self.new.tail ≡ ending (prefix ++ take result piece.now) }
     {
         let n = piece.len().min(BUFFER_SIZE - self.waiting.len());
         let taken = &piece[..n];
