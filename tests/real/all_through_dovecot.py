@@ -47,7 +47,7 @@ def users_see_nothing_of_each_other(_folder):
                     equal((name, place, client.select(f'"{place}"')[0]), (name, place, "NO"))
 
 
-users_see_nothing_of_each_other.seconds = 120
+users_see_nothing_of_each_other.seconds = 180
 
 
 def login(name):

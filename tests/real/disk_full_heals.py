@@ -15,6 +15,7 @@ from replies import STOPPING, not_stored, stored
 
 STORED, NOT_STORED = stored("anna"), not_stored("anna")
 MAIL = "/var/mail/lmtpd"
+CUT_OFF = "no reply to the data"
 SOCKET = "/var/spool/postfix/private/lmtpd"
 SIZE = 8 * 1024 * 1024
 BLOCK = 4096
@@ -59,9 +60,9 @@ def ext4_without_room_for_the_lock_file(folder):
 
 
 for one in [tmpfs_with_room_for_the_lock_file, ext4_with_room_for_the_lock_file]:
-    one.seconds = 60 + FULL_SECONDS + HEALED_WITHIN
+    one.seconds = 180 + FULL_SECONDS + HEALED_WITHIN
 for one in [tmpfs_without_room_for_the_lock_file, ext4_without_room_for_the_lock_file]:
-    one.seconds = 60 + HEALED_WITHIN
+    one.seconds = 180 + HEALED_WITHIN
 
 
 def heals_where_the_lock_file_fits(there):
@@ -120,7 +121,9 @@ class Sender:
                 if heard[:3] not in ["220", "250"]:
                     return heard
                 heard = client.ask_or_end(line)
-            return client.ask_or_end("\r\n".join([*self.letter(), "."])) if heard.startswith("354") else heard
+            if not heard.startswith("354"):
+                return heard
+            return client.ask_or_end("\r\n".join([*self.letter(), "."])) or CUT_OFF
 
     def delivers(self, count, seconds):
         """Delivers that many letters; how long the first one took, which is to be told 250 within these seconds."""
@@ -143,8 +146,8 @@ class Sender:
         assert self.refused > 1, self.refused
 
     def is_refused(self, final):
-        """A server that ends in order tells 421 to a client that it waits for."""
-        assert final in [NOT_STORED, STOPPING], final
+        """A server that ends in order tells 421 to a client that it waits for, and cuts data under way off."""
+        assert final in [NOT_STORED, STOPPING, CUT_OFF], final
         return final == NOT_STORED
 
     def found_all(self):

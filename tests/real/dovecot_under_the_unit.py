@@ -6,6 +6,7 @@ import pathlib
 
 from beside import CLIENTS, Beside
 from cases import case, equal
+from clients import Client
 from dovecot import NEEDS, Dovecot
 from in_a_machine import in_a_machine
 from readers_delete import ByDovecot
@@ -37,8 +38,9 @@ for one in [the_lock_file_alone, both_locks]:
 
 def beside_dovecot(folder, *locks):
     beside = Beside(folder)
-    with beside.service(CLIENTS) as service:
+    with beside.service(CLIENTS) as service, Client(service.address).greet() as client:
         equal(sandbox_of(service), (True, True))
+        client.quit()
     with Dovecot(folder, beside.path, *locks, user="lmtpd") as dovecot:
         readers = {who: ByDovecot(beside, dovecot) for who in ["one", "two"]}
         ended = beside.run(readers, seconds=SECONDS, letters=LETTERS)

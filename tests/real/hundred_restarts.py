@@ -5,7 +5,7 @@ import time
 
 from cases import case, equal
 from in_a_machine import in_a_machine
-from restarts import MANY, SECONDS_TO_END, Load, judge, restart_under_load
+from restarts import MANY, Load, judge, restart_under_load
 from server import Server
 from service import Service
 
@@ -13,6 +13,8 @@ RESTARTS = int(os.environ.get("RESTARTS", "100"))
 SECONDS_EACH = 4
 # So long that systemd, which lets a service be started thirty times in twenty seconds, doesn't give it up.
 SERVES = 0.7
+# With all that systemd does meanwhile; how soon the server itself ends is looked at where it is its own server.
+RESTARTED_WITHIN = 10
 
 
 @case
@@ -27,7 +29,7 @@ def restarts_of_the_service(folder):
         equal(service.restarts(), 0)
         print(f"the longest restart took {longest:.2f} s", end=", ")
         equal(judge(load, service.mailbox("anna"), RESTARTS), 0)
-        assert longest < SECONDS_TO_END + 1, longest
+        assert longest < RESTARTED_WITHIN, longest
 
 
 def restarted(service):

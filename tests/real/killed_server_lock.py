@@ -1,5 +1,6 @@
 """The installed service is killed while it has a mailbox's lock file."""
 
+import itertools
 import os
 import random
 import threading
@@ -34,13 +35,8 @@ def its_lock_file_is_gone(folder):
                 client.quit()
             if left == LEFT:
                 break
-            kill_under_load(service, number, told, chance.uniform(0.02, 0.1))
-            left += lock.exists()
-            if lock.exists() and not lock.read_text():
-                # it was killed before it wrote whose it is, which age alone can say then
-                then = time.time() - 400
-                os.utime(lock, (then, then))
-                empty += 1
+            is_left, is_empty = kill_under_load(service, number, told, chance.uniform(0.02, 0.1))
+            left, empty = left + is_left, empty + is_empty
             service.begin_again()
         found = letters.messages(service.mailbox("anna"))
     times = {text: found.count(text.encode() + b"\n") for text in told}
@@ -53,22 +49,37 @@ its_lock_file_is_gone.seconds = 300
 
 
 def kill_under_load(service, number, told, after):
-    loads = [
-        threading.Thread(target=deliver, args=(service.address, f"{number}-{client}", told)) for client in range(4)
-    ]
+    """Clients deliver until it is killed; one that came later waits at the socket for the next. Whether a lock file was
+    left, and whether it was empty."""
+    is_over = threading.Event()
+    given = [(service.address, f"{number}-{client}", told, is_over) for client in range(4)]
+    loads = [threading.Thread(target=deliver, args=each) for each in given]
     for load in loads:
         load.start()
     time.sleep(after)
     service.kill()
+    left = look_at_lock(service.lock_file("anna"))
+    is_over.set()
     for load in loads:
         load.join()
+    return left
 
 
-def deliver(address, who, told):
+def look_at_lock(lock):
+    is_left = lock.exists()
+    is_empty = is_left and not lock.read_text()
+    if is_empty:
+        # it was killed before it wrote whose it is, which age alone can say then
+        then = time.time() - 400
+        os.utime(lock, (then, then))
+    return is_left, is_empty
+
+
+def deliver(address, who, told, is_over):
     """Delivers until the server is gone."""
     try:
         with Client(address).greet() as client:
-            for number in range(1_000_000):
+            for number in itertools.takewhile(lambda _: not is_over.is_set(), itertools.count()):
                 if client.deliver(["anna"], f"{who}-{number}")[1] == [stored("anna")]:
                     told.append(f"{who}-{number}")
     except (OSError, AssertionError):

@@ -45,3 +45,6 @@ def room_again(folder):
         said, errors = [f"anna stored {kept}"], [f"lmtpd: anna over quota {refused}"]
         equal(vars(service.end()), {"status": 0, "said": said, "errors": errors})
     equal(run(["check", beside.path]).status, 0)
+
+
+room_again.seconds = 180

@@ -16,11 +16,10 @@
 # - those that look at what other programs make of a mailbox or a reply, whoever started the server: readers_agree,
 #   other_mailboxes, postfix_delivers, exim_delivers, opensmtpd_delivers, odd_clients;
 # - those that look at the process or at its disk from outside, while it runs: soak (its memory, by the second),
-#   power_cut (copies of its disk), read_only (a mailbox on a file system of its own, which goes read-only);
-# - those that are killed within a write, by a library that they are started with: torn_writes_read;
+#   power_cut (copies of its disk), read_only (a mailbox on a file system of its own, which goes read-only),
+#   torn_writes_read (a library that ends it within a write);
 # - those of what the unit never does: a Unix socket that the server makes itself (hundred_restarts), a server that is
-#   root (mailbox_of_user);
-# - killed_under_load, which is to follow.
+#   root (mailbox_of_user).
 # usage: tests/real/run.sh [NAME..]: the cases whose text has one of these words, or all. LMTPD names a program that
 # is built already.
 set -euo pipefail

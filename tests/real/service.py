@@ -52,23 +52,28 @@ class Service:
     def kill(self):
         """By SIGKILL, and until it is gone. It begins again in five seconds, as the unit has it, or by
         `begin_again`."""
-        process = pathlib.Path("/proc", self.told("MainPID"))
-        self.systemctl_kill("main")
-        until = time.monotonic() + 10
-        while process.exists():
-            assert time.monotonic() < until, self.lines()[-5:]
-            time.sleep(0.01)
+        self.killed = self.told("MainPID")
+        systemctl("kill", "--kill-who=main", "--signal=KILL", self.unit)
+        self.wait(lambda: not pathlib.Path("/proc", self.killed).exists())
 
     def begin_again(self):
         """At once after it was killed: what the unit has wait for five seconds is ended, and how often it began is
         forgotten."""
-        self.wait_for("SubState", "stop-post")
         systemctl("reset-failed", self.unit)
-        self.systemctl_kill("control")
-        self.wait_for("SubState", "running")
+        self.wait(self.has_begun)
 
-    def systemctl_kill(self, whom):
-        systemctl("kill", f"--kill-who={whom}", "--signal=KILL", self.unit)
+    def has_begun(self):
+        state, process = self.told("SubState"), self.told("MainPID")
+        if state == "stop-post":
+            # it may have ended by itself meanwhile
+            subprocess.run(["systemctl", "kill", "--kill-who=control", "--signal=KILL", self.unit], capture_output=True)
+        return state == "running" and process != self.killed
+
+    def wait(self, is_so):
+        until = time.monotonic() + 30
+        while not is_so():
+            assert time.monotonic() < until, (self.told("SubState"), self.lines()[-5:])
+            time.sleep(0.02)
 
     def end(self):
         """How its last run ended, once it was stopped in order, and what it said at its end."""
@@ -93,12 +98,6 @@ class Service:
     def restarts(self):
         """How often it began again by itself."""
         return int(self.told("NRestarts"))
-
-    def wait_for(self, name, value, seconds=20):
-        until = time.monotonic() + seconds
-        while self.told(name) != value:
-            assert time.monotonic() < until, (name, self.told(name), self.lines()[-5:])
-            time.sleep(0.02)
 
     def mailbox(self, name):
         return FOLDER / f"{name}.mbox"
