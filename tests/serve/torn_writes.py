@@ -50,3 +50,6 @@ def killed_within_what_mends(folder):
     both = [(begun + mends(begun), cut.torn + mends(cut.torn)) for begun, cut in zip(old, cuts, strict=True)]
     equal({first[len(told) :] for first, then in both if not then.startswith(first)}, set())
     judge(cuts, deliver_after(folder, cuts), READERS)
+
+
+killed_at_each_place.seconds = killed_at_each_place_of_the_first.seconds = killed_within_what_mends.seconds = 120
