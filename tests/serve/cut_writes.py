@@ -57,8 +57,8 @@ class Killer:
         subprocess.run(["cc", "-O2", "-shared", "-fPIC", "-o", self.library, LIBRARY], check=True)
 
     def cut(self, boxes, told=()):
-        """One server with these mailboxes, each with the place at which what it writes there is cut off, or None: it
-        tells a letter to all of them, where there is one, and is killed within its next one's writes."""
+        """One server with these mailboxes, each with the place at which what it writes there is cut off: it tells a
+        letter to all of them, where there is one, and is killed within the writes of the next one."""
         paths = [self.folder / f"{box}.mbox" for box, _ in boxes]
         names = [box for box, _ in boxes]
         environment = os.environ | {"LD_PRELOAD": str(self.library)}
