@@ -83,7 +83,7 @@ class Killer:
 
     def wait_for_cuts(self):
         """Until the server stands still in each of its writes."""
-        until = time.monotonic() + 30
+        until = time.monotonic() + 60
         while left := list(self.folder.glob("*.cut")):
             assert time.monotonic() < until, left
             time.sleep(0.01)
