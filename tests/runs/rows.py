@@ -440,6 +440,17 @@ class Check:
         return 0 if all(said.startswith("letters ") for _, _, said in self.files) else 1
 
 
+def tails():
+    """A check doesn't mend a tail that breaks off: it says where it ends."""
+    old = b"From a\nx\n\n"
+    first = [("F", 1), ("From", 4)]
+    then = ["F", "Fro", "From ", "From M", "From c@a Thu Ja", "From c@a Thu Jan  1 00:00:00 1970", "From here on"]
+    rows = [(f"a tail of {text} alone", text.encode(), f"no From line at {at}") for text, at in first]
+    rows += [(f"a tail of {text}", old + text.encode(), f"no empty line at {10 + len(text)}") for text in then]
+    filled = b"From MAILER-DAEMON Thu Jan  1 00:00:00 1970\n\n"
+    return [*rows, ("a tail that was filled up", old + filled, "letters 2"), ("a tail that was filled up alone", filled, "letters 1")]
+
+
 def checks():
     """A From line begins a letter at the head, and after an empty line. Places count from 0: the first byte that no
     mailbox has there, and at the end of the bytes the end itself."""
@@ -465,7 +476,7 @@ def checks():
         ("a From line after a From line", b"From a\nFrom b\n\n", "no empty line at 11"),
         ("bytes above 127, NUL and CR", b"From \xff\n\0\r\n\r\n\n", "letters 1"),
     ]
-    for name, text, said in rows:
+    for name, text, said in rows + tails():
         yield Check(name, [("anna.mbox", text, said)])
     # a second From line around the end of what is read at once
     for place in range(65_529, 65_539):

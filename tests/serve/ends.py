@@ -6,6 +6,7 @@ import signal
 import threading
 import time
 
+import failing
 import letters
 from cases import case, equal
 from clients import Client, deliver_one
@@ -116,12 +117,31 @@ def small_files():
 
 
 @case
-def a_server_that_heals(folder):
-    """with --heal a server whose mailbox failed serves the others for 30 seconds, and ends then with a device fault"""
+def a_mailbox_that_alone_has_no_room(folder):
+    """with --heal a server goes on whose mailbox can't grow beyond what the system allows its file: 451 for it alone"""
     with Server(folder, ["anna", "ben"], MANY, "--lanes", LANES, "--heal", preexec_fn=small_files) as server:
         while deliver_one(server.address, ["anna"], "x" * 500) == [STORED]:
             pass
+        time.sleep(HEAL_SECONDS + 3)
+        equal(deliver_one(server.address, ["anna", "ben"], "hello"), [NOT_STORED, stored("ben")])
+        equal(server.process.poll(), None)
+
+
+@case
+def a_server_that_heals(folder):
+    """with --heal a server whose mailbox failed serves the others for 30 seconds, and ends then with a device fault"""
+    library, trial = failing.built(folder), folder / "trial"
+    trial.mkdir()
+    given = failing.with_calls(library, trial)
+    with failing.environment(given), Server(trial, ["anna"], 1, "--lanes", 1) as server:
+        equal(deliver_one(server.address, ["anna"], "hello"), [STORED])
+        equal(server.end().status, 0)
+    given = failing.with_calls(library, folder, failing.called(trial).index("write mailbox") + 1)
+    with failing.environment(given):
+        server = Server(folder, ["anna", "ben"], MANY, "--lanes", LANES, "--heal")
+    with server:
         since = time.monotonic()
+        equal(deliver_one(server.address, ["anna"], "hello"), [NOT_STORED])
         equal(deliver_one(server.address, ["anna"], "hello"), [NOT_STORED])
         equal(deliver_one(server.address, ["ben"], "hello"), [stored("ben")])
         said, errors = server.process.communicate(timeout=HEAL_SECONDS + 10)

@@ -40,10 +40,23 @@ def all_later_calls_fail(folder):
     fail_in_turn(folder, {"FAIL_ALL": "1"}, {"refused", "in use", "broken", "harmless", "well"})
 
 
-one_call_fails.seconds = all_later_calls_fail.seconds = 120
+@case
+def one_call_fails_anyway(folder):
+    """the same of one call with --start-anyway: the server starts whichever fails, and one of the start costs no copy"""
+    fail_in_turn(folder, {}, {"in use", "broken", "harmless", "well"}, "--start-anyway")
 
 
-def fail_in_turn(folder, more, needed):
+@case
+def all_later_calls_fail_anyway(folder):
+    """the same of all later ones with --start-anyway: the server starts, 451 from then on, the other 250"""
+    fail_in_turn(folder, {"FAIL_ALL": "1"}, {"in use", "broken", "harmless", "well"}, "--start-anyway")
+
+
+for one in [one_call_fails, all_later_calls_fail, one_call_fails_anyway, all_later_calls_fail_anyway]:
+    one.seconds = 120
+
+
+def fail_in_turn(folder, more, needed, *words):
     library = built(folder)
     seen = set()
     for number in range(1, MOST_CALLS):
@@ -53,7 +66,7 @@ def fail_in_turn(folder, more, needed):
         given = {"LD_PRELOAD": library, "FAIL_FILE": "/anna.mbox", "FAIL_CALL": number, "FAIL_TOLD": told}
         given |= {"FAIL_LOG": log, **more}
         try:
-            seen.add(deliver_a_few(place, {name: str(value) for name, value in given.items()}))
+            seen.add(deliver_a_few(place, {name: str(value) for name, value in given.items()}, words))
         except AssertionError as fault:
             raise AssertionError(f"call {number}, {called(place)[number - 1 : number]}: {fault}") from fault
         if not told.exists():
@@ -71,17 +84,23 @@ def built(folder):
     return library
 
 
+def with_calls(library, folder, fails=0):
+    """What a server is started with that writes its calls on anna's mailbox down in that folder, of which that fails."""
+    given = {"LD_PRELOAD": library, "FAIL_FILE": "/anna.mbox", "FAIL_LOG": folder / "log", "FAIL_CALL": fails}
+    return {name: str(value) for name, value in given.items()}
+
+
 def called(folder):
     """The calls so far, each with its place."""
     log = folder / "log"
     return log.read_text().splitlines() if log.exists() else []
 
 
-def deliver_a_few(folder, given):
+def deliver_a_few(folder, given, words):
     """Conversations with a letter for both mailboxes each: what the call that failed came to."""
     (folder / "anna.mbox").write_bytes(OLD)
     with environment(given):
-        server = Server(folder, ["anna", "ben"], LETTERS, "--lanes", 1)
+        server = Server(folder, ["anna", "ben"], LETTERS, "--lanes", 1, *words)
     with server:
         if not server.first:
             equal(vars(server.end()), {"status": 1, "said": [], "errors": ["lmtpd: cannot open anna.mbox"]})

@@ -1,10 +1,12 @@
 """What the server does where a mailbox's file fails, or was left torn."""
 
+import contextlib
+import os
 import resource
 import time
 
 import letters
-from cases import case, equal
+from cases import Absent, case, equal
 from clients import Client, deliver_one
 from replies import CLOSING, no_room, not_stored, over_quota, stored
 from server import Server
@@ -39,6 +41,29 @@ def of_size(limit):
 
 
 @case
+def the_longest_file(folder):
+    """a mailbox's file without blocks that is as long as its file system lets one be: 451 for it alone, and it stays"""
+    size = lengthen(folder / "anna.mbox")
+    with Server(folder, ["anna", "ben"], 2, "--lanes", 1) as server:
+        for number in [1, 2]:
+            finals = deliver_one(server.address, ["anna", "ben"], f"letter {number}")
+            equal(finals, [not_stored("anna"), stored("ben")])
+        said = ["anna stored 0", "ben stored 2"]
+        equal(vars(server.end()), {"status": 1, "said": said, "errors": ["lmtpd: device fault"]})
+        equal((server.mailbox("anna").stat().st_size, server.lock_file("anna").exists()), (size, False))
+
+
+def lengthen(path):
+    """Makes a file of the length that no file may exceed there, which it says; no file system here has another one."""
+    path.touch()
+    for size in [2**63 - 1, 2**44 - 4096, 2**44 - 65536]:
+        with contextlib.suppress(OSError):
+            os.truncate(path, size)
+            return size
+    raise Absent("a file system whose longest file is known")
+
+
+@case
 def a_full_device_beside_a_quota(folder):
     """a mailbox's file that can't grow between two over their quota: their lines come before the fault, also where
     nothing can be told"""
@@ -63,7 +88,7 @@ def a_full_device_beside_a_quota(folder):
 
 @case
 def a_torn_tail(folder):
-    """a tail that is torn is closed by the fewest LFs before the next letter"""
+    """a tail that is torn within a line, or after it, is mended by the fewest LFs before the next letter"""
     closed_as = {b"abc": b"abc\n\n", b"abc\n": b"abc\n\n", b"abc\n\n": b"abc\n\n", b"x": b"x\n\n"}
     for old, closed in closed_as.items():
         with Server(folder, ["anna"], 1, "--lanes", 1) as server:

@@ -2,8 +2,10 @@
 
 import concurrent.futures
 import contextlib
+import ctypes
 import fcntl
 import os
+import pathlib
 import socket
 import subprocess
 import sys
@@ -18,6 +20,8 @@ from server import Server
 WAIT = 2  # seconds, as --lock-wait says it
 AT_ONCE = 1  # fewer seconds than this
 HOST = socket.gethostname()
+NOBODY = 65534
+NEW_MOUNTS, RECURSIVE, PRIVATE = 0x20000, 0x4000, 0x40000  # of unshare(2) and mount(2)
 
 
 @contextlib.contextmanager
@@ -178,13 +182,24 @@ def gone_process():
     return process.pid
 
 
+def uptime():
+    """How many seconds the machine has been up."""
+    return float(pathlib.Path("/proc/uptime").read_text().split()[0])
+
+
 # What lock files others left, with their age in seconds, and whether they go.
 def left_lock_files():
-    gone, living = f"{gone_process()}:{HOST}", f"{os.getpid()}:{HOST}"
+    gone, living, up = f"{gone_process()}:{HOST}", f"{os.getpid()}:{HOST}", uptime()
     return [
         ("a process that is gone", gone, 0, True),
         ("a living process", living, 0, False),
-        ("a living process, old", living, 400, False),
+        ("a living process, as old as the machine's boot allows", living, min(400, up - 5), False),
+        ("a living process, as liblockfile writes it", f"{os.getpid()}\n", min(400, up - 5), False),
+        ("a living process's number, from before the machine's boot", living, max(300, up) + 30, True),
+        ("a number above all", f"2147483648:{HOST}", 0, False),
+        ("a number above all, old", f"2147483648:{HOST}", 400, True),
+        ("leading zeros, old", f"0{os.getpid()}:{HOST}", 400, True),
+        ("two numbers, old", f"{os.getpid()} 2", 400, True),
         ("another host's", "1:elsewhere.example", 0, False),
         ("another host's, old", "1:elsewhere.example", 400, True),
         ("another host's, not yet old", "1:elsewhere.example", 200, False),
@@ -265,11 +280,48 @@ def another_users(folder):
         with Client(server.address).greet() as client:
             for age, reply in [(0, not_stored("anna")), (400, stored("anna"))]:
                 leave_lock_file(server.lock_file("anna"), f"{gone_process()}:{HOST}", age)
-                os.chown(server.lock_file("anna"), 65534, 65534)
+                os.chown(server.lock_file("anna"), NOBODY, NOBODY)
                 client.deliver(["anna"], "hello")  # it may be the turn that removes it
                 equal(client.deliver(["anna"], "hello")[1], [reply])
             client.quit()
         equal(server.end().status, 0)
+
+
+@case
+def hidden_processes(folder):
+    """a lock file of a living process stays where the server is shown no other user's processes, as systemd has it by
+    ProtectProc=invisible; one of a process that is gone goes"""
+    if os.geteuid() != 0:
+        raise Absent("it needs root")
+    folder.chmod(0o777)
+    with Server(folder, ["anna"], 1, "--lanes", 1, "--lock-wait", 0, preexec_fn=hide_processes) as server:
+        with Client(server.address).greet() as client:
+            equal(client.deliver(["anna"], "hello")[1], [stored("anna")])
+            for process, age, reply in [
+                (os.getpid(), 0, not_stored("anna")),
+                (os.getpid(), min(400, uptime() - 5), not_stored("anna")),
+                (gone_process(), 0, stored("anna")),
+            ]:
+                leave_lock_file(server.lock_file("anna"), f"{process}:{HOST}", age)
+                os.chown(server.lock_file("anna"), NOBODY, NOBODY)
+                equal((process, age, client.deliver(["anna"], "hello")[1]), (process, age, [reply]))
+            client.quit()
+        equal(server.end().status, 0)
+
+
+def hide_processes():
+    """In the process that becomes the server: a /proc that shows no other user's processes, and a user of its own."""
+    system = ctypes.CDLL(None, use_errno=True)
+    for is_done in [
+        system.unshare(NEW_MOUNTS) == 0,
+        system.mount(b"none", b"/", None, RECURSIVE | PRIVATE, None) == 0,
+        system.mount(b"proc", b"/proc", b"proc", 0, b"hidepid=invisible") == 0,
+    ]:
+        if not is_done:
+            raise OSError(ctypes.get_errno(), "a /proc of its own")
+    os.setgroups([])
+    os.setresgid(NOBODY, NOBODY, NOBODY)
+    os.setresuid(NOBODY, NOBODY, NOBODY)
 
 
 @case

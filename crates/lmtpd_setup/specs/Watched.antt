@@ -1,6 +1,6 @@
--- What contracts see of a mailbox whose failure is told.
-use Rattle.lmtpd_setup.specs.declared.watched.WatchedMailbox.{WatchedMailbox}
+-- What contracts see of a file whose failure is told.
+use Rattle.lmtpd_setup.specs.declared.watched.WatchedFile.{WatchedFile}
 
--- the spool that is written to
-abbrev pub watched_spool : {S R : Type 0} → WatchedMailbox S R → S
-watched_spool m = m.spool
+-- the file that is written to
+abbrev pub watched_file : {F R : Type 0} → WatchedFile F R → F
+watched_file w = w.file

@@ -29,4 +29,4 @@ pub use opening::open_address;
 pub use setup::{ServerSetup, set_up};
 pub use site::site_of;
 pub use stop::{Exit, Stop, report_fault, status_after, write_fault};
-pub use watched::WatchedMailbox;
+pub use watched::WatchedFile;

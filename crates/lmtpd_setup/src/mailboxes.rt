@@ -8,7 +8,7 @@ use crate::ends::ServerCurfew;
 use crate::fault::Fault;
 use crate::hurried::HurriedClock;
 use crate::stop::Stop;
-use crate::watched::WatchedMailbox;
+use crate::watched::WatchedFile;
 use lmtpd_log::{LoggedFile, LoggedMailbox};
 use log::{Log, error};
 use mbox_rd::{RangeLock, SharedSpool, StdMailboxFile};
@@ -19,12 +19,15 @@ use std::io::ErrorKind;
 use std::sync::Arc;
 use std::time::Clock;
 
-/// A mailbox's file that other programs read and empty too, whose failure is logged, and that waits for them until the
-/// server is to end.
-type SharedMailbox<R, G> = SharedSpool<LoggedFile<StdMailboxFile<R>, G>, HurriedClock<R>>;
+/// A mailbox's file that other programs read and empty too, whose failure is logged and ends a server that heals, and
+/// that waits for them until the server is to end.
+type SharedMailbox<R, G> = SharedSpool<
+    LoggedFile<WatchedFile<StdMailboxFile<R>, R>, G>,
+    HurriedClock<R>,
+>;
 
-/// One whose failure ends a server that heals, and of which it is logged that it is in use.
-pub type ServedMailbox<R, G> = LoggedMailbox<WatchedMailbox<SharedMailbox<R, G>, R>, G>;
+/// One of which it is logged that it is in use.
+pub type ServedMailbox<R, G> = LoggedMailbox<SharedMailbox<R, G>, G>;
 
 /// Where mailboxes are, how many seconds a turn at one is waited for, the permission bits of a file that is made, and
 /// whether a mailbox is had though its file can't be opened.
@@ -87,7 +90,7 @@ fn open_mailbox<'a, R, G>(
     name: &'a str,
     curfew: &Arc<ServerCurfew<R>>,
     log: G,
-) -> Result<WatchedMailbox<SharedMailbox<R, G>, R>, Stop<'a>>
+) -> Result<SharedMailbox<R, G>, Stop<'a>>
 where
     R: Files + Clock + Copy + Drop,
     R::File: RangeLock,
@@ -95,10 +98,10 @@ where
     ensures { IfErr result (IsNotOpen access.entry.anyway name.entry) }
 {
     let file = open_file(rt, alloc, access, name, &log)?;
-    let file = logged_file(alloc, file, name, log)?;
+    let file = logged_file(alloc, WatchedFile::new(file, shared(curfew)?), name, log)?;
     let clock = HurriedClock::new(rt, shared(curfew)?);
     match SharedSpool::new(alloc, file, clock, access.wait) {
-        Ok(spool) => Ok(WatchedMailbox::new(spool, shared(curfew)?)),
+        Ok(spool) => Ok(spool),
         Err(_) => Err(Stop::Fault(Fault::Memory)),
     }
 }

@@ -1,65 +1,95 @@
-//! A mailbox whose failure is told to the curfew of its server.
+//! A mailbox's file whose failure is told to the curfew of its server.
 
 ghost use Rattle.std.specs.Prelude.{◌≡◌};
-ghost use Rattle.lmtpd_setup.specs.Watched.{watched_spool};
+ghost use Rattle.lmtpd_setup.specs.Watched.{watched_file};
 
 use crate::ends::ServerCurfew;
-use mbox_record::{InUse, Spool, SpoolFault, Tail};
+use mbox_rd::{FileEnd, InUse, MailboxFile};
+use std::io;
+use std::io::ErrorKind;
 use std::sync::Arc;
 use std::time::Clock;
 
-/// A spool of whose faults the curfew is told, so that a server that heals ends.
+/// A file of whose writes and syncs that fail the curfew is told, so that a server that heals ends; but not where the
+/// mailbox alone has no room, since a start mends nothing then.
 #[derive(Drop)]
-pub struct WatchedMailbox<S, R: Drop> {
-    spool: S,
+pub struct WatchedFile<F, R: Drop> {
+    file: F,
     curfew: Arc<ServerCurfew<R>>,
 }
 
-impl<S, R: Drop> WatchedMailbox<S, R> {
-    /// Over the mailbox's spool.
-    pub fn new(spool: S, curfew: Arc<ServerCurfew<R>>) -> WatchedMailbox<S, R>
-        ensures over { watched_spool result ≡ spool }
+impl<F, R: Drop> WatchedFile<F, R> {
+    /// Over the mailbox's file.
+    pub fn new(file: F, curfew: Arc<ServerCurfew<R>>) -> WatchedFile<F, R>
+        ensures over { watched_file result ≡ file }
     {
-        WatchedMailbox { spool, curfew }
+        WatchedFile { file, curfew }
     }
 }
 
-impl<S: Spool, R: Clock + Drop> Spool for WatchedMailbox<S, R> {
-    ghost state = { λ mailbox. S.state (watched_spool mailbox) };
-
-    fn is_shared(&self) -> bool {
-        self.spool.is_shared()
-    }
-
-    fn lock(&mut self) -> Result<Option<u64>, InUse> {
-        self.spool.lock()
-    }
-
-    fn unlock(&mut self) {
-        self.spool.unlock();
-    }
-
-    fn append(&mut self, piece: &[u8]) -> Result<usize, SpoolFault> {
-        let took = self.spool.append(piece);
-        if took.is_err() {
+impl<F, R: Clock + Drop> WatchedFile<F, R> {
+    fn tell(&self, reason: io::Error) {
+        if !is_of_one_mailbox(reason.kind()) {
             self.curfew.mailbox_failed();
         }
-        took
+    }
+}
+
+// Whether the file is as long as a file may be, or its owner has all of the disk that he may have.
+fn is_of_one_mailbox(kind: ErrorKind) -> bool {
+    matches!(kind, ErrorKind::FileTooLarge | ErrorKind::QuotaExceeded)
+}
+
+impl<F: MailboxFile, R: Clock + Drop> MailboxFile for WatchedFile<F, R> {
+    ghost tells = { F.tells };
+
+    ghost state = { λ watched. F.state (watched_file watched) };
+
+    fn try_lock_file(&mut self) -> Result<(), InUse> {
+        self.file.try_lock_file()
     }
 
-    fn sync(&mut self) -> Result<(), SpoolFault> {
-        let synced = self.spool.sync();
-        if synced.is_err() {
-            self.curfew.mailbox_failed();
+    fn remove_lock_file(&mut self) {
+        self.file.remove_lock_file();
+    }
+
+    fn try_range_lock(&mut self) -> Result<(), InUse> {
+        self.file.try_range_lock()
+    }
+
+    fn unlock_range(&mut self) {
+        self.file.unlock_range();
+    }
+
+    fn is_named(&mut self) -> Result<bool, InUse> {
+        self.file.is_named()
+    }
+
+    fn reopen(&mut self) -> Result<(), InUse> {
+        self.file.reopen()
+    }
+
+    fn end(&mut self) -> Result<FileEnd, InUse> {
+        self.file.end()
+    }
+
+    fn write(&mut self, bytes: &[u8]) -> io::Result<()> {
+        let written = self.file.write(bytes);
+        if let Err(reason) = written {
+            self.tell(reason);
         }
-        synced
+        written
     }
 
-    fn tail(&self) -> Tail {
-        self.spool.tail()
+    fn keep(&mut self) -> io::Result<()> {
+        let kept = self.file.keep();
+        if let Err(reason) = kept {
+            self.tell(reason);
+        }
+        kept
     }
 
-    fn held(&self) -> u64 {
-        self.spool.held()
+    fn cut(&mut self, size: u64) -> io::Result<()> {
+        self.file.cut(size)
     }
 }

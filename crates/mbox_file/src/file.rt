@@ -99,11 +99,7 @@ fn torn_tail<F: Read + Seek>(file: &mut F, at: u64) -> io::Result<Tail> {
 }
 
 // The last bytes of a file of that size, as many as there is room for.
-fn read_last<'a, F: Read + Seek>(
-    file: &mut F,
-    at: u64,
-    room: &'a mut [u8],
-) -> io::Result<&'a [u8]>
+fn read_last<'a, F: Read + Seek>(file: &mut F, at: u64, room: &'a mut [u8]) -> io::Result<&'a [u8]>
     ensures { IfOk result (λ last. length last.now ≡ min at (length room.old)) }
 {
     let count = at.min(room.len() as u64);

@@ -1,3 +1,4 @@
 pub mod FileSpool
 pub mod Turn
 pub mod SharedSpool
+pub mod Patience

@@ -7,6 +7,7 @@
 
 mod file;
 mod opening;
+mod patience;
 mod shared;
 mod turn;
 

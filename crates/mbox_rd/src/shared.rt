@@ -12,7 +12,8 @@ ghost use Rattle.mail_world.specs.Endings.{ending, ending_from};
 ghost use Rattle.mbox_record.specs.Tail.{ending_of};
 
 use crate::file::BUFFER_SIZE;
-use crate::turn::{cut_back, let_go, tries_in, wait_for_turn};
+use crate::patience::Patience;
+use crate::turn::{cut_back, let_go, wait_for_turn};
 use mbox_file::{FileEnd, MailboxFile};
 use mbox_record::{InUse, Spool, SpoolFault, Tail, tail_after};
 use std::alloc::{AllocError, Global};
@@ -29,6 +30,7 @@ pub struct SharedSpool<F: MailboxFile + Drop, C: Clock + Drop> {
     file: F,
     clock: C,
     wait: u32,
+    patience: Patience,
     waiting: Vec<u8>,
     began: u64,
     tail: Tail,
@@ -39,7 +41,6 @@ pub struct SharedSpool<F: MailboxFile + Drop, C: Clock + Drop> {
     in_turn: bool,
     has_failed: bool,
     is_unsynced: bool,
-    was_refused: bool,
 }
 
 impl<F: MailboxFile + Drop, C: Clock + Drop> Model for SharedSpool<F, C> {
@@ -69,8 +70,8 @@ impl<F: MailboxFile + Drop, C: Clock + Drop> Model for SharedSpool<F, C> {
 impl<F: MailboxFile + Drop, C: Clock + Drop> SharedSpool<F, C> {
     ghost use Rattle.mbox_rd.specs.SharedSpool.{IsOpened};
 
-    /// Over a file with neither lock held. A lock waits that many seconds for other programs, 3,600 at most; 0 is
-    /// one try. From here on it takes no memory.
+    /// Over a file with neither lock held. Within a minute locks wait that many seconds for other programs in all,
+    /// 3,600 at most; 0 is one try each. From here on it takes no memory.
     pub fn new(alloc: Global, file: F, clock: C, wait: u32) -> Result<SharedSpool<F, C>, AllocError>
         ensures opened { IfOk result IsOpened }
         ensures file { IfOk result (λ spool. spool.file ≡ file) }
@@ -80,6 +81,7 @@ impl<F: MailboxFile + Drop, C: Clock + Drop> SharedSpool<F, C> {
             file,
             clock,
             wait,
+            patience: Patience::new(),
             waiting: Vec::with_capacity(alloc, BUFFER_SIZE)?,
             began: 0,
             tail: Tail::Empty,
@@ -90,13 +92,12 @@ impl<F: MailboxFile + Drop, C: Clock + Drop> SharedSpool<F, C> {
             in_turn: false,
             has_failed: false,
             is_unsynced: false,
-            was_refused: false,
         })
     }
 }
 
 impl<F: MailboxFile + Drop, C: Clock + Drop> SharedSpool<F, C> {
-    ghost use Rattle.mbox_file.specs.MailboxFile.{HasAppended, HasNotAppended};
+    ghost use Rattle.mbox_file.specs.MailboxFile.{HasAppended, HasNotAppended, KeepsFile, FailsToKeep};
     ghost use Rattle.mbox_rd.specs.SharedSpool.{KeepsAll, HasLost, failed_again};
 
     // Counts a failure, and throws away what waits.
@@ -125,6 +126,14 @@ impl<F: MailboxFile + Drop, C: Clock + Drop> SharedSpool<F, C> {
         Ok(())
     }
 
+    fn keep_file(&mut self) -> io::Result<()>
+        ensures same { self.new ≡ record self.old { file = self.new.file } }
+        ensures ok { F.tells ≡ true → OnOk result (KeepsFile (F.state self.old.file) (F.state self.new.file)) }
+        ensures err { F.tells ≡ true → OnErr result (FailsToKeep (F.state self.old.file) (F.state self.new.file)) }
+    {
+        self.file.keep()
+    }
+
     fn write_and_keep(&mut self) -> io::Result<()>
         ensures same { self.new ≡ record self.old { file = self.new.file; waiting = self.new.waiting } }
         ensures empty { OnOk result (self.new.waiting ≡ []) }
@@ -132,7 +141,7 @@ impl<F: MailboxFile + Drop, C: Clock + Drop> SharedSpool<F, C> {
         ensures failed { F.tells ≡ true → OnErr result (HasLost F.state self.old self.new) }
     {
         self.write_waiting()?;
-        self.file.keep()
+        self.keep_file()
     }
 
     // Counts a missed turn.
@@ -163,7 +172,7 @@ impl<F: MailboxFile + Drop, C: Clock + Drop> SharedSpool<F, C> {
         self.in_turn = true;
         self.has_failed = false;
         self.is_unsynced = false;
-        self.was_refused = false;
+        self.patience.was_missed = false;
     }
 
     // Puts what there is room for into the buffer.
@@ -218,8 +227,8 @@ impl<F: MailboxFile + Drop, C: Clock + Drop> Spool for SharedSpool<F, C> {
         true
     }
 
-    /// Waits for programs that have the mailbox locked, and after a missed turn not at all. In a turn it is
-    /// refused, and the turn goes on.
+    /// Waits for programs that have the mailbox locked, as far as what may be waited within a minute isn't used up, and
+    /// after a missed turn not at all. In a turn it is refused, and the turn goes on.
     fn lock(&mut self) -> Result<Option<u64>, InUse>
         ensures within { self.old.in_turn ≡ true → (result ≡ Err InUse.Locked) × (self.new.file ≡ self.old.file) }
         ensures starts { OnOk result (StartsTurn self.old self.new) }
@@ -240,18 +249,14 @@ impl<F: MailboxFile + Drop, C: Clock + Drop> Spool for SharedSpool<F, C> {
         if self.in_turn {
             return self.refuse(InUse::Locked);
         }
-        let tries = if self.was_refused {
-            1
-        } else {
-            tries_in(self.wait)
-        };
-        match wait_for_turn(&mut self.file, &self.clock, tries) {
+        let tries = self.patience.tries(&self.clock, self.wait);
+        match wait_for_turn(&mut self.file, &self.clock, &mut self.patience, tries) {
             Ok(end) => {
                 self.start(end);
                 Ok(Some(end.at))
             }
             Err(in_use) => {
-                self.was_refused = true;
+                self.patience.was_missed = true;
                 self.refuse(in_use)
             }
         }

@@ -4,36 +4,19 @@ ghost use Rattle.std.specs.Prelude.{◌≡◌, true, IfOk, OnOk, OnErr};
 ghost use Rattle.mbox_file.specs.MailboxFile.{HasRefused};
 ghost use Rattle.mbox_rd.specs.Turn.{HasBegun, HasMissed, HasTried, HasSeen, HasTakenLocks, HasLetGo, HasCutBack};
 
-use mail_world::limits::LOCK_WAIT_LIMIT;
+use crate::patience::Patience;
 use mbox_file::{FileEnd, MailboxFile};
 use mbox_record::InUse;
-use std::time::{Clock, Duration};
+use std::time::Clock;
 
 /// How many files are looked at in one try, where the path names another one each time.
 const OPENINGS: usize = 4;
-
-/// How many pauses are short, and how long these and the others are.
-const SHORT_PAUSES: u64 = 20;
-
-const SHORT_PAUSE_MS: u64 = 5;
-
-const PAUSE_MS: u64 = 100;
-
-/// How many tries take that many seconds, LOCK_WAIT_LIMIT at most, with a pause between each two.
-pub(crate) fn tries_in(seconds: u32) -> u64 {
-    let seconds = seconds.min(LOCK_WAIT_LIMIT);
-    if seconds == 0 {
-        return 1;
-    }
-    let short = SHORT_PAUSES * SHORT_PAUSE_MS;
-    let long = (u64::from(seconds) * 1_000 - short) / PAUSE_MS;
-    1 + SHORT_PAUSES + long
-}
 
 /// Tries for a turn that often, and pauses after each try that others' locks were in the way of, but the last.
 pub(crate) fn wait_for_turn<F: MailboxFile, C: Clock>(
     file: &mut F,
     clock: &C,
+    patience: &mut Patience,
     tries: u64,
 ) -> Result<FileEnd, InUse>
     ensures ok { F.tells ≡ true → IfOk result (HasBegun (F.state file.old) (F.state file.new)) }
@@ -42,20 +25,11 @@ pub(crate) fn wait_for_turn<F: MailboxFile, C: Clock>(
     for pauses in 1..tries {
         match begin_turn(file) {
             Ok(end) => return Ok(end),
-            Err(InUse::Locked) => clock.sleep(pause_after(pauses)),
+            Err(InUse::Locked) => patience.pause(clock, pauses),
             Err(in_use) => return Err(in_use),
         }
     }
     begin_turn(file)
-}
-
-// The pause of this number, counted from 1.
-fn pause_after(pauses: u64) -> Duration {
-    if pauses <= SHORT_PAUSES {
-        Duration::from_millis(SHORT_PAUSE_MS)
-    } else {
-        Duration::from_millis(PAUSE_MS)
-    }
 }
 
 // The path may name another file than the open one, which is then opened, and it is tried again.
