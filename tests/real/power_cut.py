@@ -44,7 +44,7 @@ def power_cut(folder):
             judge({name: (mail / f"{name}.mbox").read_bytes() for name in BOXES}, told, unwritten=True)
 
 
-power_cut.seconds = 240
+power_cut.seconds = 480
 
 
 def run_until_the_cut(mail, disk, copy, told, load, seconds):

@@ -4,7 +4,7 @@ import re
 import shutil
 
 import letters
-from cases import case, equal
+from cases import case
 from cut_writes import READERS, TOLD, Killer, Reader, deliver_after, judge
 from dovecot import Dovecot
 from mutt import Mutt
@@ -37,7 +37,9 @@ def cut_and_read(folder, told):
     need_root()
     folder.chmod(0o755)
     killer = Killer(folder)
-    cuts = [killer.cut(f"box{place}", place, told) for place in places_of(folder, killer, told)]
+    length, of_from_line = killer.length_of_record()
+    places = [*range(of_from_line + 2), *range(length - LAST, length + 1)]
+    cuts = killer.cut([(f"box{place}", place) for place in places], told)
     said = deliver_after(folder, cuts)
     mutt = Mutt(folder, {})
     with Dovecot(folder, folder / "inbox") as dovecot, dovecot.login() as client:
@@ -45,15 +47,6 @@ def cut_and_read(folder, told):
         by_mutt = Reader(lambda path: copied_by(mutt, path))
         by_imap = Reader(lambda path: by_dovecot(client, put(path, home)), without_from_line)
         judge(cuts, said, READERS | {"mutt": by_mutt, "Dovecot": by_imap})
-
-
-def places_of(folder, killer, told):
-    """Those within the From line of a record, one past it, and those of its last bytes."""
-    equal(killer.cut("whole", 10_000, told), None)
-    found = (folder / "whole.mbox").read_bytes()
-    record = found[found.rfind(b"\n\nFrom ") + 2 if told else 0 :]
-    from_line = record.find(b"\n") + 1
-    return [*range(from_line + 2), *range(len(record) - LAST, len(record) + 1)]
 
 
 def copied_by(mutt, path):

@@ -5,17 +5,18 @@ import pathlib
 import shutil
 import signal
 import subprocess
+import time
 from collections.abc import Callable
 from typing import NamedTuple
 
 import letters
 from cases import Absent, equal
-from clients import Client
+from clients import Client, deliver_one
 from mending import mends
 from replies import stored
 from server import Server, run
 
-LIBRARY = pathlib.Path(__file__).parent / "kill_in_write.c"
+LIBRARY = pathlib.Path(__file__).parent / "stop_in_write.c"
 TOLD = ["Subject: told", "", "From here on", ">From there", "", "end"]
 TORN = ["Subject: torn", "", "From here on", "", "end"]
 THEN = ["Subject: then", "", "bye"]
@@ -47,43 +48,53 @@ READERS = {"git": Reader(letters.by_git), "Python": Reader(letters.by_python)}
 
 
 class Killer:
-    """Kills servers within a write, by a library that they are started with."""
+    """Kills a server within its writes, by a library that it is started with."""
 
     def __init__(self, folder):
         if shutil.which("cc") is None:
             raise Absent("cc")
-        self.folder, self.length = folder, folder / "length"
-        self.library = folder / "kill_in_write.so"
+        self.folder, self.library = folder, folder / "stop_in_write.so"
         subprocess.run(["cc", "-O2", "-shared", "-fPIC", "-o", self.library, LIBRARY], check=True)
 
-    def cut(self, box, place, told):
-        """A server tells a letter, where there is one, and is killed once so many bytes of what comes next stand there;
-        None where it writes fewer, and so goes on."""
-        path = self.folder / f"{box}.mbox"
-        self.length.unlink(missing_ok=True)
-        given = {"LD_PRELOAD": str(self.library), "KILL_FILE": str(path), "KILL_AT": str(self.length)}
-        with Server(self.folder, [box], 1, "--lanes", 1, env=os.environ | given) as server:
+    def cut(self, boxes, told=()):
+        """One server with these mailboxes, each with the place at which what it writes there is cut off: it tells a
+        letter to all of them, where there is one, and is killed within the writes of the next one."""
+        paths = [self.folder / f"{box}.mbox" for box, _ in boxes]
+        names = [box for box, _ in boxes]
+        environment = os.environ | {"LD_PRELOAD": str(self.library)}
+        with Server(self.folder, names, 1, "--lanes", 1, env=environment) as server:
             with Client(server.address).greet() as client:
                 if told:
-                    equal(client.deliver_at_once([box], *told)[1], [stored(box)])
-                before = path.read_bytes()
-                self.length.write_text(str(len(before) + place))
-                client.start_message(box, *TORN)
-                client.send(".")
-                if client.hear_or_end() == stored(box):
-                    return None
+                    equal(client.deliver_at_once(names, *told)[1], [stored(name) for name in names])
+                before = [path.read_bytes() for path in paths]
+                for path, old, (_, place) in zip(paths, before, boxes, strict=True):
+                    path.with_name(f"{path.name}.cut").write_text(str(len(old) + place))
+                client.send("MAIL FROM:<carl@a.example>", *(f"RCPT TO:<{name}@mx.example>" for name in names), "DATA")
+                for _ in range(len(names) + 2):
+                    client.hear()
+                client.send(*TORN, ".")
+                self.wait_for_cuts()
+                server.process.kill()
             equal(server.process.wait(20), -signal.SIGKILL)
-        torn = path.read_bytes()
-        equal((torn[: len(before)], len(torn)), (before, len(before) + place))
-        return Cut(path, place, before, torn)
+        found = [path.read_bytes() for path in paths]
+        cuts = [Cut(path, place, *both) for path, (_, place), *both in zip(paths, boxes, before, found, strict=True)]
+        equal([cut.place for cut in cuts if cut.torn[: -cut.place or None] != cut.before], [])
+        return cuts
 
-    def cut_everywhere(self, told):
-        """A mailbox for each place of a record, from before its first byte to after its last."""
-        cuts = []
-        while not cuts or cuts[-1] is not None:
-            cuts.append(self.cut(f"box{len(cuts)}", len(cuts), told))
-        equal(letters.letter_of(text_of(cuts[-2].torn.removeprefix(cuts[-2].before))).message, message_of(TORN))
-        return cuts[:-1]
+    def wait_for_cuts(self):
+        """Until the server stands still in each of its writes."""
+        until = time.monotonic() + 30
+        while left := list(self.folder.glob("*.cut")):
+            assert time.monotonic() < until, left
+            time.sleep(0.01)
+
+    def length_of_record(self):
+        """Of the record that is cut off, and of its From line."""
+        with Server(self.folder, ["whole"], 1, "--lanes", 1) as server:
+            equal(deliver_one(server.address, ["whole"], *TORN), [stored("whole")])
+        record = (self.folder / "whole.mbox").read_bytes()
+        equal(letters.letter_of(text_of(record)).message, message_of(TORN))
+        return len(record), record.find(b"\n") + 1
 
 
 def deliver_after(folder, cuts):

@@ -1,5 +1,5 @@
-"""What mends a mailbox whose bytes end so, as the tests expect it: written down here by the rule (docs/DECISIONS.md),
-and not taken from the program.
+"""What mends a mailbox whose bytes end so, as the tests expect it: written down here by the rule that
+docs/operating/MAILBOXES.md has, and not taken from the program.
 
 A record may follow once an empty line ends what stands there. So the fewest LFs mend it; but a From line that breaks
 off where a letter may begin is filled up first, so that it is a letter of its own, with a date as ctime has it."""
