@@ -20,7 +20,7 @@ from cases import equal
 from clients import Client
 from replies import not_stored, stored
 from server import run
-from service import FOLDER, LMTPD, Service
+from service import FOLDER, SERVER_USER, Service
 
 CLIENTS = 4
 SECONDS = float(os.environ.get("READERS_SECONDS", "60"))
@@ -43,7 +43,7 @@ def body_of(subject):
 class Beside:
     """A service for one mailbox, by whom it is told, and what was told and deleted."""
 
-    def __init__(self, folder, *more, how=LMTPD):
+    def __init__(self, folder, *more, how=SERVER_USER):
         """Readers run as `how` says."""
         folder.chmod(0o755)
         self.folder, self.how, self.more = folder, how, more

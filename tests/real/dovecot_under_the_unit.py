@@ -12,7 +12,7 @@ from in_a_machine import in_a_machine
 from readers_delete import ByDovecot
 
 LETTERS = int(os.environ.get("LETTERS_UNDER_THE_UNIT", "3000"))
-SECONDS = 120 + LETTERS // 20
+SECONDS = 120 + LETTERS // 5  # at most, on a machine that is busy
 TAKEN_AWAY = "Our dotlock file"
 
 
@@ -48,6 +48,7 @@ def beside_dovecot(folder, *locks):
         print(f"{locks[1]}: {len(taken)} times its lock file was taken away; the first: {taken[:1]}")
         beside.judge(ended)
         equal(taken, [])
+        assert len(beside.told) >= LETTERS, len(beside.told)
 
 
 def sandbox_of(service):

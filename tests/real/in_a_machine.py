@@ -66,8 +66,8 @@ def in_a_machine(*needs):
 
         @functools.wraps(function)
         def run_there(folder):
-            for name, package in needs:
-                program(name, package)
+            for needed in needs:
+                program(*needed)
             with installed(folder) as there:
                 run_in(there, function, folder / "fault")
 

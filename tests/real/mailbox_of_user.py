@@ -5,10 +5,12 @@ import subprocess
 
 from beside import Beside
 from cases import case, equal
+from clients import deliver_one
 from in_a_machine import in_a_machine
 from packages import need_root
 from pages import lines_of, type_lines
 from readers_delete import FORMAIL, MUTT, ByFormail, ByMutt, ByPython
+from replies import stored
 from server import Server
 from service import FOLDER
 
@@ -65,7 +67,20 @@ def hers_with_python(folder):
     beside.judge_hers(beside.run({who: ByPython(beside) for who in ["one", "two"]}, seconds=SECONDS))
 
 
-for one in [hers_with_mutt, hers_with_lockfile, hers_with_python]:
+@case
+@in_a_machine()
+def a_lock_that_she_left(folder):
+    """a lock file that a program of anna's left more than five minutes ago, by the typed lines: the service removes it,
+    though it is hers, and delivers"""
+    with BesideAnna(folder).service(1) as service:
+        lock = service.lock_file("anna")
+        subprocess.run(["su", "anna", "-c", f"touch -d '400 seconds ago' {lock}"], check=True)
+        equal(lock.owner(), "anna")
+        equal(deliver_one(service.address, ["anna"], "hello"), [stored("anna")])
+        equal(lock.exists(), False)
+
+
+for one in [hers_with_mutt, hers_with_lockfile, hers_with_python, a_lock_that_she_left]:
     one.seconds = SECONDS + 180
 
 

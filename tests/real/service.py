@@ -16,7 +16,7 @@ FOLDER = pathlib.Path("/var/mail/lmtpd")
 SOCKETS = pathlib.Path("/var/spool/postfix/private")
 CONF = pathlib.Path("/etc/lmtpd.conf")
 # Who may read the mailboxes: the server's own user, as whom a user's program runs then.
-LMTPD = {"user": "lmtpd", "group": "lmtpd", "extra_groups": []}
+SERVER_USER = {"user": "lmtpd", "group": "lmtpd", "extra_groups": []}
 
 
 class Service:
@@ -25,7 +25,7 @@ class Service:
 
     def __init__(self, boxes, *more, name=""):
         """It has these mailboxes, and more words before them."""
-        self.unit, self.boxes = f"lmtpd@{name}" if name else "lmtpd", boxes
+        self.unit = f"lmtpd@{name}" if name else "lmtpd"
         self.address = str(SOCKETS / (f"lmtpd-{name}" if name else "lmtpd"))
         if name:
             pathlib.Path("/etc/lmtpd").mkdir(exist_ok=True)

@@ -85,7 +85,7 @@ def built(folder):
 
 
 def with_calls(library, folder, fails=0):
-    """What a server is started with that writes its calls on anna's mailbox down in that folder, of which that fails."""
+    """What a server is started with that notes its calls on anna's mailbox in that folder, of which that one fails."""
     given = {"LD_PRELOAD": library, "FAIL_FILE": "/anna.mbox", "FAIL_LOG": folder / "log", "FAIL_CALL": fails}
     return {name: str(value) for name, value in given.items()}
 

@@ -13,9 +13,9 @@ where
     ghost use Rattle.std.specs.Prelude.{◌≡◌, IfOk};
     ghost use Rattle.mbox_rd.specs.SharedSpool.{IsOpened};
 
-    /// Opens the plain file at that path. Where it is missing it is made, for its owner alone. A lock file that was left
-    /// behind is removed, nothing is written, and no lock is held. Within a minute locks wait that many seconds for
-    /// other programs in all, 3,600 at most; 0 is one try each.
+    /// Opens the plain file at that path. Where it is missing it is made, for its owner alone. A lock file that was
+    /// left behind is removed, nothing is written, and no lock is held. Within a minute locks wait that many seconds
+    /// for other programs in all, 3,600 at most; 0 is one try each.
     pub fn at(
         rt: R,
         alloc: Global,
