@@ -10,6 +10,7 @@ import importlib
 import os
 import pathlib
 import shutil
+import signal
 import sys
 import tempfile
 
@@ -21,6 +22,7 @@ from packages import program
 INSIDE = "LMTPD_IN_A_MACHINE"
 PROGRAM = "/usr/sbin/lmtpd"
 ABSENT = 77
+MADE_WITHIN = 600  # seconds
 JOURNAL = "/run/systemd/journald.conf.d"
 BEFORE = [
     # the journal has each line that a case looks for, however many letters come in a second
@@ -43,7 +45,8 @@ def package():
 
 @contextlib.contextmanager
 def installed(folder):
-    """A machine where the package was installed, and nothing was started."""
+    """A machine where the package was installed, and nothing was started; that isn't of the seconds that a case has."""
+    left = signal.alarm(MADE_WITHIN)
     program("postfix", "postfix")
     site = folder / "site"
     shutil.copytree(package(), site)
@@ -51,8 +54,9 @@ def installed(folder):
         shutil.copytree(ROOT / name, site / name)
     with Machine(folder, site) as there:
         for line in [*BEFORE, *PLAIN]:
-            status, said = there.run(line)
+            status, said = there.run(line, MADE_WITHIN)
             equal((line, status, said if status else ""), (line, 0, ""))
+        signal.alarm(left)
         yield there
 
 
