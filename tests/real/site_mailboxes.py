@@ -77,7 +77,8 @@ def deliver(there, count):
 @case
 def one_mailbox_holds_up_its_own_mail_alone(folder):
     """under systemd, with Postfix: a mailbox that can't be opened at a start, without right, another's, with a second
-    link, a link or a folder in its place, has the others' mail come, and its own once it is in order, with no restart"""
+    link, a link or a folder in its place, has the others' mail come, and its own once it is in order, without a
+    restart"""
     with machine(folder) as there:
         type_lines(there)
         for number, (break_file, mend) in enumerate(WAYS):

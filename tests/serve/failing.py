@@ -42,7 +42,8 @@ def all_later_calls_fail(folder):
 
 @case
 def one_call_fails_anyway(folder):
-    """the same of one call with --start-anyway: the server starts whichever fails, and one of the start costs no copy"""
+    """the same of one call with --start-anyway: the server starts whichever fails, and one at the start costs no
+    copy"""
     fail_in_turn(folder, {}, {"in use", "broken", "harmless", "well"}, "--start-anyway")
 
 
