@@ -1,9 +1,15 @@
 use Rattle.std.proofs.lemmas.Result.{err_from_is_err_and}
-use Rattle.lmtpd.proofs.AsAsked.{unopened}
+use Rattle.lmtpd.proofs.AsAsked.{unopened, unset}
 use Rattle.lmtpd.proofs.serve.asked.serve_asked.Goals as goal
 
 pub serve_opened-requires-clause-address : goal.serve_opened-requires-clause-address
 serve_opened-requires-clause-address g c κs within = (c.in_ok-listen_address.listen_address, c.in_ok-listen_address.ensures)
+
+pub returns-in_err-setup : goal.returns-in_err-setup
+returns-in_err-setup g c =
+    let p = err_from_is_err_and c.from_residual-in_err-setup.result c.from_residual-in_err-setup.ensures.1 in
+    rw (p.1, p.2) (unset c.args.words.now c.in_err-setup.field-0.0
+    (c.in_ok-listen_address.listen_address, c.in_ok-listen_address.ensures) c.in_err-setup.ensures.refused)
 
 pub returns-in_err-opened : goal.returns-in_err-opened
 returns-in_err-opened g c =
