@@ -15,7 +15,7 @@ use std::os::unix::fs::{MetadataExt, OpenOptionsExt};
 use std::time::{Clock, SystemTime};
 use std::{fs, io};
 
-/// Others read in a lock file whose it is.
+/// Others read in a lock file whose it is, where the umask lets them; the service's doesn't, and they go by its age.
 const LOCK_MODE: u32 = 0o644;
 
 /// A mailbox's file that is open, or that could not be opened yet, and its lock file `PATH.lock`. It tells contracts
