@@ -123,7 +123,7 @@ impl<R: Clock + Files> ServerCurfew<R> {
 
 impl<R: Clock + Files + Drop> ServerCurfew<R> {
     /// Whether the end was asked for so long ago that nothing is waited for any more; without a clock at once.
-    pub fn is_grace_over(&self) -> bool {
+    pub(crate) fn is_grace_over(&self) -> bool {
         match self.asked_at() {
             Some(asked) => has_passed(asked, self.moment(), Duration::from_millis(GRACE_MS)),
             None => false,
