@@ -44,24 +44,31 @@ def restarts_beside(folder, size, connections):
     with Service(["anna"]) as service, Postfix(folder, *settings(service.address, connections)) as postfix:
         told, longest = 0, 0
         for number in range(RESTARTS):
-            sender = Sender(postfix, number, size)
-            time.sleep(SERVES)
-            longest = max(longest, restarted(service))
-            names = sender.end()
-            told += len(names)
+            with Sender(postfix, number, size) as sender:
+                time.sleep(SERVES)
+                longest = max(longest, restarted(service))
+            equal(sender.faults, [])
+            told += len(sender.names)
             wait_until_sent(postfix, told)
-            take_out(service.mailbox("anna"), names)
+            take_out(service.mailbox("anna"), sender.names)
         look_at(postfix.log(), service, told, longest)
 
 
 class Sender:
-    """Hands letters to Postfix, one after the other, in a thread."""
+    """Hands letters to Postfix, one after the other, in a thread, until the end of a `with`; `names` are theirs."""
 
     def __init__(self, postfix, number, size):
         self.postfix, self.number, self.size = postfix, number, size
         self.names, self.faults, self.is_over = [], [], threading.Event()
         self.thread = threading.Thread(target=self.send)
+
+    def __enter__(self):
         self.thread.start()
+        return self
+
+    def __exit__(self, *_):
+        self.is_over.set()
+        self.thread.join()
 
     def send(self):
         try:
@@ -71,13 +78,6 @@ class Sender:
                 self.names.append(name)
         except OSError as fault:
             self.faults.append(fault)
-
-    def end(self):
-        """The names of all that it handed over."""
-        self.is_over.set()
-        self.thread.join()
-        equal(self.faults, [])
-        return self.names
 
 
 def restarted(service):
