@@ -9,7 +9,6 @@ use Rattle.lmtp_talk.specs.declared.peer.Came.TheVariants.{Bytes, End, Stop}
 use Rattle.lmtp_talk.specs.declared.tcp.peer.Bounds.{Bounds}
 use Rattle.lmtp_talk.specs.declared.tcp.peer.TcpPeer.{TcpPeer}
 use Rattle.lmtp_talk.specs.declared.tcp.peer.Waited.{Waited}
-use Rattle.lmtp_talk.specs.declared.tcp.peer.Waited.TheVariants as Waited
 use Rattle.lmtp_talk.specs.declared.pause.Pause.{Pause}
 use Rattle.lmtp_talk.specs.AtRest.{ends_at_rest}
 use Rattle.lmtp_talk.specs.Pause.{is_at_rest}

@@ -4,7 +4,6 @@ ghost use Rattle.std.specs.Prelude.{◌≡◌, ◌==◌, ◌≤◌, ◌-◌, ◌
 ghost use Rattle.std.specs.Duration.{as_nanos};
 ghost use Rattle.std.specs.List.{before_first};
 ghost use Rattle.mail_world.specs.Commands.{trimmed, is_word};
-ghost use Rattle.mail_world.specs.Text.{has_byte};
 ghost use Rattle.lmtp_talk.specs.AtRest.{verb_of, is_idle, is_one_more, is_refused, ends_at_rest, begins_mail};
 
 use crate::curfew::has_passed;
