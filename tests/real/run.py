@@ -19,6 +19,7 @@ import odd_clients  # noqa: F401
 import opensmtpd_delivers  # noqa: F401
 import other_mailboxes  # noqa: F401
 import postfix_delivers  # noqa: F401
+import postfix_restarts  # noqa: F401
 import power_cut  # noqa: F401
 import quota_emptied  # noqa: F401
 import read_only  # noqa: F401
