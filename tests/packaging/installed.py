@@ -5,6 +5,8 @@ import subprocess
 INSTALLED = [
     "etc/lmtpd.boxes",
     "etc/lmtpd.conf",
+    "usr/lib/lmtpd/instance.conf",
+    "usr/lib/lmtpd/start",
     "usr/lib/systemd/system/lmtpd.service",
     "usr/lib/systemd/system/lmtpd.socket",
     "usr/lib/systemd/system/lmtpd@.service",

@@ -25,6 +25,7 @@ import read_only  # noqa: F401
 import reader_holds  # noqa: F401
 import readers_agree  # noqa: F401
 import readers_delete  # noqa: F401
+import service_words  # noqa: F401
 import several_servers  # noqa: F401
 import site_mailboxes  # noqa: F401
 import soak  # noqa: F401

@@ -3,7 +3,6 @@
 import contextlib
 import os
 import pathlib
-import re
 import shutil
 import time
 
@@ -17,7 +16,6 @@ HEADING = "## From nothing to a letter in ten lines"
 # alone, so that what apt-get installs was installed before.
 REPLACED = {"make build": "test -x crates/lmtpd/out/lmtpd", "apt-get update": "true"}
 SEND = "printf 'Subject: {}\\n\\nhello\\n' | sendmail anna@mx.example"
-FEW = "/etc/systemd/system/lmtpd.service.d/few.conf"
 
 
 @case
@@ -129,10 +127,8 @@ def type_lines(there):
 
 def begin_for_few(there, count):
     """Has the service end after that many conversations, and Postfix hold one for each letter."""
-    unit = there.run("cat /usr/local/lib/systemd/system/lmtpd.service")[1]
-    begin = re.search("^ExecStart=.*$", unit, re.MULTILINE)[0].replace(" serve ", f" serve --connections {count} ")
-    there.run(f"mkdir {os.path.dirname(FEW)}; printf '%s\\n' '[Service]' ExecStart= '{begin}' > {FEW}")
-    equal(there.run("systemctl daemon-reload && systemctl restart lmtpd"), (0, ""))
+    there.run(f"sed -i 's/^OPTIONS=.*/OPTIONS=--connections {count}/' /etc/lmtpd.conf")
+    equal(there.run("systemctl restart lmtpd"), (0, ""))
     equal(there.run("postconf -e lmtp_connection_cache_on_demand=no && postfix reload")[0], 0)
 
 
