@@ -80,7 +80,13 @@ def check_install(folder):
     assert found == INSTALLED, found
     assert gzip.decompress((folder / "usr/share/man/man8/lmtpd.8.gz").read_bytes()).decode() == PAGE
     unit = (folder / "usr/lib/systemd/system/lmtpd.service").read_text()
-    assert "ExecStart=/usr/lib/lmtpd/start\n" in unit, unit
+    for line in [
+        "ExecStart=/usr/lib/lmtpd/start",
+        "LogRateLimitIntervalSec=1s",
+        "LogRateLimitBurst=1000000",
+        "SyslogFacility=mail",
+    ]:
+        assert line in unit.splitlines(), line
     start = (folder / "usr/lib/lmtpd/start").read_text()
     assert start.endswith('exec /usr/sbin/lmtpd serve "$@"\n'), start
     socket = (folder / "usr/lib/systemd/system/lmtpd.socket").read_text().splitlines()
