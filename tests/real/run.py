@@ -28,6 +28,7 @@ import readers_agree  # noqa: F401
 import readers_delete  # noqa: F401
 import service_words  # noqa: F401
 import several_servers  # noqa: F401
+import start_fails  # noqa: F401
 import site_mailboxes  # noqa: F401
 import soak  # noqa: F401
 import ten_lines  # noqa: F401

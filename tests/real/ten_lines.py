@@ -58,7 +58,7 @@ def a_service_that_is_killed_begins_again(folder):
         begun = time.monotonic()
         equal(there.run("systemctl kill lmtpd"), (0, ""))
         wait_for_restarts(there, 1)
-        assert time.monotonic() - begun < 3, "not at once"
+        assert time.monotonic() - begun < 4, "not at once"
         # the mailboxes' folder is away for eight seconds, so that the server ends with status 1
         begun = time.monotonic()
         there.run("cd /var/mail; mv lmtpd away; (sleep 8; mv away lmtpd) > /dev/null 2>&1 &")
