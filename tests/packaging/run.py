@@ -82,6 +82,7 @@ def check_install(folder):
     unit = (folder / "usr/lib/systemd/system/lmtpd.service").read_text()
     for line in [
         "ExecStart=/usr/lib/lmtpd/start",
+        "ExecReload=/usr/lib/lmtpd/start --check-words",
         "LogRateLimitIntervalSec=1s",
         "LogRateLimitBurst=1000000",
         "SyslogFacility=mail",

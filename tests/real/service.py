@@ -94,10 +94,10 @@ class Service:
         errors = [line for line in lines[begun:] if line.startswith("lmtpd: ")]
         return Ended(int(self.told("ExecMainStatus")), said, errors)
 
-    def lines(self):
-        """What all its runs said, in the journal."""
+    def lines(self, priority="debug"):
+        """What all its runs said, in the journal, at that priority or a graver one."""
         subprocess.run(["journalctl", "--sync"], check=True)
-        words = ["journalctl", "-u", self.unit, "-o", "cat", "--no-pager"]
+        words = ["journalctl", "-u", self.unit, "-p", priority, "-o", "cat", "--no-pager"]
         return subprocess.run(words, check=True, capture_output=True).stdout.decode(errors="replace").splitlines()
 
     def told(self, name):
