@@ -35,14 +35,15 @@ build: toolchain
 	cd crates/lmtpd && rt run --jobs $$(../../building/jobs_at_once) -- $$(cat args) < stdin > /dev/null
 
 # Installs the program that `make build` made, its manual page, its units for systemd with what begins the server, the
-# user and the folder that they need, those of several servers, what bash completes, and the files of its words and
-# mailboxes, each where Debian has it. DESTDIR stands before all paths. Words and mailboxes that are there already stay as
-# they are.
+# user and the folder that they need, those of several servers, what bash completes, the pages for administrators, and
+# the files of its words and mailboxes, each where Debian has it. DESTDIR stands before all paths. Words and mailboxes
+# that are there already stay as they are.
 PREFIX ?= /usr/local
 CONF := /etc/lmtpd.conf
 BOXES := /etc/lmtpd.boxes
 UNITS := $(DESTDIR)$(PREFIX)/lib/systemd/system
 BEGIN := $(DESTDIR)$(PREFIX)/lib/lmtpd
+DOCUMENTS := $(DESTDIR)$(PREFIX)/share/doc/lmtpd
 PLACED := sed 's|@PREFIX@|$(PREFIX)|g'
 install:
 	@[ -x $(PROGRAM) ] || { echo 'make install: no proved program is built yet (make build)' >&2; exit 1; }
@@ -53,6 +54,9 @@ install:
 	install -D -m 0644 packaging/lmtpd.bash $(DESTDIR)$(PREFIX)/share/bash-completion/completions/lmtpd
 	install -D -m 0644 packaging/lmtpd.sysusers $(DESTDIR)$(PREFIX)/lib/sysusers.d/lmtpd.conf
 	install -D -m 0644 packaging/lmtpd.tmpfiles $(DESTDIR)$(PREFIX)/lib/tmpfiles.d/lmtpd.conf
+	install -d $(DOCUMENTS)/operating
+	install -m 0644 docs/OPERATING.md docs/BENCHMARKS.md docs/*.svg $(DOCUMENTS)
+	install -m 0644 docs/operating/*.md $(DOCUMENTS)/operating
 	install -d $(UNITS) $(BEGIN)
 	$(PLACED) packaging/lmtpd.start > $(BEGIN)/start
 	chmod 0755 $(BEGIN)/start

@@ -79,8 +79,10 @@ def check_install(folder):
     found = sorted(str(path.relative_to(folder)) for path in folder.rglob("*") if path.is_file())
     assert found == INSTALLED, found
     assert gzip.decompress((folder / "usr/share/man/man8/lmtpd.8.gz").read_bytes()).decode() == PAGE
+    check_pages(folder / "usr/share/doc/lmtpd")
     unit = (folder / "usr/lib/systemd/system/lmtpd.service").read_text()
     for line in [
+        "Documentation=man:lmtpd(8) file:/usr/share/doc/lmtpd/OPERATING.md",
         "ExecStart=/usr/lib/lmtpd/start",
         "ExecReload=/usr/lib/lmtpd/start --check-words",
         "LogRateLimitIntervalSec=1s",
@@ -104,6 +106,23 @@ def check_install(folder):
     boxes.write_text("carl\n")
     assert said_by(*install) == (0, "")
     assert (words.read_text(), boxes.read_text()) == ("HOST=mine.example\n", "carl\n")
+
+
+def check_pages(pages):
+    """Each page is as it stands here, and leads to others that are there, and to headings that these have."""
+    for page in pages.rglob("*.md"):
+        text = page.read_text()
+        assert text == (pathlib.Path("docs") / page.relative_to(pages)).read_text(), page
+        for place, heading in re.findall(r"\]\(([^)#:]*)(?:#([^)]*))?\)", text):
+            other = (page.parent / place).resolve() if place else page
+            assert other.exists(), (page, place)
+            assert not heading or heading in headings_of(other), (page, place, heading)
+
+
+def headings_of(page):
+    """As they are named in links: small letters, digits, - and what joins words."""
+    found = re.findall(r"^#+ (.*)$", page.read_text(), re.MULTILINE)
+    return {re.sub(r"[^\w -]", "", heading.lower()).replace(" ", "-") for heading in found}
 
 
 def boxes_in(path):

@@ -105,7 +105,8 @@ def machine(folder):
     for name in ["make", "postfix"]:
         program(name, name)
     site = folder / "site"
-    shutil.copytree(ROOT / "packaging", site / "packaging")
+    for name in ["packaging", "docs"]:
+        shutil.copytree(ROOT / name, site / name)
     shutil.copy(ROOT / "Makefile", site)
     (site / "crates/lmtpd/out").mkdir(parents=True)
     shutil.copy(os.environ["LMTPD"], site / "crates/lmtpd/out/lmtpd")
