@@ -28,7 +28,7 @@ def instances_of_the_service(folder):
         owners = there.run("stat -c '%U %a' /var/spool/postfix/private/lmtpd-a /var/spool/postfix/private/lmtpd-b")
         equal(owners, (0, "postfix 600\npostfix 600\n"))
         # a new user in another one's place
-        equal(there.run("sed -i 's/^b255$/frieda # new/' /etc/lmtpd/b.boxes; systemctl restart lmtpd@b")[0], 0)
+        equal(there.run("sed -i 's/^b255$/frieda # new/' /etc/lmtpd/b.boxes; systemctl reload lmtpd@b")[0], 0)
         for line in recipe():
             if line.startswith(("awk", "postmap", "postfix reload")):
                 equal((line, there.run(line)[0]), (line, 0))
