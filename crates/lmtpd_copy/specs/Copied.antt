@@ -1,0 +1,1 @@
+-- A copy of a mailbox under its locks.
