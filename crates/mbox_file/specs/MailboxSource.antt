@@ -20,4 +20,4 @@ HasNotRead old new = new ≡ record old { faults = new.faults }
 -- what the open file has left, if there is one
 abbrev pub unread_of : {F : Type 0} → (F → Option (List ℕ)) → Option (OpenNode F) → Option (List ℕ)
 unread_of remaining None = None
-unread_of remaining (Some open) = remaining open.file
+unread_of remaining (Some opened) = remaining opened.file

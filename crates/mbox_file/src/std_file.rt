@@ -2,6 +2,9 @@
 //!
 //! A lock file is linked from one that is made at the start and stays, `PATH.source.lock`: to make a file and write to
 //! it for each turn takes ten times as long. Where there can be no link it is made.
+ghost use Rattle.std.specs.Io.{ReadsAtMost};
+ghost use Rattle.std.specs.Io.KnownBytes.{ReadConsumes};
+
 use crate::file::{FileEnd, end_of_file, sync_folder};
 use crate::mailbox_file::MailboxFile;
 use crate::mailbox_source::MailboxSource;
@@ -475,8 +478,9 @@ fn read_some<F: Read>(file: &mut F, buffer: &mut [u8]) -> io::Result<usize>
 {
     for _ in 0..u64::MAX {
         match file.read(buffer) {
+            Ok(size) => return Ok(size),
             Err(error) if error.kind() == ErrorKind::Interrupted => {}
-            read => return read,
+            Err(error) => return Err(error),
         }
     }
     Err(io::Error::from(ErrorKind::Interrupted))
