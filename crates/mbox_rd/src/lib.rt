@@ -14,8 +14,8 @@ mod turn;
 
 pub use file::{FileSpool, OpenFault};
 pub use mbox_file::{
-    FileEnd, FileLock, LockKind, MailboxFile, MailboxSource, MemoryFile, RangeLock,
-    StdMailboxFile, remove_open, sync_folder,
+    FileEnd, FileLock, LockKind, MailboxFile, MailboxSource, MemoryFile, RangeLock, StdMailboxFile,
+    remove_open, sync_folder,
 };
 pub use mbox_record::{
     BadMailbox, CountSpool, Envelope, InUse, Letter, MemorySpool, RecordWriter, Spool, SpoolFault,
