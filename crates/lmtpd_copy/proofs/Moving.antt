@@ -1,12 +1,11 @@
 -- Bytes that are read of one file and written to another.
-use Rattle.std.proofs.Common.{◌≡◌, ◌∙◌, ◌⊎◌, ℕ, ◌<◌, List, [], ◌++◌, length, take, Option, Some, None, Result, Ok, Err, OnOk, false, ap, sym, subst, refl, append-nil}
-use Rattle.std.specs.Io.KnownBytes.{Appends, Consumes, IsAtEnd, Keeps}
+use Rattle.std.proofs.Common.{◌≡◌, ◌∙◌, ℕ, ◌<◌, List, [], ◌++◌, length, take, Option, Some, None, Result, Ok, Err, OnOk, Bool, ap, sym, subst, refl, append-nil}
+use Rattle.std.specs.Io.KnownBytes.{Appends, Consumes, IsAtEnd}
 use Rattle.std.proofs.KnownBytes.{Consumes-trans}
-use Rattle.mail_world.specs.Failures.{Rises}
 use Rattle.mbox_record.proofs.Taken.{Appends-then}
 use Rattle.mbox_file.specs.MailboxFile.{FileState}
-use Rattle.lmtpd_copy.specs.Copied.{Copies, IsGone, StandsLocked, StaysLocked, StaysMade}
-use Rattle.lmtpd_copy.specs.Target.{TargetState, HasMade, HasRemoved}
+use Rattle.lmtpd_copy.specs.Copied.{Copies, HasCopiedFile, IsCopied, StaysLocked, StaysMade}
+use Rattle.lmtpd_copy.specs.Target.{TargetState}
 
 -- what was read since was written since
 pub record HasMoved (unread left before after : Option (List ℕ)) : Type 0 where
@@ -45,36 +44,14 @@ pub moved_all : (u v w b c : Option (List ℕ)) (n : ℕ) (buffer : List ℕ) �
 moved_all u v w b c n buffer h r e some =
     all_copied u v w b c h.text h.came h.written (subst (λ k. Consumes v w (take k buffer)) e r.0) (r.1 e some)
 
--- what was copied is kept
-pub copies_kept : (u b c d : Option (List ℕ)) → Copies u b c → Keeps c d → Copies u b d
-copies_kept None b c d x y = tt
-copies_kept (Some xs) None c d x y = tt
-copies_kept (Some xs) (Some ys) None d x y = absurd x
-copies_kept (Some xs) (Some ys) (Some zs) None x y = absurd y
-copies_kept (Some xs) (Some ys) (Some zs) (Some ts) x y = y ∙ x
-
 pub locked_then : (s t u : FileState) → StaysLocked s t → StaysLocked t u → StaysLocked s u
 locked_then s t u x y = y ∙ ap (λ (v : FileState). record v { refusals = u.refusals; faults = u.faults }) x
 
 pub made_then : (s t u : TargetState) → StaysMade s t → StaysMade t u → StaysMade s u
 made_then s t u x y = y ∙ ap (λ (v : TargetState). record v { bytes = u.bytes; kept = u.kept }) x
 
-pub stands_then : (s t u : FileState) → StandsLocked s t → StaysLocked t u → StandsLocked s u
-stands_then s t u x y = record {
-  locks = record {
-    lock_file = ap (λ (v : FileState). v.has_lock_file) y ∙ x.locks.lock_file;
-    range_lock = ap (λ (v : FileState). v.has_range_lock) y ∙ x.locks.range_lock;
-  };
-  named = ap (λ (v : FileState). v.is_named) y ∙ x.named;
-  unchanged = ap (λ (v : FileState). v.changes) y ∙ x.unchanged;
-}
-
--- what was made and filled is removed, or can't be
-pub gone_after : (s t u v : TargetState) → HasMade s t → StaysMade t u → HasRemoved u v → IsGone s v
-gone_after s t u v x y z =
-    let same : u.unremoved ≡ s.unremoved = ap (λ (w : TargetState). w.unremoved) y ∙ ap (λ (w : TargetState). w.unremoved) x in
-    subst (λ (n : ℕ). (v.is_made ≡ false) ⊎ Rises n v.unremoved) same z.removed
-
-pub on_ok : {T E P A B C : Type 0} (r : Result T E) → OnOk r A → (P → OnOk r B) → (A → (P → B) → C) → OnOk r C
-on_ok (Ok x) a b f = f a b
-on_ok (Err e) a b f = tt
+-- what is left of a copy where only bytes are known
+pub copied_file : {F T U E : Type 0} (r : Result U E) (a : Bool) (s : F → FileState) (u : F → Option (List ℕ)) (b : Bool) (t : T → TargetState) (f g : F) (x y : T)
+    → OnOk r (IsCopied a s u b t f g x y) → OnOk r (HasCopiedFile u t)
+copied_file (Ok v) a s u b t f g x y h = (h.copied.filled.first, (h.copied.made, (y, h.copied.filled.copied)))
+copied_file (Err e) a s u b t f g x y h = tt

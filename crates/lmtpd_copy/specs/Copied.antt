@@ -54,9 +54,9 @@ module _ {F T : Type 0} (source_tells : Bool) (source : F → FileState) (unread
 
   -- it was made anew before
   pub record IsMadeAndFilled (from_old from_new : F) (to_old to_new : T) : Type 0 where
-    pub made : TargetState
-    pub fresh : target_tells ≡ true → HasMade (target to_old) made
-    pub filled : IsFilled from_old from_new made to_new
+    pub made : T
+    pub fresh : target_tells ≡ true → HasMade (target to_old) (target made)
+    pub filled : IsFilled from_old from_new (target made) to_new
 
   -- Both locks were held, on the file that the path names, as the copy was made and filled, and then they were given
   -- back.
@@ -67,3 +67,9 @@ module _ {F T : Type 0} (source_tells : Bool) (source : F → FileState) (unread
     pub stands : source_tells ≡ true → StandsLocked (source from_old) (source locked)
     pub copied : IsMadeAndFilled locked done to_old to_new
     pub let_go : source_tells ≡ true → HasLetGo (source done) (source from_new)
+
+-- Some mailbox's file and the copy's, of which only the bytes may be known: all that the one had left was written to the
+-- other after it was made.
+abbrev pub HasCopiedFile : {F T : Type 0} → (F → Option (List ℕ)) → (T → TargetState) → Type 0
+HasCopiedFile {F = F} {T = T} unread target =
+    (first : F) × ((made : T) × ((after : T) × Copies (unread first) (target made).bytes (target after).bytes))

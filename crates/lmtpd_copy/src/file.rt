@@ -1,8 +1,12 @@
 //! A mailbox's file that is copied to a path.
+ghost use Rattle.std.specs.Prelude.{◌<◌, OnOk, length};
+ghost use Rattle.lmtpd_copy.specs.Copied.{HasCopiedFile};
+
 use crate::copying::copy_mailbox;
 use crate::fault::CopyFault;
+use crate::target::CopyTarget;
 use crate::target_file::TargetFile;
-use mbox_rd::{RangeLock, StdMailboxFile};
+use mbox_rd::{MailboxSource, RangeLock, StdMailboxFile};
 use std::alloc::Global;
 use std::fs::Files;
 use std::io;
@@ -22,11 +26,25 @@ pub fn copy_file<R: Files + Clock + Copy + Drop>(
 ) -> Result<(), CopyFault>
 where
     R::File: RangeLock,
+    ensures { OnOk result (HasCopiedFile (⟦<StdMailboxFile<R> as MailboxSource>⟧.unread)
+        (⟦<TargetFile<'static, R> as CopyTarget>⟧.state)) }
 {
     let mut buffer = vec![in alloc; 0u8; BUFFER_SIZE]?;
     let mut source = StdMailboxFile::existing(rt, alloc, from).map_err(fault_of)?;
     let mut target = TargetFile::new(&rt, to);
-    copy_mailbox(&mut source, &mut target, &rt, &mut buffer)
+    copy_opened(&mut source, &mut target, &rt, &mut buffer)
+}
+
+fn copy_opened<F: MailboxSource, T: CopyTarget, C: Clock>(
+    source: &mut F,
+    target: &mut T,
+    clock: &C,
+    buffer: &mut [u8],
+) -> Result<(), CopyFault>
+    requires { 0 < length buffer.old }
+    ensures { OnOk result (HasCopiedFile F.unread T.state) }
+{
+    copy_mailbox(source, target, clock, buffer)
 }
 
 fn fault_of(error: io::Error) -> CopyFault {

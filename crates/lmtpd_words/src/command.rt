@@ -98,7 +98,9 @@ fn copy<'a>(alloc: Global) -> Result<Command<'a>, AllocError>
     ensures local { IfOk result (λ c. (fields_of c).has_globals ≡ false) }
 {
     let copy = Command::new(alloc, "copy")
-        .about("Copies a mailbox file while it is locked, so that no letter is half there or half gone")
+        .about(
+            "Copies a mailbox file while it is locked, so that no letter is half there or half gone",
+        )
         .after_help(AFTER_HELP_COPY);
     with_arguments(alloc, copy, &COPY)
 }

@@ -170,7 +170,10 @@ fn check_words<'a>(
 fn copy_words<'a>(matches: &ArgMatches<'a>) -> Option<CopyWords<'a>>
     ensures { let rows = rows_of (found_of matches.now) in MatchOption result (LacksCopy rows) (IsCopyRead rows) }
 {
-    let (Some(file), Some(to)) = (matches.get_str("file"), matches.get_str("to")) else {
+    let Some(file) = matches.get_str("file") else {
+        return None;
+    };
+    let Some(to) = matches.get_str("to") else {
         return None;
     };
     Some(CopyWords { file, to })
