@@ -13,7 +13,7 @@ mod rehearse;
 mod serve;
 
 use lmtpd_setup::Stop;
-use lmtpd_words::not_text;
+use lmtpd_words::{is_journal, not_text};
 use program::run_program;
 use std::alloc::AllocError;
 use std::process::ExitCode;
@@ -30,7 +30,7 @@ fn main(rt: HostRuntime) -> ExitCode {
             let (reader, writer) = (rt.stdin(), rt.stdout());
             run_program(&rt, rt, &words, &mut room, reader, writer, &mut error).exit
         }
-        Err(refused) => Stop::from(refused).report(&rt, &mut error),
+        Err(refused) => Stop::from(refused).report(&rt, is_journal(&rt), &mut error),
     };
     ExitCode::from(exit.status)
 }

@@ -124,6 +124,9 @@ heal_rule = flag_rule (codes "heal")
 abbrev pub start_anyway_rule : Rule
 start_anyway_rule = flag_rule (codes "start-anyway")
 
+abbrev pub check_words_rule : Rule
+check_words_rule = flag_rule (codes "check-words")
+
 abbrev pub rehearse_app : App
 rehearse_app =
     with_rule (with_rule (with_rule (with_rule (with_rule (with_rule (with_rule (with_rule (with_rule
@@ -147,8 +150,8 @@ kept_app =
 
 abbrev pub serve_app : App
 serve_app =
-    with_rule (with_rule (with_rule (with_rule (with_rule (with_rule
-    kept_app connections_rule) stop_file_rule) heal_rule) start_anyway_rule) boxes_rule) box_rule
+    with_rule (with_rule (with_rule (with_rule (with_rule (with_rule (with_rule
+    kept_app connections_rule) stop_file_rule) heal_rule) start_anyway_rule) check_words_rule) boxes_rule) box_rule
 
 abbrev pub file_rule : Rule
 file_rule = must (texts_rule (codes "file"))

@@ -142,6 +142,7 @@ pub record IsSiteRead (rows : List Row) (words : SiteWords) : Type 0 where
   pub host : first_of (codes "host") rows ≡ Some words.host.now
   pub domains : texts words.domains.items ≡ option_map_or listed (first_of (codes "domains") rows) []
   pub boxes_file : first_of (codes "boxes") rows ≡ option_map (λ path. path.now) words.boxes_file
+  pub listed : words.listed.now ≡ []
   pub boxes : texts words.boxes.items ≡ option_map_or (λ names. names) (all_of (codes "box") rows) []
   pub message_limit : IsMessageLimitOr (one_of (codes "message-limit") rows) words.message_limit
   pub recipient_delimiter : IsDelimiterIfGiven (first_of (codes "recipient-delimiter") rows) words.recipient_delimiter
@@ -176,6 +177,7 @@ pub record IsServeRead (rows : List Row) (words : ServeWords) : Type 0 where
   pub stop_file : IsPathIfGiven (first_of (codes "stop-file") rows) (option_map (λ path. path.now) words.stop_file)
   pub heal : IsFlag (one_of (codes "heal") rows) words.heal
   pub start_anyway : IsFlag (one_of (codes "start-anyway") rows) words.start_anyway
+  pub check_words : IsFlag (one_of (codes "check-words") rows) words.check_words
 
 -- what the values of a check's argument ask for
 pub record IsCheckRead (rows : List Row) (words : CheckWords) : Type 0 where
@@ -233,14 +235,15 @@ pub record IsLacking (call : Option (Text × List Row)) : Type 0 where
   pub check : (rows : List Row) → call ≡ Some (codes "check", rows) → LacksCheck rows
   pub copy : LacksCopied call
 
--- these words with the mailboxes that a text lists, after their own
-pub record HasListed (text : Text) (words listed : SiteWords) : Type 0 where
-  pub host : listed.host ≡ words.host
-  pub domains : listed.domains ≡ words.domains
-  pub boxes_file : listed.boxes_file ≡ words.boxes_file
-  pub boxes : texts listed.boxes.items ≡ texts words.boxes.items ++ listed_boxes text
-  pub message_limit : listed.message_limit ≡ words.message_limit
-  pub recipient_delimiter : listed.recipient_delimiter ≡ words.recipient_delimiter
+-- these words with the mailboxes that a text lists, after their own, and with that text
+pub record HasListed (text : Text) (words filled : SiteWords) : Type 0 where
+  pub host : filled.host ≡ words.host
+  pub domains : filled.domains ≡ words.domains
+  pub boxes_file : filled.boxes_file ≡ words.boxes_file
+  pub listed : filled.listed.now ≡ text
+  pub boxes : texts filled.boxes.items ≡ texts words.boxes.items ++ listed_boxes text
+  pub message_limit : filled.message_limit ≡ words.message_limit
+  pub recipient_delimiter : filled.recipient_delimiter ≡ words.recipient_delimiter
 
 -- the site that they name
 abbrev pub named_site : SiteWords → Site

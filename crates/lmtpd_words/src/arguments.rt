@@ -74,7 +74,7 @@ pub const REHEARSE: [Argument; 9] = [
 ];
 
 /// What a server takes: what must be given, what may be, what ends it, and the mailboxes.
-pub const SERVE: [Argument; 24] = [
+pub const SERVE: [Argument; 25] = [
     HOST,
     LISTEN,
     DIR,
@@ -97,6 +97,7 @@ pub const SERVE: [Argument; 24] = [
     STOP_FILE,
     HEAL,
     START_ANYWAY,
+    CHECK_WORDS,
     BOXES_FILE,
     BOXES,
 ];
@@ -319,6 +320,14 @@ const START_ANYWAY: Argument = Argument {
     name: "start-anyway",
     value: "",
     help: "Starts where a mailbox's file can't be opened too: its copies are told 451 until it can be",
+    is_required: false,
+    kind: ValueKind::Flag,
+};
+
+const CHECK_WORDS: Argument = Argument {
+    name: "check-words",
+    value: "",
+    help: "Reads all words and FILE, says what can't be used, and serves nothing; the folder isn't looked at",
     is_required: false,
     kind: ValueKind::Flag,
 };

@@ -150,6 +150,7 @@ fn serve_words<'a>(
         stop_file,
         heal: is_given(matches, "heal"),
         start_anyway: is_given(matches, "start-anyway"),
+        check_words: is_given(matches, "check-words"),
     }))
 }
 
@@ -201,6 +202,7 @@ fn site_words<'a>(
         host,
         domains,
         boxes_file: boxes_file_of(matches),
+        listed: b"",
         boxes,
         message_limit,
         recipient_delimiter,
@@ -208,14 +210,25 @@ fn site_words<'a>(
 }
 
 // The mailboxes that were given, if any were.
-fn boxes_of<'a>(alloc: Global, matches: &ArgMatches<'a>) -> Result<Vec<&'a str>, AllocError>
+fn boxes_of<'a>(alloc: Global, matches: &ArgMatches<'a>) -> Result<Vec<&'a [u8]>, AllocError>
     ensures { let rows = rows_of (found_of matches.now) in
         IfOk result (λ v. texts v.items ≡ option_map_or (λ names. names) (all_of (codes "box") rows) []) }
 {
     match matches.get_strs("box") {
-        Some(names) => names.to_vec(alloc),
+        Some(names) => bytes_of(alloc, names),
         None => Ok(Vec::new(alloc)),
     }
+}
+
+// The bytes of each name.
+fn bytes_of<'a>(alloc: Global, names: &[&'a str]) -> Result<Vec<&'a [u8]>, AllocError>
+    ensures { IfOk result (λ v. texts v.items ≡ texts names.now) }
+{
+    let mut all = Vec::with_capacity(alloc, names.len())?;
+    for name in names {
+        all.push(name.as_bytes())?;
+    }
+    Ok(all)
 }
 
 fn boxes_file_of<'a>(matches: &ArgMatches<'a>) -> Option<&'a str>
