@@ -16,6 +16,7 @@ import log_keeps_lines  # noqa: F401
 import mailbox_of_user  # noqa: F401
 import many_clients_one_mailbox  # noqa: F401
 import many_mailboxes  # noqa: F401
+import moved_users  # noqa: F401
 import odd_clients  # noqa: F401
 import opensmtpd_delivers  # noqa: F401
 import other_mailboxes  # noqa: F401
@@ -35,6 +36,8 @@ import site_mailboxes  # noqa: F401
 import soak  # noqa: F401
 import ten_lines  # noqa: F401
 import torn_writes_read  # noqa: F401
+import watched  # noqa: F401
+import with_postfix  # noqa: F401
 from cases import run_all
 
 sys.exit(0 if run_all(sys.argv[1:]) else 1)
