@@ -33,6 +33,7 @@ import reload_names  # noqa: F401
 import several_servers  # noqa: F401
 import start_fails  # noqa: F401
 import site_mailboxes  # noqa: F401
+import site_that_grows  # noqa: F401
 import soak  # noqa: F401
 import ten_lines  # noqa: F401
 import torn_writes_read  # noqa: F401
