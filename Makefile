@@ -34,13 +34,17 @@ build: toolchain
 	building/prove.py
 	cd crates/lmtpd && rt run --jobs $$(../../building/jobs_at_once) -- $$(cat args) < stdin > /dev/null
 
-# Installs the program that `make build` made, its manual page, its units for systemd with the user and the folder that
-# they need, those of several servers, what bash completes, and the files of its words and mailboxes, each where Debian
-# has it. DESTDIR stands before all paths. Words and mailboxes that are there already stay as they are.
+# Installs the program that `make build` made, its manual page, its units for systemd with what begins the server, the
+# user and the folder that they need, those of several servers, what bash completes, the pages for administrators, and
+# the files of its words and mailboxes, each where Debian has it. DESTDIR stands before all paths. Words and mailboxes
+# that are there already stay as they are.
 PREFIX ?= /usr/local
 CONF := /etc/lmtpd.conf
 BOXES := /etc/lmtpd.boxes
 UNITS := $(DESTDIR)$(PREFIX)/lib/systemd/system
+BEGIN := $(DESTDIR)$(PREFIX)/lib/lmtpd
+DOCUMENTS := $(DESTDIR)$(PREFIX)/share/doc/lmtpd
+PLACED := sed 's|@PREFIX@|$(PREFIX)|g'
 install:
 	@[ -x $(PROGRAM) ] || { echo 'make install: no proved program is built yet (make build)' >&2; exit 1; }
 	install -D -m 0755 $(PROGRAM) $(DESTDIR)$(PREFIX)/sbin/lmtpd
@@ -50,13 +54,18 @@ install:
 	install -D -m 0644 packaging/lmtpd.bash $(DESTDIR)$(PREFIX)/share/bash-completion/completions/lmtpd
 	install -D -m 0644 packaging/lmtpd.sysusers $(DESTDIR)$(PREFIX)/lib/sysusers.d/lmtpd.conf
 	install -D -m 0644 packaging/lmtpd.tmpfiles $(DESTDIR)$(PREFIX)/lib/tmpfiles.d/lmtpd.conf
-	install -d $(UNITS)
-	sed 's|@PREFIX@|$(PREFIX)|' packaging/lmtpd.service > $(UNITS)/lmtpd.service
-	install -m 0644 packaging/lmtpd.socket $(UNITS)/lmtpd.socket
+	install -d $(DOCUMENTS)/operating
+	install -m 0644 docs/OPERATING.md docs/BENCHMARKS.md docs/*.svg $(DOCUMENTS)
+	install -m 0644 docs/operating/*.md $(DOCUMENTS)/operating
+	install -d $(UNITS) $(BEGIN)
+	$(PLACED) packaging/lmtpd.start > $(BEGIN)/start
+	chmod 0755 $(BEGIN)/start
+	install -m 0644 packaging/lmtpd.instance $(BEGIN)/instance.conf
 	for kind in socket service; do \
-	    sed -f packaging/instances.sed $(UNITS)/lmtpd.$$kind > $(UNITS)/lmtpd@.$$kind || exit 1; \
+	    $(PLACED) packaging/lmtpd.$$kind > $(UNITS)/lmtpd.$$kind || exit 1; \
+	    sed -f packaging/instances.sed packaging/lmtpd.$$kind | $(PLACED) > $(UNITS)/lmtpd@.$$kind || exit 1; \
+	    chmod 0644 $(UNITS)/lmtpd.$$kind $(UNITS)/lmtpd@.$$kind || exit 1; \
 	done
-	chmod 0644 $(UNITS)/lmtpd.service $(UNITS)/lmtpd@.socket $(UNITS)/lmtpd@.service
 	[ -e $(DESTDIR)$(CONF) ] || install -D -m 0644 packaging/lmtpd.conf $(DESTDIR)$(CONF)
 	[ -e $(DESTDIR)$(BOXES) ] || install -D -m 0644 packaging/lmtpd.boxes $(DESTDIR)$(BOXES)
 

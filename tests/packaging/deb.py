@@ -14,6 +14,15 @@ from installed import INSTALLED, said_by
 LMTPD = os.environ["LMTPD"]
 TOOLS = ["dpkg-deb", "dpkg-shlibdeps", "dpkg-gencontrol", "dpkg-parsechangelog", "strip"]
 FILES = sorted([*INSTALLED, "usr/share/doc/lmtpd/changelog.gz"])
+WORDS = {
+    "HOST": "mx.example",
+    "DOMAINS": "",
+    "MESSAGE_LIMIT": str(25 * 2**20),
+    "DELIMITER": "+",
+    "BOXES": "/etc/lmtpd.boxes",
+    "FOLDER": "/var/mail/lmtpd",
+    "OPTIONS": "",
+}
 # The owner has not said which licence the sources have, so the package has no file that says it.
 LACKING = ["E: lmtpd: no-copyright-file"]
 
@@ -53,8 +62,7 @@ def check_files(package, root, version):
     owners = {line.split()[1] for line in told("dpkg-deb", "-c", str(package)).splitlines()}
     assert owners == {"root/root"}, owners
     assert (root / "DEBIAN/conffiles").read_text() == "/etc/lmtpd.boxes\n/etc/lmtpd.conf\n"
-    words = dict(re.findall(r"^([A-Z_]+)=(.+)$", (root / "etc/lmtpd.conf").read_text(), re.MULTILINE))
-    assert words["MESSAGE_LIMIT"] == str(25 * 2**20) and words["HOST"] and words["BOXES"], words
+    assert dict(re.findall(r"^([A-Z_]+)=(.*)$", (root / "etc/lmtpd.conf").read_text(), re.MULTILINE)) == WORDS
     for line in (root / "DEBIAN/md5sums").read_text().splitlines():
         total, path = line.split("  ")
         assert hashlib.md5((root / path).read_bytes()).hexdigest() == total, path
@@ -63,7 +71,8 @@ def check_files(package, root, version):
     assert told(str(program), "--version") == told(LMTPD, "--version")
     changelog = gzip.decompress((root / "usr/share/doc/lmtpd/changelog.gz").read_bytes()).decode()
     assert changelog.startswith(f"lmtpd ({version}) "), changelog
-    assert "ExecStart=/usr/sbin/lmtpd serve " in (root / "usr/lib/systemd/system/lmtpd.service").read_text()
+    assert "ExecStart=/usr/lib/lmtpd/start\n" in (root / "usr/lib/systemd/system/lmtpd.service").read_text()
+    assert 'exec /usr/sbin/lmtpd serve "$@"\n' in (root / "usr/lib/lmtpd/start").read_text()
 
 
 def check_dependencies(package):

@@ -1,10 +1,19 @@
 """What `make install PREFIX=/usr` puts in its place, and what a command says."""
 
+import pathlib
 import subprocess
 
+DOCS = pathlib.Path("docs")
+# The pages for administrators, and what they lead to.
+PAGES = sorted(
+    str(path.relative_to(DOCS))
+    for path in [DOCS / "OPERATING.md", DOCS / "BENCHMARKS.md", *DOCS.glob("*.svg"), *DOCS.glob("operating/*.md")]
+)
 INSTALLED = [
     "etc/lmtpd.boxes",
     "etc/lmtpd.conf",
+    "usr/lib/lmtpd/instance.conf",
+    "usr/lib/lmtpd/start",
     "usr/lib/systemd/system/lmtpd.service",
     "usr/lib/systemd/system/lmtpd.socket",
     "usr/lib/systemd/system/lmtpd@.service",
@@ -13,6 +22,7 @@ INSTALLED = [
     "usr/lib/tmpfiles.d/lmtpd.conf",
     "usr/sbin/lmtpd",
     "usr/share/bash-completion/completions/lmtpd",
+    *(f"usr/share/doc/lmtpd/{name}" for name in PAGES),
     "usr/share/man/man8/lmtpd.8.gz",
 ]
 

@@ -79,23 +79,50 @@ def check_install(folder):
     found = sorted(str(path.relative_to(folder)) for path in folder.rglob("*") if path.is_file())
     assert found == INSTALLED, found
     assert gzip.decompress((folder / "usr/share/man/man8/lmtpd.8.gz").read_bytes()).decode() == PAGE
+    check_pages(folder / "usr/share/doc/lmtpd")
     unit = (folder / "usr/lib/systemd/system/lmtpd.service").read_text()
-    assert "ExecStart=/usr/sbin/lmtpd serve " in unit, unit
-    for words in ["--listen inherited", "--stop-file /run/lmtpd/stop", "--heal", "--start-anyway", "--log info"]:
-        assert f" {words} " in unit, words
+    for line in [
+        "Documentation=man:lmtpd(8) file:/usr/share/doc/lmtpd/OPERATING.md",
+        "ExecStart=/usr/lib/lmtpd/start",
+        "ExecReload=/usr/lib/lmtpd/start --check-words",
+        "LogRateLimitIntervalSec=1s",
+        "LogRateLimitBurst=1000000",
+        "SyslogFacility=mail",
+    ]:
+        assert line in unit.splitlines(), line
+    start = (folder / "usr/lib/lmtpd/start").read_text()
+    assert start.endswith('exec /usr/sbin/lmtpd serve "$@"\n'), start
     socket = (folder / "usr/lib/systemd/system/lmtpd.socket").read_text().splitlines()
     for line in ["ListenStream=/var/spool/postfix/private/lmtpd", "SocketUser=postfix", "SocketMode=0600"]:
         assert line in socket, line
-    given = re.findall(r"\$\{?([A-Z_]+)", re.search(r"^ExecStart=(.*)$", unit, re.MULTILINE)[1])
+    given = set(re.findall(r"\$\{?([A-Z_]+)", start)) - {"RUNTIME_DIRECTORY", "INSTANCE"}
     words, boxes = folder / "etc/lmtpd.conf", folder / "etc/lmtpd.boxes"
-    assert sorted(given) == sorted(re.findall(r"^([A-Z_]+)=.", words.read_text(), re.MULTILINE)), given
-    assert "\nBOXES=--boxes /etc/lmtpd.boxes\n" in words.read_text()
+    # each word of the service has a line, with a comment of its own above it
+    told = re.findall(r"^#[^\n]*\n([A-Z_]+)=", words.read_text(), re.MULTILINE)
+    assert sorted(given) == sorted(told) == sorted(re.findall("^([^#=]+)=", words.read_text(), re.MULTILINE)), told
     assert boxes_in(boxes) == ["anna", "ben"], boxes_in(boxes)
     check_instances(unit, folder / "usr/lib/systemd/system")
     words.write_text("HOST=mine.example\n")
     boxes.write_text("carl\n")
     assert said_by(*install) == (0, "")
     assert (words.read_text(), boxes.read_text()) == ("HOST=mine.example\n", "carl\n")
+
+
+def check_pages(pages):
+    """Each page is as it stands here, and leads to others that are there, and to headings that these have."""
+    for page in pages.rglob("*.md"):
+        text = page.read_text()
+        assert text == (pathlib.Path("docs") / page.relative_to(pages)).read_text(), page
+        for place, heading in re.findall(r"\]\(([^)#:]*)(?:#([^)]*))?\)", text):
+            other = (page.parent / place).resolve() if place else page
+            assert other.exists(), (page, place)
+            assert not heading or heading in headings_of(other), (page, place, heading)
+
+
+def headings_of(page):
+    """As they are named in links: small letters, digits, - and what joins words."""
+    found = re.findall(r"^#+ (.*)$", page.read_text(), re.MULTILINE)
+    return {re.sub(r"[^\w -]", "", heading.lower()).replace(" ", "-") for heading in found}
 
 
 def boxes_in(path):
@@ -118,13 +145,58 @@ def check_instances(unit, units):
         "Also=lmtpd@%i.socket",
     ]:
         assert line in instance.splitlines(), line
-    begin = re.search(r"^ExecStart=(.*)$", instance, re.MULTILINE)[1]
-    one = re.search(r"^ExecStart=(.*)$", unit, re.MULTILINE)[1]
-    assert begin == one.replace("/run/lmtpd/", "/run/lmtpd-%i/").replace("$BOXES", "--boxes /etc/lmtpd/%i.boxes"), begin
+    own = ["EnvironmentFile=/usr/lib/lmtpd/instance.conf", "EnvironmentFile=-/etc/lmtpd/%i.conf", "Environment=INSTANCE=%i"]
+    assert "\n".join(["EnvironmentFile=/etc/lmtpd.conf", *own, ""]) in instance, instance
     assert "/run/lmtpd/" not in instance and "lmtpd.socket" not in instance, instance
     socket = (units / "lmtpd@.socket").read_text().splitlines()
     assert "ListenStream=/var/spool/postfix/private/lmtpd-%i" in socket, socket
-    assert len(instance.splitlines()) == len(unit.splitlines())
+    assert len(instance.splitlines()) == len(unit.splitlines()) + len(own)
+
+
+# The words of the service's environment, and those of the program that come of them but for ALWAYS.
+FOLDER = ["--dir", "/var/mail/lmtpd"]
+ALWAYS = ["--listen", "inherited", "--stop-file", "/run/lmtpd/stop", "--heal", "--start-anyway", "--log", "info"]
+STARTED = [
+    ({}, FOLDER),
+    ({"HOST": ""}, FOLDER),
+    ({"HOST": "mx.example"}, ["--host", "mx.example", *FOLDER]),
+    ({"FOLDER": ""}, FOLDER),
+    ({"FOLDER": "/srv/my mail"}, ["--dir", "/srv/my mail"]),
+    ({"DOMAINS": "*"}, [*FOLDER, "--domains", "*"]),
+    ({"DOMAINS": "b.example,c.example", "OPTIONS": ""}, [*FOLDER, "--domains", "b.example,c.example"]),
+    ({"MESSAGE_LIMIT": "", "DELIMITER": ""}, FOLDER),
+    ({"MESSAGE_LIMIT": "65536", "DELIMITER": "#"}, [*FOLDER, "--message-limit", "65536", "--recipient-delimiter", "#"]),
+    ({"BOXES": "/etc/lmtpd.boxes"}, [*FOLDER, "--boxes", "/etc/lmtpd.boxes"]),
+    ({"BOXES": "/etc/my boxes"}, [*FOLDER, "--boxes", "/etc/my boxes"]),
+    ({"BOXES": "--boxes /etc/lmtpd.boxes"}, [*FOLDER, "--boxes", "/etc/lmtpd.boxes"]),
+    ({"BOXES": "--mailbox-mode 0660 --boxes /x"}, [*FOLDER, "--mailbox-mode", "0660", "--boxes", "/x"]),
+    ({"BOXES": "anna  ben *"}, [*FOLDER, "anna", "ben", "*"]),
+    ({"OPTIONS": " --quota 5\t* $HOME `id` 'a b' "}, [*FOLDER, "--quota", "5", "*", "$HOME", "`id`", "'a", "b'"]),
+    ({"BOXES": "/x", "OPTIONS": "--lanes 8"}, [*FOLDER, "--boxes", "/x", "--lanes", "8"]),
+    ({"INSTANCE": "a"}, [*FOLDER, "--boxes", "/etc/lmtpd/a.boxes"]),
+    ({"INSTANCE": "a", "BOXES": ""}, [*FOLDER, "--boxes", "/etc/lmtpd/a.boxes"]),
+    ({"INSTANCE": "a", "BOXES": "/y"}, [*FOLDER, "--boxes", "/y"]),
+    ({"INSTANCE": "a", "BOXES": "anna"}, [*FOLDER, "anna"]),
+]
+
+
+def check_start(folder):
+    """What begins the server hands each word on as it stands, and none that is empty."""
+    prefix, room = folder / "begun", folder / "room"
+    assert said_by("make", "-s", "install", f"DESTDIR={room}", f"PREFIX={prefix}", f"PROGRAM={LMTPD}") == (0, "")
+    program = prefix / "sbin/lmtpd"
+    program.parent.mkdir(parents=True)
+    program.write_text("#!/bin/sh\nprintf '%s\\n' \"$@\"\n")
+    program.chmod(0o755)
+    for given, expected in STARTED:
+        for more in [[], ["--check-words"]]:
+            environment = {"PATH": os.environ["PATH"], "RUNTIME_DIRECTORY": "/run/lmtpd", **given}
+            words = ["sh", f"{room}{prefix}/lib/lmtpd/start", *more]
+            # a folder with files that a shell would find
+            status, said = said_by(*words, env=environment, cwd=folder)
+            found = said.splitlines()
+            assert (status, [word for word in found if word in ALWAYS]) == (0, ALWAYS), (given, found)
+            assert [word for word in found if word not in ALWAYS] == ["serve", *more, *expected], (given, found)
 
 
 def check_map(folder):
@@ -198,8 +270,9 @@ check_words()
 check_version()
 with tempfile.TemporaryDirectory() as room:
     check_install(pathlib.Path(room) / "all")
+    check_start(pathlib.Path(room))
     check_folder(pathlib.Path(room))
     check_forms(pathlib.Path(room))
     check_map(pathlib.Path(room) / "boxes")
-print("ok: page, completion, version, unit, folder and install")
+print("ok: page, completion, version, unit, words, folder and install")
 sys.exit(0)

@@ -1,5 +1,6 @@
 """Dovecot as docs/operating/MAILBOXES.md sets it up beside the service as it is installed, for two users."""
 
+import datetime
 import imaplib
 import re
 import time
@@ -47,7 +48,28 @@ def users_see_nothing_of_each_other(_folder):
                     equal((name, place, client.select(f'"{place}"')[0]), (name, place, "NO"))
 
 
-users_see_nothing_of_each_other.seconds = 180
+@case
+@in_a_machine(*NEEDS)
+def dates_are_utc(_folder):
+    """Dovecot in another time zone: a letter's moment is hours off, and right by the typed lines of
+    docs/operating/MAILBOXES.md"""
+    with Service(["anna"]) as service:
+        type_lines(f"ln -sf /usr/share/zoneinfo/Asia/Kolkata /etc/localtime\n{CERTIFICATE}")
+        type_lines(lines_of("MAILBOXES.md", "### All through Dovecot"))
+        for lines, hours in [("true", -5.5), (lines_of("MAILBOXES.md", "### Dates in Dovecot"), 0)]:
+            type_lines(lines)
+            service.mailbox("anna").write_bytes(b"")
+            since = time.time()
+            equal(deliver_one(service.address, ["anna"], "Subject: now", "", "hello"), [stored("anna")])
+            with login("anna") as client:
+                equal(client.select("INBOX")[0], "OK")
+                text = re.search(r'"(.*)"', client.fetch("1", "INTERNALDATE")[1][0].decode())[1]
+                off = datetime.datetime.strptime(text.strip(), "%d-%b-%Y %H:%M:%S %z").timestamp() - since
+                equal((abs(off - hours * 3600) < 60, text, off), (True, text, off))
+
+
+for one in [users_see_nothing_of_each_other, dates_are_utc]:
+    one.seconds = 180
 
 
 def login(name):

@@ -6,6 +6,7 @@ import time
 
 from cases import case, equal
 from clients import Client
+from pages import lines_of
 from replies import NO_SUCH_BOX, not_stored
 from ten_lines import ROOT, machine, type_lines
 
@@ -107,9 +108,7 @@ def mailbox_is_held(there):
 
 def addresses_are_shown(there):
     """With the word that LOG.md has the service take."""
-    page = (ROOT / "docs/operating/LOG.md").read_text()
-    word = re.search(r"`(BOXES=--log-addresses [^`]*)` in `/etc/lmtpd\.conf`", page)[1]
-    said(there, f"sed -i 's,^BOXES=.*,{word},' /etc/lmtpd.conf; systemctl restart lmtpd")
+    said(there, lines_of("LOG.md", "### Addresses"))
     said(there, SEND.format("named"))
     named = commands("Why was it refused?")[1]
     wait_for(there, f"{named} || true", r" code=250 .* sender=<carl@a\.example> recipient=<anna@mx\.example>$")

@@ -25,8 +25,8 @@ ABSENT = 77
 MADE_WITHIN = 600  # seconds
 JOURNAL = "/run/systemd/journald.conf.d"
 BEFORE = [
-    # the journal has each line that a case looks for, however many letters come in a second
-    f"mkdir -p {JOURNAL}; printf '[Journal]\\nRateLimitBurst=0\\nRuntimeMaxUse=1G\\n' > {JOURNAL}/all.conf",
+    # the journal has room for each line that a case looks for; how many may come in a second the unit says
+    f"mkdir -p {JOURNAL}; printf '[Journal]\\nRuntimeMaxUse=1G\\n' > {JOURNAL}/room.conf",
     "systemctl restart systemd-journald",
     # users run scripts of these folders, and Python, where that is in root's home too
     "chmod 711 /root",

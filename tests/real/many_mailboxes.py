@@ -11,7 +11,8 @@ SEND = "printf 'Subject: {}\\n\\nhello\\n' | sendmail {}"
 
 @case
 def instances_of_the_service(folder):
-    """the recipe of docs/operating/SETUP.md, typed as it stands: 512 mailboxes on two servers, and one more user"""
+    """the recipe of docs/operating/SETUP.md, typed as it stands: 512 mailboxes on two servers; typed again with a third
+    server and a new name in one that runs, whose letters come at once"""
     names = {part: [f"{part}{number}" for number in range(256)] for part in "ab"}
     with machine(folder) as there:
         type_lines(there)
@@ -24,15 +25,18 @@ def instances_of_the_service(folder):
         equal(there.run("wc -l < /etc/postfix/transport"), (0, "512\n"))
         tried = [name for part in names.values() for name in [part[0], part[255]]]
         deliver(there, "first", tried)
+        # which came with their first letters, and count as active after a second
+        equal(there.run("systemctl start lmtpd@a lmtpd@b"), (0, ""))
         equal(there.run("systemctl is-active lmtpd lmtpd@a lmtpd@b")[1], "inactive\nactive\nactive\n")
         owners = there.run("stat -c '%U %a' /var/spool/postfix/private/lmtpd-a /var/spool/postfix/private/lmtpd-b")
         equal(owners, (0, "postfix 600\npostfix 600\n"))
-        # a new user in another one's place
-        equal(there.run("sed -i 's/^b255$/frieda # new/' /etc/lmtpd/b.boxes; systemctl restart lmtpd@b")[0], 0)
+        # a new user in another one's place, and more users than the two servers have
+        equal(there.run("sed -i 's/^b255$/frieda # new/' /etc/lmtpd/b.boxes; echo carla > /etc/lmtpd/c.boxes"), (0, ""))
         for line in recipe():
-            if line.startswith(("awk", "postmap", "postfix reload")):
-                equal((line, there.run(line)[0]), (line, 0))
-        deliver(there, "second", ["frieda"])
+            equal((line, there.run(line)[0]), (line, 0))
+        deliver(there, "second", ["frieda", "carla"])
+        equal(there.run("postqueue -p")[1], "Mail queue is empty\n")
+        equal(there.run("echo Dora > /etc/lmtpd/c.boxes; " + recipe()[1])[0], 1)
         log = there.run("journalctl -u lmtpd@b --no-pager")[1]
         equal(("b0 stored 1" in log, "a0 stored" in log), (True, False))
 

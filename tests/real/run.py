@@ -12,24 +12,33 @@ import five_questions  # noqa: F401
 import hundred_restarts  # noqa: F401
 import killed_server_lock  # noqa: F401
 import killed_under_load  # noqa: F401
+import log_keeps_lines  # noqa: F401
 import mailbox_of_user  # noqa: F401
 import many_clients_one_mailbox  # noqa: F401
 import many_mailboxes  # noqa: F401
+import moved_users  # noqa: F401
 import odd_clients  # noqa: F401
 import opensmtpd_delivers  # noqa: F401
 import other_mailboxes  # noqa: F401
 import postfix_delivers  # noqa: F401
+import postfix_restarts  # noqa: F401
 import power_cut  # noqa: F401
 import quota_emptied  # noqa: F401
 import read_only  # noqa: F401
 import reader_holds  # noqa: F401
 import readers_agree  # noqa: F401
 import readers_delete  # noqa: F401
+import service_words  # noqa: F401
+import reload_names  # noqa: F401
 import several_servers  # noqa: F401
+import start_fails  # noqa: F401
 import site_mailboxes  # noqa: F401
+import site_that_grows  # noqa: F401
 import soak  # noqa: F401
 import ten_lines  # noqa: F401
 import torn_writes_read  # noqa: F401
+import watched  # noqa: F401
+import with_postfix  # noqa: F401
 from cases import run_all
 
 sys.exit(0 if run_all(sys.argv[1:]) else 1)

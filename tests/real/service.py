@@ -31,8 +31,15 @@ class Service:
             pathlib.Path("/etc/lmtpd").mkdir(exist_ok=True)
             pathlib.Path(f"/etc/lmtpd/{name}.boxes").write_text("\n".join([*boxes, ""]))
         else:
-            words = " ".join(map(str, [*more, *boxes]))
-            CONF.write_text(re.sub("(?m)^BOXES=.*$", f"BOXES={words}", CONF.read_text()))
+            self.set("BOXES", *boxes)
+            self.set("OPTIONS", *more)
+
+    def set(self, name, *words):
+        """That word of the service, from its next start on."""
+        line = f"{name}={' '.join(map(str, words))}"
+        text, count = re.subn(f"(?m)^{name}=.*$", lambda _: line, CONF.read_text())
+        equal((name, count), (name, 1))
+        CONF.write_text(text)
 
     def __enter__(self):
         systemctl("enable", "--now", f"{self.unit}.socket")
@@ -46,8 +53,11 @@ class Service:
         """In order, and for good."""
         systemctl("stop", f"{self.unit}.socket", self.unit)
 
-    def restart(self):
-        systemctl("restart", self.unit)
+    def restart(self, may_fail=False):
+        if may_fail:
+            subprocess.run(["systemctl", "restart", self.unit], capture_output=True)
+        else:
+            systemctl("restart", self.unit)
 
     def kill(self):
         """By SIGKILL, and until it is gone. It begins again in five seconds, as the unit has it, or by
@@ -84,10 +94,10 @@ class Service:
         errors = [line for line in lines[begun:] if line.startswith("lmtpd: ")]
         return Ended(int(self.told("ExecMainStatus")), said, errors)
 
-    def lines(self):
-        """What all its runs said, in the journal."""
+    def lines(self, priority="debug"):
+        """What all its runs said, in the journal, at that priority or a graver one."""
         subprocess.run(["journalctl", "--sync"], check=True)
-        words = ["journalctl", "-u", self.unit, "-o", "cat", "--no-pager"]
+        words = ["journalctl", "-u", self.unit, "-p", priority, "-o", "cat", "--no-pager"]
         return subprocess.run(words, check=True, capture_output=True).stdout.decode(errors="replace").splitlines()
 
     def told(self, name):

@@ -18,7 +18,7 @@ MADE_BY_SITE = [
     "useradd --create-home anna && usermod --append --groups mail lmtpd",
     f"chown root:mail {FOLDER} && chmod 2775 {FOLDER}",
     f"install -o anna -g mail -m 660 /dev/null {FOLDER}/anna.mbox",
-    "sed -i 's|^BOXES=.*|BOXES=--mailbox-mode 0660 --boxes /etc/lmtpd.boxes|' /etc/lmtpd.conf",
+    "sed -i 's|^OPTIONS=.*|OPTIONS=--mailbox-mode 0660|' /etc/lmtpd.conf",
     f"{EDITED}; systemctl daemon-reload; systemctl enable --now lmtpd.socket",
 ]
 # Deletes the first letter and leaves; its lock file is made by Debian's mutt_dotlock, which is of group mail.

@@ -3,7 +3,6 @@
 import contextlib
 import os
 import pathlib
-import re
 import shutil
 import time
 
@@ -17,7 +16,6 @@ HEADING = "## From nothing to a letter in ten lines"
 # alone, so that what apt-get installs was installed before.
 REPLACED = {"make build": "test -x crates/lmtpd/out/lmtpd", "apt-get update": "true"}
 SEND = "printf 'Subject: {}\\n\\nhello\\n' | sendmail anna@mx.example"
-FEW = "/etc/systemd/system/lmtpd.service.d/few.conf"
 
 
 @case
@@ -60,7 +58,7 @@ def a_service_that_is_killed_begins_again(folder):
         begun = time.monotonic()
         equal(there.run("systemctl kill lmtpd"), (0, ""))
         wait_for_restarts(there, 1)
-        assert time.monotonic() - begun < 3, "not at once"
+        assert time.monotonic() - begun < 4, "not at once"
         # the mailboxes' folder is away for eight seconds, so that the server ends with status 1
         begun = time.monotonic()
         there.run("cd /var/mail; mv lmtpd away; (sleep 8; mv away lmtpd) > /dev/null 2>&1 &")
@@ -107,7 +105,8 @@ def machine(folder):
     for name in ["make", "postfix"]:
         program(name, name)
     site = folder / "site"
-    shutil.copytree(ROOT / "packaging", site / "packaging")
+    for name in ["packaging", "docs"]:
+        shutil.copytree(ROOT / name, site / name)
     shutil.copy(ROOT / "Makefile", site)
     (site / "crates/lmtpd/out").mkdir(parents=True)
     shutil.copy(os.environ["LMTPD"], site / "crates/lmtpd/out/lmtpd")
@@ -129,10 +128,8 @@ def type_lines(there):
 
 def begin_for_few(there, count):
     """Has the service end after that many conversations, and Postfix hold one for each letter."""
-    unit = there.run("cat /usr/local/lib/systemd/system/lmtpd.service")[1]
-    begin = re.search("^ExecStart=.*$", unit, re.MULTILINE)[0].replace(" serve ", f" serve --connections {count} ")
-    there.run(f"mkdir {os.path.dirname(FEW)}; printf '%s\\n' '[Service]' ExecStart= '{begin}' > {FEW}")
-    equal(there.run("systemctl daemon-reload && systemctl restart lmtpd"), (0, ""))
+    there.run(f"sed -i 's/^OPTIONS=.*/OPTIONS=--connections {count}/' /etc/lmtpd.conf")
+    equal(there.run("systemctl restart lmtpd"), (0, ""))
     equal(there.run("postconf -e lmtp_connection_cache_on_demand=no && postfix reload")[0], 0)
 
 

@@ -16,8 +16,9 @@ use Rattle.lmtpd_words.specs.Words.{IsAsked, IsLacking, named_site}
 use Rattle.lmtpd_words.specs.declared.words.RehearseWords.{RehearseWords}
 use Rattle.lmtpd_words.specs.declared.words.ServeWords.{ServeWords}
 use Rattle.lmtpd_words.specs.declared.words.CheckWords.{CheckWords}
+use Rattle.lmtpd_words.specs.declared.words.CopyWords.{CopyWords}
 use Rattle.lmtpd_words.specs.declared.words.SiteWords.{SiteWords}
-use Rattle.lmtpd_words.specs.declared.words.Words.TheVariants.{Rehearse, Serve, Check}
+use Rattle.lmtpd_words.specs.declared.words.Words.TheVariants.{Rehearse, Serve, Check, Copy}
 use Rattle.lmtpd_listen.specs.Listening.{AsksInherited, IsRefused, Names}
 use Rattle.lmtpd_listen.specs.declared.fault.ListenFault.{ListenFault}
 use Rattle.lmtpd_listen.specs.declared.listen_address.ListenAddress.{ListenAddress}
@@ -36,10 +37,12 @@ use Rattle.lmtpd_rehearse.specs.declared.ending.Ending.{Ending}
 use Rattle.lmtpd_serve.specs.Served.{IsServerRun, trouble_lines}
 use Rattle.lmtpd_serve.specs.declared.served.Served.{Served as ServedRun}
 use Rattle.lmtpd.specs.Lacking.{check_fault, check_status, rehearsal_fault, server_fault}
+use Rattle.lmtpd.specs.Copied.{copy_line, copy_status}
+use Rattle.lmtpd.specs.declared.copy.Copied.{Copied as CopiedFile}
 use Rattle.lmtpd.specs.declared.serve.filled.ServeDone.{ServeDone}
 use Rattle.lmtpd.specs.declared.serve.filled.ServeDone.TheVariants as done
 use Rattle.lmtpd.specs.declared.program.Done.{Done}
-use Rattle.lmtpd.specs.declared.program.Done.TheVariants.{Rehearsed, Served, WordsChecked, Checked, Stopped}
+use Rattle.lmtpd.specs.declared.program.Done.TheVariants.{Rehearsed, Served, WordsChecked, Checked, Copied, Stopped}
 
 -- why a server of a size didn't run, where memory wasn't lacking
 abbrev pub IsNotRun : Type 0 → Fault → Type 0
@@ -185,21 +188,24 @@ streams_of remaining contents reader writer = record { unread = remaining reader
 
 -- What the program did is what its words ask for: `streams` is what contracts see of a reader and a writer, `Fills`
 -- says what the words of a site are once the file of its mailboxes was read, `IsRun` which runs of a server its words
--- ask for then, and `IsCheck` which checks of files.
+-- ask for then, `IsCheck` which checks of files, and `IsCopy` which copies.
 module _ {R W : Type 0} where
   abbrev pub IsDoneAsAsked : (R → W → Streams) → (SiteWords → SiteWords → Type 0) → (ServeWords → ServedRun → Type 0)
-      → (CheckWords → CheckedFiles W → Type 0) → List Text → Streams → Done R W → Type 0
-  IsDoneAsAsked streams Fills IsRun IsCheck texts old (Rehearsed it) =
+      → (CheckWords → CheckedFiles W → Type 0) → (CopyWords → CopiedFile → Type 0) → List Text → Streams → Done R W
+      → Type 0
+  IsDoneAsAsked streams Fills IsRun IsCheck IsCopy texts old (Rehearsed it) =
       (words : RehearseWords) × IsAsked (subcommand_of program_app texts) (Rehearse words)
       × IsRehearsedFilled Fills words old (streams it.reader it.writer) it.ending
-  IsDoneAsAsked streams Fills IsRun IsCheck texts old (Served it) =
+  IsDoneAsAsked streams Fills IsRun IsCheck IsCopy texts old (Served it) =
       (words : ServeWords) × IsAsked (subcommand_of program_app texts) (Serve words)
       × IsServedFilled Fills IsRun words it
-  IsDoneAsAsked streams Fills IsRun IsCheck texts old WordsChecked =
+  IsDoneAsAsked streams Fills IsRun IsCheck IsCopy texts old WordsChecked =
       (words : ServeWords) × IsAsked (subcommand_of program_app texts) (Serve words) × IsCheckedFilled Fills words
-  IsDoneAsAsked streams Fills IsRun IsCheck texts old (Checked it) =
+  IsDoneAsAsked streams Fills IsRun IsCheck IsCopy texts old (Checked it) =
       (words : CheckWords) × IsAsked (subcommand_of program_app texts) (Check words) × IsCheck words it
-  IsDoneAsAsked streams Fills IsRun IsCheck texts old (Stopped s) = IsStopped Fills texts s
+  IsDoneAsAsked streams Fills IsRun IsCheck IsCopy texts old (Copied it) =
+      (words : CopyWords) × IsAsked (subcommand_of program_app texts) (Copy words) × IsCopy words it
+  IsDoneAsAsked streams Fills IsRun IsCheck IsCopy texts old (Stopped s) = IsStopped Fills texts s
 
   -- the status of the program, and its lines on standard error: 0 only for what was done with no fault, words and files
   -- that are sound, and for help
@@ -208,6 +214,7 @@ module _ {R W : Type 0} where
   exit_status (Served it) = status_after (server_fault it.ending)
   exit_status WordsChecked = 0
   exit_status (Checked it) = check_status it.findings.items it.cut
+  exit_status (Copied it) = copy_status it.fault
   exit_status (Stopped s) = stop_status s
 
   -- A server's mailboxes that missed turns, and those over their quota, come before its fault, and so do a check's
@@ -218,4 +225,5 @@ module _ {R W : Type 0} where
   exit_lines is_journal (Served it) = trouble_lines it ++ line_after is_journal (server_fault it.ending)
   exit_lines is_journal WordsChecked = []
   exit_lines is_journal (Checked it) = unlocked_lines it.unlocked.items ++ line_after is_journal (check_fault it.cut)
+  exit_lines is_journal (Copied it) = copy_line is_journal it.file.now it.to.now it.fault
   exit_lines is_journal (Stopped s) = stop_line is_journal s

@@ -7,19 +7,22 @@ ghost use Rattle.lmtpd_words.specs.Words.{as_texts};
 ghost use Rattle.lmtpd_setup.specs.Boxes.{IsFilled};
 ghost use Rattle.lmtpd.specs.Program.{IsCheckedAsAsked, IsDoneAsAsked, IsServedAsAsked, exit_lines, exit_status};
 ghost use Rattle.lmtpd.specs.Program.{streams_of};
+ghost use Rattle.lmtpd.specs.Copied.{IsCopiedAsAsked};
 ghost use Rattle.lmtpd_words.specs.Output.{IsListed};
 
 use crate::check::{check_asked, report_checked};
+use crate::copy::{Copied, copy_asked, report_copied};
 use crate::lacking::rehearsal_fault;
 use crate::rehearse::rehearse_filled;
 use crate::serve::{ServeDone, report_served, serve_filled};
 use lmtpd_check::Checked;
+use lmtpd_copy::{CopyTarget, TargetFile};
 use lmtpd_log::{LaneLog, LineLog};
 use lmtpd_rehearse::Rehearsed;
 use lmtpd_serve::Served;
 use lmtpd_setup::{Exit, ServedMailbox, ServerLog, Stop, report_fault};
 use lmtpd_words::{Words, is_journal, read_words};
-use mbox_rd::{FileLock, RangeLock, Spool};
+use mbox_rd::{FileLock, MailboxSource, RangeLock, Spool, StdMailboxFile};
 use std::env::Env;
 use std::fs::Files;
 use std::io::{Read, Write};
@@ -36,6 +39,7 @@ pub enum Done<'a, R, W> {
     /// The words of a server alone were to be checked, and each can be used.
     WordsChecked,
     Checked(Checked<'a, W>),
+    Copied(Copied<'a>),
     /// It stopped before its work was done.
     Stopped(Stop<'a>),
 }
@@ -74,7 +78,9 @@ where
     ensures done { IsDoneAsAsked (streams_of R.remaining W.contents) (IsFilled P.File.remaining)
         (IsServedAsAsked ServerSocket H (ServerCurfew H) (⟦<LineLog<ServerLog<H>, H> as LaneLog>⟧.told)
         (⟦<ServedMailbox<H, ServerLog<H>> as Spool>⟧.state))
-        (IsCheckedAsAsked P.File.remaining W.contents (W.contents writer)) (as_texts words.entry.now)
+        (IsCheckedAsAsked P.File.remaining W.contents (W.contents writer))
+        (IsCopiedAsAsked (⟦<StdMailboxFile<H> as MailboxSource>⟧.unread)
+        (⟦<TargetFile<'static, H> as CopyTarget>⟧.state)) (as_texts words.entry.now)
         (streams_of R.remaining W.contents reader writer) result.done }
     ensures status { result.exit.status ≡ exit_status result.done }
     ensures lines { IsListed (exit_lines result.is_journal result.done) (E.contents error.old) (E.contents error.new)
@@ -110,7 +116,9 @@ where
     ensures { IsDoneAsAsked (streams_of R.remaining W.contents) (IsFilled P.File.remaining)
         (IsServedAsAsked ServerSocket H (ServerCurfew H) (⟦<LineLog<ServerLog<H>, H> as LaneLog>⟧.told)
         (⟦<ServedMailbox<H, ServerLog<H>> as Spool>⟧.state))
-        (IsCheckedAsAsked P.File.remaining W.contents (W.contents writer)) (as_texts words.entry.now)
+        (IsCheckedAsAsked P.File.remaining W.contents (W.contents writer))
+        (IsCopiedAsAsked (⟦<StdMailboxFile<H> as MailboxSource>⟧.unread)
+        (⟦<TargetFile<'static, H> as CopyTarget>⟧.state)) (as_texts words.entry.now)
         (streams_of R.remaining W.contents reader writer) result }
 {
     match read_words(rt.alloc(), words) {
@@ -129,6 +137,7 @@ where
             Ok(checked) => Done::Checked(checked),
             Err(fault) => Done::Stopped(Stop::Fault(fault)),
         },
+        Ok(Words::Copy(asked)) => Done::Copied(copy_asked(threads, rt.alloc(), &asked)),
         Err(refused) => Done::Stopped(Stop::from(refused)),
     }
 }
@@ -148,6 +157,7 @@ where
         Done::Served(served) => report_served(served, is_journal, error),
         Done::WordsChecked => report_fault(None, is_journal, error),
         Done::Checked(checked) => report_checked(checked, is_journal, error),
+        Done::Copied(copied) => report_copied(copied, is_journal, error),
         Done::Stopped(stop) => stop.report(rt, is_journal, error),
     }
 }

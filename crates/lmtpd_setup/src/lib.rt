@@ -30,5 +30,5 @@ pub use names::SHOWN_LIMIT;
 pub use opening::open_address;
 pub use setup::{ServerSetup, set_up};
 pub use site::{served_site, site_of};
-pub use stop::{Exit, Stop, report_fault, status_after, write_fault};
+pub use stop::{Exit, Stop, mark, report_fault, status_after, write_fault};
 pub use watched::WatchedFile;

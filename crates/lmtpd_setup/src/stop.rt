@@ -110,8 +110,8 @@ fn print_refused<R: Print + Eprint>(rt: &R, is_journal: bool, refused: &Error) -
     Exit { status, cut: false }
 }
 
-// What stands before a line that ends the program.
-fn mark(is_journal: bool) -> &'static str
+/// What stands before a line that ends the program.
+pub fn mark(is_journal: bool) -> &'static str
     ensures { result.now ≡ mark is_journal }
 {
     priority_in(is_journal, Level::Error)

@@ -27,7 +27,7 @@ pub use lines::{ErrorLines, priority_in};
 pub use reading::{not_text, read_words};
 pub use urgent::Urgent;
 pub use words::{
-    BOXES_FILE_LIMIT, CheckWords, DEFAULT_BLOCKS, DEFAULT_CAPACITY, DEFAULT_LANES,
+    BOXES_FILE_LIMIT, CheckWords, CopyWords, DEFAULT_BLOCKS, DEFAULT_CAPACITY, DEFAULT_LANES,
     DEFAULT_LOCK_WAIT, DEFAULT_LOG, DEFAULT_MAILBOX_MODE, DEFAULT_READS, DEFAULT_SESSION_TIME,
     DEFAULT_SOCKET_MODE, DEFAULT_TIMEOUT, MODE_DIGIT_LIMIT, RehearseWords, ServeWords, SiteWords,
     Words,

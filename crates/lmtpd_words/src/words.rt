@@ -124,10 +124,20 @@ pub struct CheckWords<'a> {
     pub files: Vec<&'a str>,
 }
 
+/// What a copy is asked to do.
+#[derive(Debug, Drop)]
+pub struct CopyWords<'a> {
+    /// The mailbox's file, by its path.
+    pub file: &'a str,
+    /// The path at which the copy is made.
+    pub to: &'a str,
+}
+
 /// What the program is asked to do.
 #[derive(Debug, Drop)]
 pub enum Words<'a> {
     Rehearse(RehearseWords<'a>),
     Serve(ServeWords<'a>),
     Check(CheckWords<'a>),
+    Copy(CopyWords<'a>),
 }

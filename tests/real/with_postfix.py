@@ -1,0 +1,136 @@
+"""Debian's Postfix beside the service as it is installed, set up by the lines of docs/operating/SETUP.md as they stand."""
+
+import pathlib
+import re
+import subprocess
+import time
+
+from cases import case, equal
+from in_a_machine import in_a_machine
+from pages import lines_of, type_lines
+from server import run
+from service import Service, systemctl
+
+NAMES = ["anna", "ben"]
+SITE = """
+postconf -e virtual_mailbox_domains=mx.example 'virtual_mailbox_maps=inline:{anna@mx.example=x,ben@mx.example=x}'
+postconf -e virtual_transport=lmtp:unix:private/lmtpd lmtp_destination_concurrency_limit=4
+systemctl restart postfix
+"""
+
+
+@case
+@in_a_machine()
+def aliases(_folder):
+    """Postfix by the typed lines of 'Aliases': two domains in which info isn't the same user's, a catch-all, postmaster"""
+    with Service(NAMES) as service:
+        type_lines(SITE + lines_of("SETUP.md", "### Aliases"))
+        for address in ["postmaster@mx", "info@mx", "info@two", "anna@two", "anyone@two"]:
+            send(f"{address}.example")
+        equal(subjects(service, "anna", 3), ["anna@two.example", "info@mx.example", "postmaster@mx.example"])
+        equal(subjects(service, "ben", 2), ["anyone@two.example", "info@two.example"])
+
+
+@case
+@in_a_machine()
+def users_of_the_system(_folder):
+    """Postfix by the typed lines of 'Users of the system': those of mydestination, an alias, a user's .forward; one
+    without a mailbox goes back"""
+    with Service(NAMES) as service:
+        type_lines(SITE)
+        type_lines("for name in anna ben carla; do useradd --create-home $name; done; echo anna@mx.example > /home/ben/.forward")
+        type_lines(lines_of("SETUP.md", "### Users of the system"))
+        for address in ["anna@mx.example", "anna@localhost", "root@localhost", "ben@mx.example", "carla@mx.example"]:
+            send(address)
+        expected = ["anna@localhost", "anna@mx.example", "ben@mx.example", "root@localhost"]
+        equal(subjects(service, "anna", 4), expected)
+        wait_for(r"to=<carla@mx\.example>.* status=bounced .*550 5\.1\.1 No such mailbox")
+
+
+@case
+@in_a_machine()
+def recipients_of_letters(_folder):
+    """Postfix by the typed lines of 'The recipient in each letter': Delivered-To and X-Original-To, a letter handed over
+    once for each recipient, and none without the limit of one"""
+    with Service(NAMES) as service:
+        type_lines(SITE + lines_of("SETUP.md", "### Aliases"))
+        send("anna@mx.example", "ben@mx.example", subject="before")
+        equal([subjects(service, name, 1) for name in NAMES], [["before"], ["before"]])
+        equal(len(messages_of(service)), 1)
+        type_lines(lines_of("SETUP.md", "### The recipient in each letter"))
+        send("info@mx.example", "ben@mx.example", subject="after")
+        equal([subjects(service, name, 2) for name in NAMES], [["after", "before"]] * 2)
+        for name, original in [("anna", "info"), ("ben", "ben")]:
+            for line in [f"Delivered-To: {name}@mx.example", f"X-Original-To: {original}@mx.example"]:
+                equal((line, lines_in(service, name).count(line)), (line, 1))
+        equal(len(messages_of(service)), 3)
+        type_lines("postconf -X lmtp_destination_recipient_limit; postfix reload")
+        send("anna@mx.example", "ben@mx.example")
+        wait_for("flag `D' requires lmtp_destination_recipient_limit = 1")
+        wait_for(r"to=<anna@mx\.example>.* status=deferred")
+
+
+@case
+@in_a_machine()
+def letters_as_written(_folder):
+    """Postfix by the typed lines of 'Letters as their senders wrote them': a head in UTF-8, a long line, and no lines by
+    which programs mark letters"""
+    long = "x" * 5000
+    marks = [f"{name}: 1" for name in ["Status", "X-Status", "X-Keywords", "X-UID", "X-IMAP", "X-IMAPbase"]]
+    with Service(NAMES) as service:
+        type_lines(SITE)
+        send("anna@mx.example", subject="gr\u00fc\u00dfe")
+        wait_for(r"to=<anna@mx\.example>.* status=bounced .*SMTPUTF8 is required")
+        send("anna@mx.example", subject="before", text=f"{long}\n", more=marks)
+        equal(subjects(service, "anna", 1), ["before"])
+        found = lines_in(service, "anna")
+        equal((long in found, set(marks) <= set(found)), (False, True))
+        type_lines(lines_of("SETUP.md", "### Letters as their senders wrote them"))
+        send("ben@mx.example", subject="gr\u00fc\u00dfe", text=f"{long}\n", more=marks)
+        equal(subjects(service, "ben", 1), ["gr\u00fc\u00dfe"])
+        found = lines_in(service, "ben")
+        equal((long in found, set(marks) & set(found)), (True, set()))
+
+
+for one in [aliases, users_of_the_system, recipients_of_letters, letters_as_written]:
+    one.seconds = 180
+
+
+def send(*addresses, subject=None, text="hello\n", more=()):
+    """A letter to all of these, whose subject is the first one's address where none is given."""
+    letter = "\n".join([f"Subject: {subject or addresses[0]}", *more, "", text])
+    subprocess.run(["sendmail", "-f", "carl@mx.example", *addresses], input=letter.encode(), check=True)
+
+
+def subjects(service, name, count):
+    """Those of a mailbox, once it has that many letters."""
+    path = service.mailbox(name)
+    wait(lambda: run(["check", path]).said == [f"{path} letters {count}"], log)
+    return sorted(line.removeprefix("Subject: ") for line in lines_in(service, name) if line.startswith("Subject: "))
+
+
+def lines_in(service, name):
+    return service.mailbox(name).read_text().splitlines()
+
+
+def messages_of(service):
+    """The messages of which the log has copies."""
+    return set(re.findall(r" copy answered id=(\S+) ", "\n".join(service.lines())))
+
+
+def log():
+    """What Postfix logged."""
+    words = ["journalctl", "--facility", "mail", "-o", "cat", "--no-pager"]
+    return subprocess.run(words, check=True, capture_output=True, text=True).stdout
+
+
+def wait_for(pattern):
+    """Until Postfix's log has it."""
+    wait(lambda: re.search(pattern, log()), log)
+
+
+def wait(is_so, why):
+    until = time.monotonic() + 40
+    while not is_so():
+        assert time.monotonic() < until, why()[-1500:]
+        time.sleep(0.2)
