@@ -18,12 +18,12 @@ returns-in-Ok-Rehearse g c =
 pub returns-in-Ok-Served : goal.returns-in-Ok-Served
 returns-in-Ok-Served g c =
     let read = subst (λ w. IsAsked (subcommand_of program_app (as_texts c.args.words.now)) w) c.in-Ok-Serve.field-0-is c.in-Ok-Serve.ensures.read in
-    (c.in-Ok-Serve.asked, read, c.in-Ok-Served.ensures)
+    (c.in-Ok-Serve.asked, read, rw c.in-Ok-Served.field-0-is at c.in-Ok-Served.ensures)
 
 pub returns-in-Ok-WordsChecked : goal.returns-in-Ok-WordsChecked
 returns-in-Ok-WordsChecked g c =
     let read = subst (λ w. IsAsked (subcommand_of program_app (as_texts c.args.words.now)) w) c.in-Ok-Serve.field-0-is c.in-Ok-Serve.ensures.read in
-    (c.in-Ok-Serve.asked, read, c.in-Ok-WordsChecked.ensures)
+    (c.in-Ok-Serve.asked, read, rw c.in-Ok-WordsChecked.field-0-is at c.in-Ok-WordsChecked.ensures)
 
 pub returns-in-Ok-Serve : goal.returns-in-Ok-Serve
 returns-in-Ok-Serve g c =
