@@ -10,6 +10,7 @@ use std::alloc::Global;
 
 /// Looks at these words as a server does before it looks at its mailboxes' folder or at what it listens on.
 pub fn check_words<'a>(alloc: Global, words: &ServeWords<'_>) -> Result<(), Stop<'a>>
+    requires { words.now.check_words ≡ true }
     ensures { MatchResult result (λ _. AreServeWords words.now) (IsNotServed words.now) }
 {
     listen_address_of(words.listen)?;
