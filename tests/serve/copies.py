@@ -1,6 +1,7 @@
 """Copies of a mailbox: of one that a server delivers into, and where they can't be made."""
 
 import contextlib
+import fcntl
 import os
 import pathlib
 import resource
@@ -188,38 +189,39 @@ def a_call_fails(folder):
 
 @case
 def others_wait(folder):
-    """while a copy goes on, mail for the mailbox is told 451 and readers have neither lock; then it is taken, and isn't
-    in the copy"""
-    library = folder / "stop.so"
+    """while a copy goes on both locks are held, and mail for the mailbox is told 451; once the copy was killed, mail is
+    taken again"""
+    library, to, cut = folder / "stop.so", folder / "copy", folder / "copy.cut"
     subprocess.run(["cc", "-O2", "-shared", "-fPIC", "-o", library, STOPPING], check=True)
-    to, cut = folder / "copy", folder / "copy.cut"
-    with Server(folder, ["anna"], 2, "--lock-wait", 0) as server:
+    with Server(folder, ["anna"], 3, "--lock-wait", 0) as server:
         file = server.mailbox("anna")
-        equal(deliver_one(server.address, "anna"), stored("anna"))
+        equal(deliver_one(server.address, ["anna"], "hello"), [stored("anna")])
         before = file.read_bytes()
         cut.write_text("20")
-        copying = start(file, to, env={**os.environ, "LD_PRELOAD": library})
+        copying = start(file, to, env={**os.environ, "LD_PRELOAD": str(library)})
         try:
             while cut.exists():
                 time.sleep(0.01)
-            equal(lock_of(file).exists(), True)
-            equal(is_locked(file), True)
-            equal(deliver_one(server.address, "anna"), not_stored("anna"))
+            equal((lock_of(file).exists(), is_locked(file)), (True, True))
+            equal(deliver_one(server.address, ["anna"], "hello"), [not_stored("anna")])
             equal((copying.poll(), file.read_bytes()), (None, before))
         finally:
             copying.kill()
             copying.communicate()
-    # what a copy that was killed leaves of itself is its owner's to remove
+        equal(deliver_one(server.address, ["anna"], "hello"), [stored("anna")])
+        equal(vars(server.end()), {"status": 0, "said": ["anna stored 2"], "errors": ["lmtpd: anna in use 1"]})
     equal(to.read_bytes(), before[:20])
+    equal(letters.messages(file), [b"hello\n"] * 2)
 
 
 def is_locked(path):
     """Whether another program has the bytes locked."""
-    try:
-        with bytes_held(path):
-            return False
-    except OSError:
-        return True
+    with path.open("r+b") as file:
+        try:
+            fcntl.lockf(file, fcntl.LOCK_EX | fcntl.LOCK_NB)
+        except OSError:
+            return True
+    return False
 
 
 @case
