@@ -44,7 +44,7 @@ def completed(line):
 
 
 def check_words():
-    for command, letter in [("serve", "s"), ("rehearse", "r"), ("check", "c")]:
+    for command, letter in [("serve", "s"), ("rehearse", "r"), ("check", "c"), ("copy", "c")]:
         told, listed = help_of(command), options_of_page(letter)
         expected = set(told) - {"--help"}
         assert set(listed) == expected, (command, set(listed) ^ expected)
@@ -57,7 +57,7 @@ def check_words():
         synopsis = PAGE.split(f".Cm {command}\n")[1].split(".Nm")[0].split(".Sh")[0]
         assert set(re.findall(r"Fl -([a-z-]+)", synopsis)) == {name[2:] for name in expected}, command
     assert set(help_of("")) == {"--help", "--version"}
-    assert completed("lmtpd ") == {"serve", "rehearse", "check", "help", "--help", "--version"}
+    assert completed("lmtpd ") == {"serve", "rehearse", "check", "copy", "help", "--help", "--version"}
     assert completed("lmtpd s") == {"serve"}
     assert completed("lmtpd serve --log ") == {"off", "error", "info"}
     assert completed("lmtpd serve --log i") == {"info"}
