@@ -1,6 +1,5 @@
 """Debian's Postfix beside the service as it is installed, set up by the lines of docs/operating/SETUP.md as they stand."""
 
-import pathlib
 import re
 import subprocess
 import time
@@ -9,7 +8,7 @@ from cases import case, equal
 from in_a_machine import in_a_machine
 from pages import lines_of, type_lines
 from server import run
-from service import Service, systemctl
+from service import Service
 
 NAMES = ["anna", "ben"]
 SITE = """
