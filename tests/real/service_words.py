@@ -7,7 +7,7 @@ from cases import case, equal
 from clients import deliver_one
 from in_a_machine import in_a_machine
 from pages import lines_of, type_lines
-from replies import stored
+from replies import not_stored, stored
 from service import CONF, Service, systemctl
 
 FIXED = ["--stop-file", "/run/lmtpd/stop", "--heal", "--start-anyway", "--log", "info"]
@@ -73,6 +73,19 @@ def words_of_instances(_folder):
             equal(own, ["serve", "--host", host, *OLD[2:], *expected])
 
 
+@case
+@in_a_machine()
+def another_folder(_folder):
+    """another folder for the installed service by the typed lines of docs/operating/SETUP.md; without systemd's part of
+    them each copy is told 451"""
+    with Service(["anna"]) as service:
+        type_lines(lines_of("SETUP.md", "### Another folder"))
+        equal(deliver_one(service.address, ["anna"], "hello"), [stored("anna")])
+        equal([path.name for path in pathlib.Path("/srv/mail").glob("*.mbox")], ["anna.mbox"])
+        type_lines("rm /etc/systemd/system/lmtpd.service.d/folder.conf; systemctl daemon-reload; systemctl restart lmtpd")
+        equal(deliver_one(service.address, ["anna"], "hello"), [not_stored("anna")])
+
+
 # Of each page that says a word of the service by lines to type: the heading below which these stand, and the words.
 RECIPES = [
     ("SETUP.md", "### Another folder", ["--dir", "/srv/mail"]),
@@ -98,7 +111,7 @@ def no_recipe_drops_a_word(_folder):
         assert "\nhello\n" in pathlib.Path("/srv/mail/anna.mbox").read_text()
 
 
-for one in [words_of_the_service, words_of_instances, no_recipe_drops_a_word]:
+for one in [words_of_the_service, words_of_instances, another_folder, no_recipe_drops_a_word]:
     one.seconds = 180
 
 
