@@ -145,7 +145,8 @@ def check_instances(unit, units):
         "Also=lmtpd@%i.socket",
     ]:
         assert line in instance.splitlines(), line
-    own = ["EnvironmentFile=/usr/lib/lmtpd/instance.conf", "EnvironmentFile=-/etc/lmtpd/%i.conf", "Environment=INSTANCE=%i"]
+    own = ["/usr/lib/lmtpd/instance.conf", "-/etc/lmtpd/%i.conf"]
+    own = [*(f"EnvironmentFile={path}" for path in own), "Environment=INSTANCE=%i"]
     assert "\n".join(["EnvironmentFile=/etc/lmtpd.conf", *own, ""]) in instance, instance
     assert "/run/lmtpd/" not in instance and "lmtpd.socket" not in instance, instance
     socket = (units / "lmtpd@.socket").read_text().splitlines()

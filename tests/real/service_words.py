@@ -31,7 +31,7 @@ REFUSED = [
     ("HOST=mx.example\nDOMAINS=a_b", "lmtpd: bad domain"),
     ("HOST=mx.example\nBOXES=", "lmtpd: no box"),
     ("HOST=mx.example\nOPTIONS=--no-such-word", "error: unexpected argument '--no-such-word' found"),
-    ("HOST=mx.example\nMESSAGE_LIMIT=10", "error: invalid value '10' for '--message-limit <BYTES>': 10 is not in 65536..=268435456"),
+    ("HOST=mx.example\nMESSAGE_LIMIT=10", "error: invalid value '10' for '--message-limit <BYTES>':"),
 ]
 
 
@@ -48,7 +48,7 @@ def words_of_the_service(_folder):
             service.restart(may_fail=True)
             service.wait(lambda: service.told("ActiveState") == "failed")
             equal((text, service.told("ExecMainStatus")), (text, "2"))
-            assert line in [said.strip() for said in service.lines()[-20:]], (line, service.lines()[-20:])
+            assert any(said.startswith(line) for said in service.lines()[-20:]), (line, service.lines()[-20:])
 
 
 @case
@@ -82,7 +82,8 @@ def another_folder(_folder):
         type_lines(lines_of("SETUP.md", "### Another folder"))
         equal(deliver_one(service.address, ["anna"], "hello"), [stored("anna")])
         equal([path.name for path in pathlib.Path("/srv/mail").glob("*.mbox")], ["anna.mbox"])
-        type_lines("rm /etc/systemd/system/lmtpd.service.d/folder.conf; systemctl daemon-reload; systemctl restart lmtpd")
+        type_lines("rm /etc/systemd/system/lmtpd.service.d/folder.conf; systemctl daemon-reload")
+        service.restart()
         equal(deliver_one(service.address, ["anna"], "hello"), [not_stored("anna")])
 
 
