@@ -191,7 +191,8 @@ def check_start(folder):
     program.chmod(0o755)
     for given, expected in STARTED:
         for more in [[], ["--check-words"]]:
-            environment = {"PATH": os.environ["PATH"], "RUNTIME_DIRECTORY": "/run/lmtpd", **given}
+            # more folders than its own where a site's drop-in has some
+            environment = {"PATH": os.environ["PATH"], "RUNTIME_DIRECTORY": "/run/lmtpd:/run/other", **given}
             words = ["sh", f"{room}{prefix}/lib/lmtpd/start", *more]
             # a folder with files that a shell would find
             status, said = said_by(*words, env=environment, cwd=folder)

@@ -18,13 +18,13 @@ ALL = """
 HOST="one.example"
 DOMAINS=two.example,three.example
 MESSAGE_LIMIT=70000
-DELIMITER='-'
+DELIMITER='#'
 BOXES=anna ben
 FOLDER=/var/mail/lmtpd
 OPTIONS=--lanes 8   --quota 1000000
 """
 MANY = ["--host", "one.example", "--listen", "inherited", "--dir", "/var/mail/lmtpd"]
-MANY += ["--domains", "two.example,three.example", "--message-limit", "70000", "--recipient-delimiter", "-"]
+MANY += ["--domains", "two.example,three.example", "--message-limit", "70000", "--recipient-delimiter", "#"]
 # What ends the server with status 2, and what the journal has then.
 REFUSED = [
     ("HOST=", "error: the following required arguments were not provided:"),
