@@ -7,14 +7,14 @@ TEXTS := crates/lmtpd_words/src/texts.rt
 
 .PHONY: rehearse toolchain build install deb check test real wrong-bodies benchmarks
 
-# One conversation: the replies, and then the mailbox. Where no proved program stands yet, the sources are run with
-# checks, unproved.
+# One conversation: the replies, and then the mailbox. Where no proved program stands yet, the sources of a rehearsal are
+# run with checks, unproved.
 rehearse:
 	@if [ -x $(PROGRAM) ]; then \
 	    ./$(PROGRAM) $$(cat crates/lmtpd/args) < crates/lmtpd/stdin; \
 	else \
 	    echo 'make rehearse: no proved program is built yet (make build); this one runs with checks, unproved' >&2; \
-	    cd crates/lmtpd && rt try -- $$(cat args) < stdin; \
+	    building/rehearse.sh < crates/lmtpd/stdin; \
 	fi
 
 # Has the program's version name the toolchain that is here, as `rt version` does. It says so where it changed the file,

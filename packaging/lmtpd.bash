@@ -1,11 +1,12 @@
 # What bash completes of the words of lmtpd.
 _lmtpd() {
-    local serve rehearse check word=${COMP_WORDS[COMP_CWORD]} before=${COMP_WORDS[COMP_CWORD - 1]}
+    local serve rehearse check copy word=${COMP_WORDS[COMP_CWORD]} before=${COMP_WORDS[COMP_CWORD - 1]}
     serve='--host --listen --dir --domains --recipient-delimiter --message-limit --lanes --blocks --capacity --reads'
     serve+=' --timeout --session-time --log --log-addresses --quota --lock-wait --mailbox-mode'
     serve+=' --socket-mode --connections --stop-file --heal --start-anyway --check-words --boxes --help'
     rehearse='--host --time --domains --recipient-delimiter --message-limit --blocks --quota --boxes --help'
     check='--help'
+    copy='--help'
     COMPREPLY=()
     if [ "$before" = --dir ]; then
         compopt -o dirnames
@@ -16,14 +17,15 @@ _lmtpd() {
     elif [ "$before" = --recipient-delimiter ]; then
         mapfile -t COMPREPLY < <(compgen -W '+ - = # ~' -- "$word")
     elif [ "$COMP_CWORD" = 1 ]; then
-        mapfile -t COMPREPLY < <(compgen -W 'serve rehearse check help --help --version' -- "$word")
+        mapfile -t COMPREPLY < <(compgen -W 'serve rehearse check copy help --help --version' -- "$word")
     elif [[ $word = -* ]]; then
         case ${COMP_WORDS[1]} in
         serve) mapfile -t COMPREPLY < <(compgen -W "$serve" -- "$word") ;;
         rehearse) mapfile -t COMPREPLY < <(compgen -W "$rehearse" -- "$word") ;;
         check) mapfile -t COMPREPLY < <(compgen -W "$check" -- "$word") ;;
+        copy) mapfile -t COMPREPLY < <(compgen -W "$copy" -- "$word") ;;
         esac
-    elif [ "${COMP_WORDS[1]}" = check ]; then
+    elif [ "${COMP_WORDS[1]}" = check ] || [ "${COMP_WORDS[1]}" = copy ]; then
         compopt -o default
     fi
 }

@@ -1,12 +1,13 @@
 #!/usr/bin/env bash
 # Lack of memory and of threads is answered by its own line, and nothing is lost by it: refuses each allocation and each
 # thread of a rehearsal for two recipients, of one for one recipient, of one whose second mailbox a file names, of a
-# server of two lanes and two mailboxes, and of a check of files in turn (tests/memory/refuse.c, preloaded), once that
-# one alone and once all later ones too, until a run ends well. A refused run says `lmtpd: memory`, or `lmtpd: no
-# thread` where a thread or its start's memory was refused, and ends with status 1. Without memory a rehearsal has read
-# nothing, a check has said nothing, a server has taken no data, and no mailbox has a byte; without a thread each letter
-# that a lane which had started told Stored lies in its mailbox, and no other. One refusal alone may be made good: a
-# list that may not grow by half asks for just what it needs. LMTPD names a program that is built already.
+# server of two lanes and two mailboxes, and of a check of files and a copy of one in turn (tests/memory/refuse.c,
+# preloaded), once that one alone and once all later ones too, until a run ends well. A refused run says
+# `lmtpd: memory`, or `lmtpd: no thread` where a thread or its start's memory was refused, and ends with status 1.
+# Without memory a rehearsal has read nothing, a check has said nothing, a copy has made nothing, a server has taken no
+# data, and no mailbox has a byte; without a thread each letter that a lane which had started told Stored lies in its
+# mailbox, and no other. One refusal alone may be made good: a list that may not grow by half asks for just what it
+# needs. LMTPD names a program that is built already.
 set -euo pipefail
 cd "$(dirname "$0")/.."
 . tests/needs cc python3

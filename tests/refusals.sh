@@ -117,6 +117,13 @@ try 2 clap "${good[@]}" --host mx.example anna
 try 2 clap "${good[@]}" $'\xff'
 try 2 clap check
 try 2 clap check --quota 1 anna.mbox
+try 2 clap copy
+try 2 clap copy anna.mbox
+try 2 clap copy anna.mbox to more
+try 2 clap copy --lock-wait 10 anna.mbox to
+try 2 clap copy anna.mbox $'\xff'
+try 1 'lmtpd: cannot read /nowhere/anna.mbox' copy /nowhere/anna.mbox "$folder/copy"
+try 1 'lmtpd: cannot read /dev/null' copy /dev/null "$folder/copy"
 try 2 clap "${good[@]}" --log info anna
 try 2 clap check --log info anna.mbox
 try 2 clap "${serve[@]}" --dir '' anna
@@ -158,6 +165,8 @@ try 0 none --version
 try 0 none -V
 try 0 none help
 try 0 none rehearse --help
+try 0 none copy --help
+try 0 none help copy
 try 0 none serve --help
 try 0 none check --help
 try 0 none help serve

@@ -1,4 +1,4 @@
-"""Refuses each allocation and each thread of a rehearsal, a server and a check in turn, for tests/no_memory.sh."""
+"""Refuses each allocation and each thread of a rehearsal, a server, a check and a copy in turn, for tests/no_memory.sh."""
 
 import os
 import pathlib
@@ -147,6 +147,23 @@ def check(refusing):
     return what
 
 
+def copy(refusing):
+    with tempfile.TemporaryDirectory() as folder:
+        mailbox, to = pathlib.Path(folder, "anna.mbox"), pathlib.Path(folder, "copy")
+        mailbox.write_bytes(b"From a\n\n")
+        process = refusing.start(["copy", str(mailbox), str(to)])
+        output, errors = process.communicate(timeout=SECONDS)
+        names = sorted(path.name for path in pathlib.Path(folder).iterdir())
+    ended, what = (process.returncode, output, errors), refusing.refused()
+    if is_refused(what, ended, refusing.is_all):
+        check_refused(what, ended, [b""])
+        if names != ["anna.mbox"]:
+            raise Wrong(f"lack of memory, and yet {names}")
+    elif ended != (0, b"", b"") or names != ["anna.mbox", "copy"]:
+        raise Wrong(f"not refused: {ended!r:.300}, {names}")
+    return what
+
+
 def check_kept(errors, heard, files):
     """Nothing was taken; where a lane had started before a thread was refused, its clients are served: as many letters
     lie in the mailboxes as were told Stored."""
@@ -197,6 +214,7 @@ try:
         in_turn("serve, a mailbox that can't be opened", serve_anyway, is_all)
         in_turn("serve, a name that can't be used", check_words, is_all)
         in_turn("check", check, is_all)
+        in_turn("copy", copy, is_all)
 except Wrong as wrong:
     tell("refused in turn", "FAILED", str(wrong))
 sys.exit(0 if none_failed() else 1)

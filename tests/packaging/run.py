@@ -44,7 +44,7 @@ def completed(line):
 
 
 def check_words():
-    for command, letter in [("serve", "s"), ("rehearse", "r"), ("check", "c")]:
+    for command, letter in [("serve", "s"), ("rehearse", "r"), ("check", "c"), ("copy", "c")]:
         told, listed = help_of(command), options_of_page(letter)
         expected = set(told) - {"--help"}
         assert set(listed) == expected, (command, set(listed) ^ expected)
@@ -57,7 +57,7 @@ def check_words():
         synopsis = PAGE.split(f".Cm {command}\n")[1].split(".Nm")[0].split(".Sh")[0]
         assert set(re.findall(r"Fl -([a-z-]+)", synopsis)) == {name[2:] for name in expected}, command
     assert set(help_of("")) == {"--help", "--version"}
-    assert completed("lmtpd ") == {"serve", "rehearse", "check", "help", "--help", "--version"}
+    assert completed("lmtpd ") == {"serve", "rehearse", "check", "copy", "help", "--help", "--version"}
     assert completed("lmtpd s") == {"serve"}
     assert completed("lmtpd serve --log ") == {"off", "error", "info"}
     assert completed("lmtpd serve --log i") == {"info"}
@@ -145,7 +145,8 @@ def check_instances(unit, units):
         "Also=lmtpd@%i.socket",
     ]:
         assert line in instance.splitlines(), line
-    own = ["EnvironmentFile=/usr/lib/lmtpd/instance.conf", "EnvironmentFile=-/etc/lmtpd/%i.conf", "Environment=INSTANCE=%i"]
+    own = ["/usr/lib/lmtpd/instance.conf", "-/etc/lmtpd/%i.conf"]
+    own = [*(f"EnvironmentFile={path}" for path in own), "Environment=INSTANCE=%i"]
     assert "\n".join(["EnvironmentFile=/etc/lmtpd.conf", *own, ""]) in instance, instance
     assert "/run/lmtpd/" not in instance and "lmtpd.socket" not in instance, instance
     socket = (units / "lmtpd@.socket").read_text().splitlines()
@@ -190,7 +191,8 @@ def check_start(folder):
     program.chmod(0o755)
     for given, expected in STARTED:
         for more in [[], ["--check-words"]]:
-            environment = {"PATH": os.environ["PATH"], "RUNTIME_DIRECTORY": "/run/lmtpd", **given}
+            # more folders than its own where a site's drop-in has some
+            environment = {"PATH": os.environ["PATH"], "RUNTIME_DIRECTORY": "/run/lmtpd:/run/other", **given}
             words = ["sh", f"{room}{prefix}/lib/lmtpd/start", *more]
             # a folder with files that a shell would find
             status, said = said_by(*words, env=environment, cwd=folder)

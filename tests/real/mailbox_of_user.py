@@ -9,9 +9,9 @@ from clients import deliver_one
 from in_a_machine import in_a_machine
 from packages import need_root
 from pages import lines_of, type_lines
-from readers_delete import FORMAIL, MUTT, ByFormail, ByMutt, ByPython
+from readers_delete import FORMAIL, MAILX, MUTT, ByFormail, ByMailx, ByMutt, ByPython
 from replies import stored
-from server import Server
+from server import Server, run
 from service import FOLDER
 
 ANNA = {"user": "anna", "group": "anna", "extra_groups": []}
@@ -50,6 +50,29 @@ def hers_with_mutt(folder):
 
 
 @case
+@in_a_machine(*MAILX)
+def hers_with_mailx(folder):
+    """a mailbox of mode 0660 that is anna's and of group mail, by the typed lines: the service delivers, and mail
+    (bsd-mailx) as anna saves and deletes; owner and mode stay"""
+    beside = BesideAnna(folder)
+    beside.judge_hers(beside.run({"mailx": ByMailx(beside)}, seconds=SECONDS))
+
+
+@case
+@in_a_machine(*MAILX)
+def mailx_with_a_path(folder):
+    """mail -f (bsd-mailx) deletes from a mailbox whose lock file another process has: it takes no lock"""
+    with BesideAnna(folder).service(1) as service:
+        for number in range(2):
+            equal(deliver_one(service.address, ["anna"], f"Subject: {number}", "", "hello"), [stored("anna")])
+        service.lock_file("anna").write_text(str(os.getpid()))
+        words = ["su", "anna", "-c", f"bsd-mailx -n -N -f {service.mailbox('anna')}"]
+        subprocess.run(words, input=b"delete 1\nquit\n", check=True, timeout=20, capture_output=True)
+        equal(run(["check", service.mailbox("anna")]).said, [f"{service.mailbox('anna')} letters 1"])
+        service.lock_file("anna").unlink()
+
+
+@case
 @in_a_machine(*FORMAIL)
 def hers_with_lockfile(folder):
     """a mailbox of mode 0660 that is anna's and of group mail, by the typed lines: the service delivers, and two
@@ -80,7 +103,14 @@ def a_lock_that_she_left(folder):
         equal(lock.exists(), False)
 
 
-for one in [hers_with_mutt, hers_with_lockfile, hers_with_python, a_lock_that_she_left]:
+for one in [
+    hers_with_mutt,
+    hers_with_mailx,
+    mailx_with_a_path,
+    hers_with_lockfile,
+    hers_with_python,
+    a_lock_that_she_left,
+]:
     one.seconds = SECONDS + 180
 
 

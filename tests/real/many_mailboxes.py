@@ -1,5 +1,6 @@
 """More mailboxes than one server has: the recipe of docs/operating/SETUP.md, where the first process is systemd."""
 
+import re
 import time
 
 from cases import case, equal
@@ -36,12 +37,22 @@ def instances_of_the_service(folder):
             equal((line, there.run(line)[0]), (line, 0))
         deliver(there, "second", ["frieda", "carla"])
         equal(there.run("postqueue -p")[1], "Mail queue is empty\n")
+        look_at_all(there)
         equal(there.run("echo Dora > /etc/lmtpd/c.boxes; " + recipe()[1])[0], 1)
         log = there.run("journalctl -u lmtpd@b --no-pager")[1]
         equal(("b0 stored 1" in log, "a0 stored" in log), (True, False))
 
 
 instances_of_the_service.seconds = 240
+
+
+def look_at_all(there):
+    """What docs/operating/TROUBLE.md has in the place of one server's unit and socket."""
+    unit, socket = re.findall(r"`(-u 'lmtpd@\*')`.*`('/\S+\*')`", (ROOT / "docs/operating/TROUBLE.md").read_text())[0]
+    for name in ["a0", "carla"]:
+        said = there.run(f"journalctl {unit} --no-pager -g 'copy answered.* mailbox={name} '")
+        equal((name, said[0], said[1].count("copy answered")), (name, 0, 1))
+    equal(len(there.run(f"ss -Hxl src {socket}")[1].splitlines()), 3)
 
 
 def recipe():

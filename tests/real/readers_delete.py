@@ -12,9 +12,11 @@ from beside import SECONDS, SUBJECT, Beside, reader_of, split, whole_of
 from cases import case, equal
 from dovecot import NEEDS, Dovecot
 from in_a_machine import in_a_machine
+from machine import PATH
 from mutt import Mutt
 from packages import program
 
+MAILX = [("bsd-mailx", "bsd-mailx")]
 MUTT, FORMAIL = [("mutt", "mutt")], [("formail", "procmail"), ("lockfile", "procmail")]
 LOCKS = ["mbox_read_locks = fcntl", "mbox_write_locks = fcntl dotlock"]  # Debian's
 # Of 150 letters, from its reader's first one on, it cuts those of that reader, and writes a new mailbox in its place.
@@ -85,6 +87,28 @@ class ByMuttBesideOthers(ByMutt):
         own = {one for one in whole_of(saved) if reader_of(one) == who and not self.beside.deleted[one]}
         self.beside.misread[who] += len(split(saved)) - len(own)
         return list(own)
+
+
+class ByMailx:
+    """`mail` (bsd-mailx) of a user whose MAIL names the mailbox: what it saves elsewhere it deletes as it leaves."""
+
+    def __init__(self, beside):
+        self.beside, self.command = beside, program("bsd-mailx", "bsd-mailx")
+        self.saved = beside.home / "saved"
+
+    def __call__(self, who):
+        while not self.beside.path.exists():
+            time.sleep(0.05)
+        environment = {"PATH": PATH, "HOME": str(self.beside.home), "MAIL": str(self.beside.path), "USER": "anna"}
+        keys = f"set hold\nsave /for-{who} {self.saved}\nquit\n"
+        words = [self.command, "-n", "-N"]
+        ends = {"stdout": subprocess.PIPE, "stderr": subprocess.STDOUT, "env": environment}
+        subprocess.run(words, input=keys.encode(), timeout=100, **ends, **self.beside.how)
+        found = self.saved.read_bytes() if self.saved.exists() else b""
+        self.saved.unlink(missing_ok=True)
+        time.sleep(0.5)
+        asked = [one for one in subjects_of(found) if reader_of(one) == who]
+        return self.beside.look(asked) if asked else []
 
 
 class ByFormail:

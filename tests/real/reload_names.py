@@ -35,8 +35,8 @@ REFUSED = [
 @case
 @in_a_machine()
 def new_names(_folder):
-    """systemctl reload of the installed service, and of an instance: a new name takes mail, nobody is refused meanwhile,
-    and a script that adds one after the other has them all"""
+    """systemctl reload of the installed service, and of an instance: a new name takes mail, nobody is refused
+    meanwhile, and a script that adds one after the other has them all"""
     one, two = Service([]), Service(["anna"], name="a")
     CONF.write_text(WORDS)
     for service, boxes in [(one, BOXES), (two, pathlib.Path("/etc/lmtpd/a.boxes"))]:

@@ -7,7 +7,7 @@ from cases import case, equal
 from clients import deliver_one
 from in_a_machine import in_a_machine
 from pages import lines_of, type_lines
-from replies import stored
+from replies import not_stored, stored
 from service import CONF, Service, systemctl
 
 FIXED = ["--stop-file", "/run/lmtpd/stop", "--heal", "--start-anyway", "--log", "info"]
@@ -18,20 +18,20 @@ ALL = """
 HOST="one.example"
 DOMAINS=two.example,three.example
 MESSAGE_LIMIT=70000
-DELIMITER='-'
+DELIMITER='#'
 BOXES=anna ben
 FOLDER=/var/mail/lmtpd
 OPTIONS=--lanes 8   --quota 1000000
 """
 MANY = ["--host", "one.example", "--listen", "inherited", "--dir", "/var/mail/lmtpd"]
-MANY += ["--domains", "two.example,three.example", "--message-limit", "70000", "--recipient-delimiter", "-"]
+MANY += ["--domains", "two.example,three.example", "--message-limit", "70000", "--recipient-delimiter", "#"]
 # What ends the server with status 2, and what the journal has then.
 REFUSED = [
     ("HOST=", "error: the following required arguments were not provided:"),
     ("HOST=mx.example\nDOMAINS=a_b", "lmtpd: bad domain"),
     ("HOST=mx.example\nBOXES=", "lmtpd: no box"),
     ("HOST=mx.example\nOPTIONS=--no-such-word", "error: unexpected argument '--no-such-word' found"),
-    ("HOST=mx.example\nMESSAGE_LIMIT=10", "error: invalid value '10' for '--message-limit <BYTES>': 10 is not in 65536..=268435456"),
+    ("HOST=mx.example\nMESSAGE_LIMIT=10", "error: invalid value '10' for '--message-limit <BYTES>':"),
 ]
 
 
@@ -48,7 +48,7 @@ def words_of_the_service(_folder):
             service.restart(may_fail=True)
             service.wait(lambda: service.told("ActiveState") == "failed")
             equal((text, service.told("ExecMainStatus")), (text, "2"))
-            assert line in [said.strip() for said in service.lines()[-20:]], (line, service.lines()[-20:])
+            assert any(said.startswith(line) for said in service.lines()[-20:]), (line, service.lines()[-20:])
 
 
 @case
@@ -71,6 +71,20 @@ def words_of_instances(_folder):
             words = [stop_file if word == "/run/lmtpd/stop" else word for word in FIXED]
             own = [word for word in words_of(service) if word not in words]
             equal(own, ["serve", "--host", host, *OLD[2:], *expected])
+
+
+@case
+@in_a_machine()
+def another_folder(_folder):
+    """another folder for the installed service by the typed lines of docs/operating/SETUP.md; without systemd's part of
+    them each copy is told 451"""
+    with Service(["anna"]) as service:
+        type_lines(lines_of("SETUP.md", "### Another folder"))
+        equal(deliver_one(service.address, ["anna"], "hello"), [stored("anna")])
+        equal([path.name for path in pathlib.Path("/srv/mail").glob("*.mbox")], ["anna.mbox"])
+        type_lines("rm /etc/systemd/system/lmtpd.service.d/folder.conf; systemctl daemon-reload")
+        service.restart()
+        equal(deliver_one(service.address, ["anna"], "hello"), [not_stored("anna")])
 
 
 # Of each page that says a word of the service by lines to type: the heading below which these stand, and the words.
@@ -98,7 +112,7 @@ def no_recipe_drops_a_word(_folder):
         assert "\nhello\n" in pathlib.Path("/srv/mail/anna.mbox").read_text()
 
 
-for one in [words_of_the_service, words_of_instances, no_recipe_drops_a_word]:
+for one in [words_of_the_service, words_of_instances, another_folder, no_recipe_drops_a_word]:
     one.seconds = 180
 
 

@@ -1,5 +1,5 @@
-"""What docs/operating/TROUBLE.md has an administrator watch, typed as it stands, of a service that is in order and of one
-that isn't."""
+"""What docs/operating/TROUBLE.md has an administrator watch, typed as it stands, of a service that is in order and of
+one that isn't."""
 
 import contextlib
 import re
@@ -20,8 +20,8 @@ LANES = 4
 @case
 @in_a_machine()
 def what_to_watch(_folder):
-    """what docs/operating/TROUBLE.md has one watch, typed as it stands: of a service in order, one whose lanes are held,
-    a mailbox in use, and one with a word that is wrong"""
+    """what docs/operating/TROUBLE.md has one watch, typed as it stands: of a service in order, one whose lanes are
+    held, a mailbox in use, and one with a word that is wrong"""
     type_lines(lines_of("TROUBLE.md", HEADING))
     with Service(["anna"], "--lock-wait", 0) as service:
         equal(deliver_one(service.address, ["anna"], "hello"), [stored("anna")])

@@ -1,6 +1,5 @@
-"""Debian's Postfix beside the service as it is installed, set up by the lines of docs/operating/SETUP.md as they stand."""
+"""Debian's Postfix beside the service as it is installed, by the lines of docs/operating/SETUP.md as they stand."""
 
-import pathlib
 import re
 import subprocess
 import time
@@ -9,7 +8,7 @@ from cases import case, equal
 from in_a_machine import in_a_machine
 from pages import lines_of, type_lines
 from server import run
-from service import Service, systemctl
+from service import Service
 
 NAMES = ["anna", "ben"]
 SITE = """
@@ -22,7 +21,8 @@ systemctl restart postfix
 @case
 @in_a_machine()
 def aliases(_folder):
-    """Postfix by the typed lines of 'Aliases': two domains in which info isn't the same user's, a catch-all, postmaster"""
+    """Postfix by the typed lines of 'Aliases': two domains in which info isn't the same user's, a catch-all and
+    postmaster"""
     with Service(NAMES) as service:
         type_lines(SITE + lines_of("SETUP.md", "### Aliases"))
         for address in ["postmaster@mx", "info@mx", "info@two", "anna@two", "anyone@two"]:
@@ -38,7 +38,8 @@ def users_of_the_system(_folder):
     without a mailbox goes back"""
     with Service(NAMES) as service:
         type_lines(SITE)
-        type_lines("for name in anna ben carla; do useradd --create-home $name; done; echo anna@mx.example > /home/ben/.forward")
+        type_lines("for name in anna ben carla; do useradd --create-home $name; done")
+        type_lines("echo anna@mx.example > /home/ben/.forward")
         type_lines(lines_of("SETUP.md", "### Users of the system"))
         for address in ["anna@mx.example", "anna@localhost", "root@localhost", "ben@mx.example", "carla@mx.example"]:
             send(address)
@@ -50,8 +51,8 @@ def users_of_the_system(_folder):
 @case
 @in_a_machine()
 def recipients_of_letters(_folder):
-    """Postfix by the typed lines of 'The recipient in each letter': Delivered-To and X-Original-To, a letter handed over
-    once for each recipient, and none without the limit of one"""
+    """Postfix by the typed lines of 'The recipient in each letter': Delivered-To and X-Original-To, a letter handed
+    over once for each recipient, and one for several put off without the limit of one"""
     with Service(NAMES) as service:
         type_lines(SITE + lines_of("SETUP.md", "### Aliases"))
         send("anna@mx.example", "ben@mx.example", subject="before")
@@ -73,8 +74,8 @@ def recipients_of_letters(_folder):
 @case
 @in_a_machine()
 def letters_as_written(_folder):
-    """Postfix by the typed lines of 'Letters as their senders wrote them': a head in UTF-8, a long line, and no lines by
-    which programs mark letters"""
+    """Postfix by the typed lines of 'Letters as their senders wrote them': a head in UTF-8, a long line, and no lines
+    by which programs mark letters"""
     long = "x" * 5000
     marks = [f"{name}: 1" for name in ["Status", "X-Status", "X-Keywords", "X-UID", "X-IMAP", "X-IMAPbase"]]
     with Service(NAMES) as service:

@@ -6,6 +6,7 @@ import boxes  # noqa: F401  (each adds its cases)
 import changed  # noqa: F401
 import closed  # noqa: F401
 import conversations  # noqa: F401
+import copies  # noqa: F401
 import deliveries  # noqa: F401
 import ends  # noqa: F401
 import failing  # noqa: F401

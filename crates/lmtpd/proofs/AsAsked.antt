@@ -60,7 +60,7 @@ pub served_as_asked : (L C E : Type 0) {G S : Type 0} (told : G → Option (List
     → IsServerRun L C E site state told (record { lanes = words.lanes; capacity = sizes.capacity; quota = sizes.quota }) spools served
     → IsServedAsAsked L C E told state words served
 served_as_asked L C E told state words served site sizes spools serves address made asked boxes good ran = record {
-  served = serves;
+  serves = serves;
   listen_address = address;
   sound = made.1;
   sizes = size_asked words site sizes (length spools) made.0 asked boxes

@@ -106,7 +106,7 @@ IsSizeAsked words =
 -- each mailbox.
 pub record IsServedAsAsked (L C E : Type 0) {G S : Type 0} (told : G → Option (List Entry)) (state : S → SpoolState)
     (words : ServeWords) (served : ServedRun) : Type 0 where
-  pub served : words.check_words ≡ false
+  pub serves : words.check_words ≡ false
   pub listen_address : IsListenAddress words.listen.now
   pub sound : first_fault (named_site words.site) ≡ None
   pub sizes : IsSizeAsked words
