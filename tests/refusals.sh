@@ -82,9 +82,12 @@ try 0 none "${good[@]}" --boxes="$two" carl
 try 1 'lmtpd: cannot open anna.mbox' "${serve[@]}" --dir /nowhere --boxes "$two"
 try 1 'lmtpd: cannot open carl.mbox' "${serve[@]}" --dir /nowhere --boxes "$two" carl
 try 2 'lmtpd: bad host' rehearse --host mx_example --time 0 --boxes "$two"
-for text in 'Anna' 'anna ben' '.anna' 'anna,ben' 'an\0na' 'anna\0' '\xef\xbb\xbfanna' 'anna;ben' '-- anna'; do
+long=$(printf '%010000d' 0)
+for text in Anna 'anna ben' .anna anna,ben 'an\0na' 'anna\0' '\xef\xbb\xbfanna' 'anna;ben' '-- anna' '\xff' 'an\xffna' "$long"; do
     try 2 'lmtpd: bad box' "${good[@]}" --boxes "$(lists "ben\n$text\n")"
+    try 2 'lmtpd: bad box' "${serve[@]}" --dir /nowhere --boxes "$(lists "ben\n$text\n")"
 done
+try 0 none "${good[@]}" --boxes "$(lists 'anna # \xff')"
 try 2 'lmtpd: bad box' "${good[@]}" --boxes "$(lists 'anna\nanna\n')" Anna
 try 2 'lmtpd: box named twice' "${good[@]}" --boxes "$(lists 'anna\nanna\n')"
 try 2 'lmtpd: box named twice' "${good[@]}" --boxes "$two" ben
@@ -99,7 +102,7 @@ try 2 'lmtpd: bad box' "${good[@]}" --boxes "$large"
 large=$(lists "anna #$(printf '%065530d' 0)")
 try 0 none "${good[@]}" --boxes "$large"
 echo >> "$large"
-for file in "$missing" '' / "$folder" "$folder/pipe" /dev/null /dev/zero "$large" "$(lists 'anna # \xff')"; do
+for file in "$missing" '' / "$folder" "$folder/pipe" /dev/null /dev/zero "$large"; do
     try 1 "lmtpd: cannot read $file" "${good[@]}" --boxes "$file"
     try 1 "lmtpd: cannot read $file" "${serve[@]}" --dir /nowhere --boxes "$file" anna
 done
@@ -131,6 +134,15 @@ try 2 clap "${serve[@]}" --dir /nowhere --heal=yes anna
 try 2 clap "${serve[@]}" --dir /nowhere --heal --heal anna
 try 2 clap "${serve[@]}" --dir /nowhere --start-anyway=yes anna
 try 2 clap "${serve[@]}" --dir /nowhere --start-anyway --start-anyway anna
+try 2 clap "${serve[@]}" --dir /nowhere --check-words=yes anna
+try 2 clap "${serve[@]}" --dir /nowhere --check-words --check-words anna
+try 2 clap "${good[@]}" --check-words anna
+try 2 clap check --check-words anna.mbox
+try 0 none "${serve[@]}" --dir /nowhere --check-words anna
+try 0 none "${serve[@]}" --dir /nowhere --check-words --boxes "$two"
+try 1 "lmtpd: cannot read $missing" "${serve[@]}" --dir /nowhere --check-words --boxes "$missing" Anna
+try 2 'lmtpd: no box' "${serve[@]}" --dir /nowhere --check-words
+try 2 $'[ERROR lmtpd] bad box name=Anna\nlmtpd: bad box' "${serve[@]}" --dir /nowhere --check-words Anna
 try 2 clap "${serve[@]}" --dir /nowhere --log-addresses=yes anna
 try 2 clap "${serve[@]}" --dir /nowhere --log-addresses --log-addresses anna
 for word in --heal --start-anyway --log-addresses --stop-file=stop --socket-mode=0660 --session-time=9 --connections=9; do

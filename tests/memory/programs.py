@@ -116,6 +116,23 @@ def serve(refusing, more=("anna", "ben"), counted=COUNTED):
     return what
 
 
+def check_words(refusing):
+    """A name of the file can't be used, and a line says which."""
+    with tempfile.NamedTemporaryFile() as boxes:
+        boxes.write(b"# one more\nAnna\n")
+        boxes.flush()
+        words = ["serve", "--host", "mx.example", "--listen", "127.0.0.1:0", "--dir", "/nowhere", "--check-words"]
+        process = refusing.start([*words, "--boxes", boxes.name, "ben"])
+        output, errors = process.communicate(timeout=SECONDS)
+    ended, what = (process.returncode, output, errors), refusing.refused()
+    said = f"[ERROR lmtpd] bad box name=Anna file={boxes.name} line=2\nlmtpd: bad box\n".encode()
+    if what and (refusing.is_all or ended[0] != 2):
+        check_refused(what, ended, [b""])
+    elif ended != (2, b"", said):
+        raise Wrong(f"not refused: {ended!r:.300}")
+    return what
+
+
 def check(refusing):
     with tempfile.TemporaryDirectory() as folder:
         mailbox = pathlib.Path(folder, "anna.mbox")
@@ -178,6 +195,7 @@ try:
         in_turn("rehearse, a mailbox of a file", rehearse_listed, is_all)
         in_turn("serve", serve, is_all)
         in_turn("serve, a mailbox that can't be opened", serve_anyway, is_all)
+        in_turn("serve, a name that can't be used", check_words, is_all)
         in_turn("check", check, is_all)
 except Wrong as wrong:
     tell("refused in turn", "FAILED", str(wrong))

@@ -21,6 +21,7 @@ import odd_clients  # noqa: F401
 import opensmtpd_delivers  # noqa: F401
 import other_mailboxes  # noqa: F401
 import postfix_delivers  # noqa: F401
+import postfix_restarts  # noqa: F401
 import power_cut  # noqa: F401
 import quota_emptied  # noqa: F401
 import read_only  # noqa: F401
@@ -32,6 +33,7 @@ import reload_names  # noqa: F401
 import several_servers  # noqa: F401
 import start_fails  # noqa: F401
 import site_mailboxes  # noqa: F401
+import site_that_grows  # noqa: F401
 import soak  # noqa: F401
 import ten_lines  # noqa: F401
 import torn_writes_read  # noqa: F401

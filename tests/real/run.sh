@@ -6,9 +6,10 @@
 # Debian), and else the case is left out, and that is said. It prints one line a case (ok, FAILED or absent) and their
 # count, and fails where a case does; a case has a minute, and some have more, a quarter of an hour at most. It is no
 # part of the gate, since it needs root and packages. Where SOAK_GRAPHS names a folder, the cases of a million
-# deliveries draw the server's memory there; RESTARTS is how many restarts a server has beside clients, 100 without it;
-# READERS_SECONDS how long readers delete, 60 without it; LETTERS_UNDER_THE_UNIT how many letters come beside a Dovecot
-# that takes the lock file, 3,000 without it.
+# deliveries draw the server's memory there; RESTARTS is how many restarts a server has beside clients, 100 without it,
+# and POSTFIX_RESTARTS how many beside Postfix with letters of each size, 30 without it; READERS_SECONDS how long
+# readers delete, 60 without it; LETTERS_UNDER_THE_UNIT how many letters come beside a Dovecot that takes the lock file,
+# 3,000 without it.
 #
 # A case of what a service does runs the unit of `make deb` as it is installed, in a machine of its own whose first
 # process is systemd (in_a_machine.py, service.py; debian.py; with `make install` those that type SETUP's ten lines). By

@@ -1,18 +1,16 @@
 """What ends the server though its clients aren't done, and what ends a conversation."""
 
-import fcntl
 import resource
 import signal
 import threading
 import time
 
 import failing
-import letters
 from cases import case, equal
 from clients import Client, deliver_one
 from inherited import Inheriting, passed
 from replies import STOPPING, not_stored, stored
-from restarts import MANY, asked_to_stop, ended_in_time, restart_under_load
+from restarts import MANY, SECONDS_ALONE, asked_to_stop, ended_in_time, restart_under_load
 from server import Server, run, words
 
 STORED, NOT_STORED = stored("anna"), not_stored("anna")
@@ -31,7 +29,7 @@ def a_stop_file_ends_an_idle_server(folder):
     """once the stop file is there a server whose lanes wait for clients ends with status 0, and the file stays"""
     with stoppable(folder) as server:
         equal(deliver_one(server.address, ["anna"], "hello"), [STORED])
-        ended = ended_in_time(server, asked_to_stop(folder))
+        ended = ended_in_time(server, asked_to_stop(folder), SECONDS_ALONE)
     equal((ended.status, ended.said, ended.errors), (0, ["anna stored 1"], []))
     equal((folder / "stop").exists(), True)
 
@@ -43,35 +41,6 @@ def a_stop_file_at_the_start(folder):
     given = words(folder, ["anna"], MANY, "--stop-file", folder / "stop")
     ended = run(given)
     equal((ended.status, ended.said[1:], ended.errors), (0, ["anna stored 0"], []))
-
-
-@case
-def a_stop_tells_each_client(folder):
-    """a client that is waited for and one whose data is under way hear 421, and what was told 250 is stored alone"""
-    with stoppable(folder) as server, Client(server.address) as idle, Client(server.address) as sending:
-        idle.greet()
-        sending.greet().start_message("anna", "half a letter")
-        equal(deliver_one(server.address, ["anna"], "hello"), [STORED])
-        since = asked_to_stop(folder)
-        equal((idle.hear(), sending.hear()), (STOPPING, STOPPING))
-        ended = ended_in_time(server, since)
-    equal((ended.status, ended.said), (0, ["anna stored 1"]))
-    equal(letters.messages(server.mailbox("anna")), [b"hello\n"])
-
-
-@case
-def a_stop_ends_the_wait_for_a_lock(folder):
-    """a copy that waits for a mailbox which another program has locked is told 451 once the stop file is there"""
-    with stoppable(folder, "--lock-wait", 60) as server, Client(server.address) as client:
-        with open(server.mailbox("anna"), "rb+") as held:
-            fcntl.lockf(held, fcntl.LOCK_EX)
-            client.greet().start_message("anna", "hello")
-            client.send(".")
-            time.sleep(0.5)
-            since = asked_to_stop(folder)
-            equal((client.hear(), client.hear()), (NOT_STORED, STOPPING))
-            ended = ended_in_time(server, since)
-    equal((ended.status, ended.errors), (0, ["lmtpd: anna in use 1"]))
 
 
 @case

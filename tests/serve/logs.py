@@ -388,8 +388,8 @@ def a_mailbox_that_cannot_be_opened_is_logged(folder):
 
 @case
 def the_journal_is_told_priorities(folder):
-    """where JOURNAL_STREAM names standard error the lines of the log have <3> or <6> before them, else nothing; the
-    program's own lines never have"""
+    """where JOURNAL_STREAM names standard error the lines of the log have <3> or <6> before them, and what ends the
+    program with status 1 or 2 has <3>, each line of clap's too; else nothing has"""
     refusal = f"[ERROR lmtpd] cannot open mailbox=anna reason={NO_FILE}"
     ends = socket.socketpair()
     with ends[0], ends[1]:
@@ -405,13 +405,35 @@ def the_journal_is_told_priorities(folder):
             for line, told in zip(logged, ["copy answered", "conversation ended"]):
                 assert re.fullmatch(rf"{'<6>' * is_own}\[INFO  lmtpd\] {told} .*", line), line
             logged = journal_lines(folder / "none", ends, name, is_served=False)
-            equal(logged, ["<3>" * is_own + refusal, "lmtpd: cannot open anna.mbox"])
+            equal(logged, ["<3>" * is_own + line for line in [refusal, "lmtpd: cannot open anna.mbox"]])
+            logged = refusal_lines(ends, name, ["serve", "--check-words", *words(folder, ["Anna"], 1)[1:]])
+            told = ["[ERROR lmtpd] bad box name=Anna", "lmtpd: bad box"]
+            equal(logged, ["<3>" * is_own + line for line in told])
+            logged = refusal_lines(ends, name, ["serve", "--shout"])
+            assert len(logged) > 2 and "error: unexpected argument '--shout' found" in logged[0], logged
+            equal([line.startswith("<3>") for line in logged], [is_own] * len(logged))
+            logged = refusal_lines(ends, name, [b"\xff"])
+            equal([line.startswith("<3>") for line in logged], [is_own] * len(logged))
+
+
+def environment(name):
+    """The environment where JOURNAL_STREAM is that."""
+    given = {word: value for word, value in os.environ.items() if word != "JOURNAL_STREAM"}
+    return given | ({"JOURNAL_STREAM": name} if name is not None else {})
+
+
+def refusal_lines(ends, name, given):
+    """What the program says of words that it can't use on the second end of these sockets."""
+    reader, writer = ends
+    process = start(given, writer, env=environment(name))
+    process.communicate(timeout=20)
+    equal(process.returncode, 2)
+    return reader.recv(65_536).decode().splitlines()
 
 
 def journal_lines(folder, ends, name, is_served):
     """What a server says on the second end of these sockets, where JOURNAL_STREAM is that."""
-    given = {word: value for word, value in os.environ.items() if word != "JOURNAL_STREAM"}
-    given |= {"JOURNAL_STREAM": name} if name is not None else {}
+    given = environment(name)
     reader, writer = ends
     if is_served:
         with Server(folder, ["anna"], 1, "--log", "info", errors=writer, env=given) as server:

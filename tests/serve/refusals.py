@@ -131,6 +131,75 @@ def a_file_of_mailboxes(folder):
     equal([path.name for path in folder.iterdir()], ["boxes"])
 
 
+# What a file of mailboxes has, the names among the words before it, and what is said of the name: {} stands for the
+# file's path and the line that follows.
+NAMES = [
+    (None, ["anna", "Frieda"], "bad box name=Frieda"),
+    (b"Anna\n", ["anna", "Frieda"], "bad box name=Frieda"),
+    (b"anna\n# users\n\n \t\nFrieda # the fifth\n", [], "bad box name=Frieda file={} line=5"),
+    (b"anna\r\n\r\nBen\r\n", ["carl"], "bad box name=Ben file={} line=3"),
+    (b"# users\nBen", ["anna"], "bad box name=Ben file={} line=2"),
+    (b"anna\nben\nanna ben\n", [], "bad box name=anna ben file={} line=3"),
+    (b"an\0na\n", [], "bad box name=an%00na file={} line=1"),
+    (b"ben\nj\xf6rg\n", [], "bad box name=j%F6rg file={} line=2"),
+    ("ben\njörg\n".encode(), [], "bad box name=j%C3%B6rg file={} line=2"),
+    (b"a" * 33, [], f"bad box name={'a' * 33} file={{}} line=1"),
+    (b"a" * 60, [], f"bad box name={'a' * 60} file={{}} line=1"),
+    (b"a" * 61, [], f"bad box name={'a' * 60}.. file={{}} line=1"),
+    (b"ben\n" + b"a" * 10_000 + b"\n", [], f"bad box name={'a' * 60}.. file={{}} line=2"),
+    (b"\xff" * 61, [], f"bad box name={'%FF' * 60}.. file={{}} line=1"),
+    (b"anna\nanna\n" + "\n".join(MANY).encode() + b"\nAnna\n", [], "bad box name=Anna file={} line=260"),
+    (None, MANY, "too many boxes name=box256"),
+    (b"# all\n" + "\n".join(MANY).encode(), [], "too many boxes name=box256 file={} line=258"),
+    (b"\nbox1\ncarl\n", MANY[1:], "too many boxes name=box1 file={} line=2"),
+    (None, ["anna", "ben", "anna"], "box named twice name=anna"),
+    (b"ben\nanna\n", ["anna"], "box named twice name=anna file={} line=2"),
+    (b"anna\nben\n# ben\nben\nanna\n", [], "box named twice name=ben file={} line=4"),
+]
+
+
+@case
+def names_that_cannot_be_used_are_said(folder):
+    """a name that can't be used: with --log error or info and with --check-words a line of the log says which, where it
+    stands and at most 60 bytes of it, before the line that was there; without these words no such line"""
+    boxes = folder / "böxes"
+    shown = str(boxes).replace("ö", "%C3%B6")
+    for text, names, said in NAMES:
+        boxes.write_bytes(text or b"")
+        more = ["--boxes", boxes] if text is not None else []
+        line = f"lmtpd: {said.split(' name=')[0]}"
+        named = f"[ERROR lmtpd] {said.format(shown)}"
+        for word in [["--log", "error"], ["--log", "info"], ["--check-words"], ["--check-words", "--log", "off"]]:
+            ended = run(words(folder, names, 1, *more, *word))
+            equal((word, ended.status, ended.errors, ended.said), (word, 2, [named, line], []))
+        for word in [[], ["--log", "off"]]:
+            ended = run(words(folder, names, 1, *more, *word))
+            equal((word, ended.status, ended.errors, ended.said), (word, 2, [line], []))
+    equal([path.name for path in folder.iterdir()], ["böxes"])
+
+
+@case
+def the_words_alone_are_checked(folder):
+    """--check-words: status 0 and no line where each word can be used, whatever the folder and the port; else the line
+    and the status that the server ends with; no file is made, and none of the socket's"""
+    boxes = folder / "boxes"
+    listener, port = taken_port()
+    with listener:
+        for listen in [GOOD, f"127.0.0.1:{port}", f"unix:{folder}/socket", "inherited"]:
+            for place in [folder, folder / "none"]:
+                for more in [[], ["--lanes", 65], ["--log", "info"], ["--stop-file", boxes, "--heal"]]:
+                    ended = run(words(place, ["anna"], 1, *more, "--check-words", listen=listen))
+                    equal(vars(ended), {"status": 0, "said": [], "errors": []})
+    for status, line, host, listen, more, names in ROWS:
+        ended = run(words(folder, names, 1, *more, "--check-words", listen=listen, host=host))
+        equal((ended.status, ended.errors[-1:], ended.said), (status, [f"lmtpd: {line}"], []))
+    expects(words(folder, ["Anna"], 1, "--boxes", boxes, "--check-words"), 1, f"cannot read {boxes}")
+    boxes.write_text("anna # the first\nben\n")
+    ended = run(words(folder / "none", [], 1, "--boxes", boxes, "--check-words"))
+    equal(vars(ended), {"status": 0, "said": [], "errors": []})
+    equal([path.name for path in folder.iterdir()], ["boxes"])
+
+
 @case
 def what_the_machine_refuses(folder):
     """a file, then the port, then a size that can't be used: one line, status 1"""

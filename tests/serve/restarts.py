@@ -14,8 +14,10 @@ SENDERS = 3
 MANY = 1_000_000
 # How long each server serves.
 SERVES = 0.3
-# How long a server may go on once its end was asked for and no mailbox is in a turn.
-SECONDS_TO_END = 3
+# How long a server may go on once its end was asked for and no mailbox is in a turn, and how long where no client is
+# left.
+SECONDS_TO_END = 8
+SECONDS_ALONE = 3
 
 
 def asked_to_stop(folder):
@@ -23,10 +25,10 @@ def asked_to_stop(folder):
     return time.monotonic()
 
 
-def ended_in_time(server, since):
+def ended_in_time(server, since, seconds=SECONDS_TO_END):
     ended = server.end()
     took = time.monotonic() - since
-    assert took < SECONDS_TO_END, took
+    assert took < seconds, took
     return ended
 
 

@@ -7,8 +7,18 @@ import typing
 NOT_TRIED = "not tried"
 NO_SUCH_PATH = 2  # the status of a check that was to look at what isn't there
 STILL_PROVED = "still proved"
-KINDS = ["refused by a goal of its function", "refused elsewhere", "doesn't compile", STILL_PROVED, NOT_TRIED]
+NOT_LOOKED_AT = "not looked at"
+KINDS = [
+    "refused by a goal of its function",
+    "refused elsewhere",
+    "doesn't compile",
+    STILL_PROVED,
+    NOT_TRIED,
+    NOT_LOOKED_AT,
+]
 BAD = KINDS[2:]
+# so the check says that it made no goals of a function: its form isn't covered, or it calls one that has no proof
+NO_GOALS = r"does not cover this function yet|[:;] it calls|which (has no proof|is not proved)"
 # a text that can't be read says nothing of a contract
 UNREAD = r"is not in scope|has no field|is no name|operand is missing|expected the end|cannot continue"
 # nor does a proof that names what the wrong body took away, or what cites such a proof
@@ -34,11 +44,22 @@ class Place(typing.NamedTuple):
 
     def is_refused(self, said):
         """Whether the check found goals of this function that aren't proved. One that calls a function that isn't
-        proved wasn't looked at."""
-        # the name of a trait or a type with parameters goes on
-        within = rf"(\S+::)?{self.owner}\S*" if self.owner else self.module()
-        refused = rf"fn \w+::{within}(::)?{self.name}: (no proof|not proved)(?![:;] it calls)"
-        return bool(self.name) and any(re.match(refused, it) for it in said.splitlines())
+        proved wasn't looked at, nor one of a form that isn't covered."""
+        refused = rf"{self.named_in_a_check()}: (no proof|not proved)"
+        lines = [it for it in said.splitlines() if re.match(refused, it)]
+        return bool(self.name) and any(not re.search(NO_GOALS, it) for it in lines)
+
+    def has_no_goals(self, said):
+        """Whether the check says that it made no goals of this function."""
+        line = rf"{self.named_in_a_check()}: .*({NO_GOALS})"
+        return bool(self.name) and not self.is_refused(said) and any(re.match(line, it) for it in said.splitlines())
+
+    def named_in_a_check(self):
+        """What a check's line on this function begins with, and on no other: the type's name may be followed by its
+        parameters, and so may the trait's, which begin with a sign and have no `::`."""
+        if self.owner:
+            return rf"fn \w+::(\S+::)?{self.owner}([^\w\s:][^\s:]*)?::{self.name}"
+        return "::".join(filter(None, [r"fn \w+", self.module(), self.name]))
 
 
 def function_at(text, line):
@@ -122,6 +143,8 @@ def met(edit, crate, texts, status, said):
     first = next((it for it in found if not re.match(NAMES, it)), "")
     if found and not first:
         return "refused elsewhere", f"by the names in the proof of {refused_at(found[0], crate)}"
+    if any(place.has_no_goals(said) for place in places_of(edit, crate)):
+        return NOT_LOOKED_AT, ", ".join(sorted(changed_by(edit, crate)))
     where = refused_at(first, crate)
     own = where in changed_by(edit, crate)
     return ("refused by a goal of its function", where) if own else ("refused elsewhere", f"by {where}")

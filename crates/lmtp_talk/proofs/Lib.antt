@@ -10,3 +10,4 @@ pub mod Ends
 pub mod Rounds
 pub mod HandedOut
 pub mod Counting
+mod AtRestRows

@@ -1,5 +1,7 @@
 pub mod Entries
 pub mod Peer
+pub mod Pause
+pub mod AtRest
 pub mod Delivery
 pub mod Saying
 pub mod Telling

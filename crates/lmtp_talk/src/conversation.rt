@@ -110,7 +110,8 @@ fn take_round<P: Peer, D: Delivery>(
         leave(dialogue, delivery);
         return Some(EndCause::WriteFault);
     }
-    match peer.read(buffer) {
+    let pause = dialogue.pause();
+    match peer.read(buffer, pause) {
         Ok(Came::Bytes(size)) => {
             take_piece(dialogue, peer, delivery, &buffer[..size]);
             end_or_go_on(dialogue)

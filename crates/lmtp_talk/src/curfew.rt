@@ -1,6 +1,6 @@
 //! Until when clients are served.
 
-ghost use Rattle.std.specs.Prelude.{◌≡◌, ◌≤◌, ◌-◌, ◌↔◌, IsTrue, ℕ};
+ghost use Rattle.std.specs.Prelude.{◌≡◌, ◌≤◌, ◌-◌, ◌↔◌, IsTrue, IfSome, ℕ};
 ghost use Rattle.std.specs.Duration.{as_nanos};
 
 use std::time::Duration;
@@ -11,12 +11,17 @@ pub trait Curfew: Drop {
     // the server's end was asked for
     ghost IsAsked: { Self → Type 0 };
 
-    // a conversation that began at this moment, in nanoseconds, has no more time, or the server's end was asked for
+    // a conversation that began at this moment, in nanoseconds, has no more time, or what the server leaves its clients
+    // once its end was asked for is over
     ghost IsOver: { Self → ℕ → Type 0 };
 
     /// Whether the server's end was asked for: then no client is taken any more.
     fn is_asked(&self) -> bool
         ensures { IsTrue result → IsAsked self.now };
+
+    /// When the server's end was asked for, where it was, by the clock of `moment`.
+    fn asked_at(&self) -> Option<Duration>
+        ensures { IfSome result (λ _. IsAsked self.now) };
 
     /// This moment, by a clock that only rises; where there is none it is the largest there is.
     fn moment(&self) -> Duration;

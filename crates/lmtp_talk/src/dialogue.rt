@@ -1,12 +1,16 @@
 //! What a conversation is served with.
 
-ghost use Rattle.std.specs.Prelude.{◌≡◌, IfOk};
+ghost use Rattle.std.specs.Prelude.{◌≡◌, ℕ, List, nat_lt, length, IfOk};
 ghost use Rattle.std.specs.Arc.{arc_value};
+ghost use Rattle.lmtp_wire.specs.Wire.{IsAfter};
+ghost use Rattle.lmtp_talk.specs.Pause.{pause_of};
 
 use crate::outbox::Outbox;
+use crate::pause::Pause;
 use lmtp_session::Session;
 use lmtp_text::Site;
 use lmtp_wire::{Dot, Wire};
+use mail_world::State;
 use std::alloc::{AllocError, Global};
 use std::sync::Arc;
 
@@ -30,5 +34,22 @@ impl Dialogue {
             session: Session::new(alloc, site)?,
             outbox: Outbox::new(alloc)?,
         })
+    }
+
+    /// Where the conversation stands, which its peer is told before each read.
+    pub fn pause(&self) -> Pause
+        ensures { (taken : List ℕ) → IsAfter self.now.wire taken
+            → result ≡ pause_of self.now.session.session.state (nat_lt 0 (length taken)) }
+    {
+        if self.wire.is_within_line() {
+            return Pause::Within;
+        }
+        match self.session.state() {
+            State::Fresh => Pause::Before,
+            State::Greeted => Pause::Between,
+            State::Sender | State::Recipients | State::Content | State::Waiting | State::Ended => {
+                Pause::Within
+            }
+        }
     }
 }

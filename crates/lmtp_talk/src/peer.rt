@@ -4,6 +4,7 @@ ghost use Rattle.std.specs.Prelude.{◌≡◌, ◌<◌, [], ◌∷◌, length, t
 ghost use Rattle.lmtp_talk.specs.Entries.{OfLine, OfCopy};
 ghost use Rattle.lmtp_talk.specs.Peer.{PeerState, WasRead, HasBrought, HasWritten, PeerFailed, with_told};
 
+use crate::pause::Pause;
 use mail_world::Reply;
 use thiserror::Error;
 
@@ -29,8 +30,8 @@ pub trait Peer {
     // was told
     ghost state: { Self → PeerState };
 
-    /// Reads bytes into the beginning of the buffer.
-    fn read(&mut self, buffer: &mut [u8]) -> Result<Came, PeerFault>
+    /// Reads bytes into the beginning of the buffer, where the conversation stands so.
+    fn read(&mut self, buffer: &mut [u8], pause: Pause) -> Result<Came, PeerFault>
         requires { 0 < length buffer.old }
         ensures reads { WasRead 1 (state self.old) (state self.new) }
         ensures ok { IfOk result (λ came. HasBrought (state self.old) (state self.new) buffer.new came) }

@@ -1,5 +1,6 @@
 //! A client over a stream, be it TCP or a Unix socket.
 
+mod at_rest;
 mod drain;
 mod peer;
 mod read_buffer;

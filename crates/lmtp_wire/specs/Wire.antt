@@ -1,5 +1,6 @@
 -- Where a wire stands in the bytes of a line (RFC 5321, 2.3.8), and what it answers.
 use Rattle.std.specs.Prelude.{◌≡◌, ℕ, ◌+◌, ◌-◌, ◌<◌, ◌≤◌, List, [], ◌∷◌, ◌++◌, length, take, Option, Some, None}
+use Rattle.std.specs.Prelude.{option_map}
 use Rattle.mail_world.specs.Text.{cr, crlf, place_of, ends_in}
 use Rattle.mail_world.specs.declared.limits.TheConstants.{LINE_LIMIT}
 use Rattle.lmtp_wire.specs.declared.wire.Stage.{Stage}
@@ -60,3 +61,7 @@ abbrev pub IsLineEnd : Got → WireView → List ℕ → Type 0
 IsLineEnd More new bytes = ⊥
 IsLineEnd Line new bytes = IsAfter new [] × (length bytes ≤ LINE_LIMIT) × (new.line ≡ take (length bytes - 2) bytes)
 IsLineEnd TooLong new bytes = IsAfter new [] × (LINE_LIMIT < length bytes) × (new.line ≡ [])
+
+-- the line that a text begins with, without its CRLF, where that is there
+abbrev pub first_line : List ℕ → Option (List ℕ)
+first_line text = option_map (λ n. take n text) (place_of crlf text)

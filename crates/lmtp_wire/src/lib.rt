@@ -11,4 +11,4 @@ mod wire;
 
 pub use dot::{Dot, Fed};
 pub use stuffing::stuff;
-pub use wire::{Got, Took, Wire};
+pub use wire::{Got, Took, Wire, first_line};

@@ -1,8 +1,9 @@
 //! Command lines, taken piece by piece.
 
-ghost use Rattle.std.specs.Prelude.{◌≡◌, ◌+◌, ◌≤◌, ℕ, List, [], ◌∷◌, ◌++◌, length, IfOk, IfSome};
+ghost use Rattle.std.specs.Prelude.{◌≡◌, ◌+◌, ◌≤◌, ℕ, List, [], ◌∷◌, ◌++◌, length, nat_lt, IfOk, IfSome};
+ghost use Rattle.std.specs.Prelude.{option_map};
 ghost use Rattle.mail_world.specs.Text.{cr, crlf, place_of, ends_in};
-ghost use Rattle.lmtp_wire.specs.Wire.{Keeps, IsAfter, EndsIn, Takes, IsLineEnd};
+ghost use Rattle.lmtp_wire.specs.Wire.{Keeps, IsAfter, EndsIn, Takes, IsLineEnd, first_line};
 
 use mail_world::limits::LINE_LIMIT;
 use memchr::memchr;
@@ -106,6 +107,17 @@ impl Wire {
         self.kept.as_slice()
     }
 
+    /// Whether bytes of a line were taken that hasn't ended.
+    pub fn is_within_line(&self) -> bool
+        ensures { (taken : List ℕ) → IsAfter self.now taken → result ≡ nat_lt 0 (length taken) }
+    {
+        match self.stage {
+            Stage::Between => false,
+            Stage::Within => !self.kept.is_empty(),
+            Stage::Beyond { .. } => true,
+        }
+    }
+
     // How many bytes of the piece the line has, its CRLF among them, where it ends there.
     fn line_end(&self, piece: &[u8]) -> Option<usize>
         ensures within { IfSome result (λ used. (1 ≤ used) × (used ≤ length piece.now)) }
@@ -182,6 +194,16 @@ impl Wire {
         self.stage = Stage::Between;
         self.kept.truncate(self.kept.len().saturating_sub(2));
         Got::Line
+    }
+}
+
+/// The line that the text begins with, without its CRLF, where that is there.
+pub fn first_line(text: &[u8]) -> Option<&[u8]>
+    ensures { option_map (λ line. line.now) result ≡ first_line text.now }
+{
+    match place_of_crlf(text) {
+        Some(end) => Some(&text[..end]),
+        None => None,
     }
 }
 

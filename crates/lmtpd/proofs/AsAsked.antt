@@ -1,5 +1,5 @@
 -- A server that words ask for: what it comes to, and why it didn't run, cause by cause.
-use Rattle.std.proofs.Common.{◌≡◌, ◌⊎◌, inl, inr, ℕ, List, Option, length, None, ap, sym, subst}
+use Rattle.std.proofs.Common.{◌≡◌, ◌⊎◌, inl, inr, ℕ, false, List, Option, length, None, ap, sym, subst}
 use Rattle.std.specs.Prelude.{Err, Ok, Result}
 use Rattle.mail_world.specs.Site.{Site}
 use Rattle.lmtp_talk.specs.Entries.{Entry}
@@ -20,15 +20,16 @@ use Rattle.lmtpd_listen.specs.Listening.{Names}
 use Rattle.lmtpd_listen.specs.declared.fault.ListenFault.TheVariants as listen
 use Rattle.lmtpd_listen.specs.declared.listen_address.ListenAddress.{ListenAddress}
 use Rattle.lmtpd_setup.specs.declared.fault.Fault.{Fault}
+use Rattle.lmtpd_setup.specs.Names.{IsNoSite}
 use Rattle.lmtpd_setup.specs.Setup.{IsNotSetUp, IsUnopenedAt}
 use Rattle.lmtpd_setup.specs.declared.stop.Stop.{Stop}
 use Rattle.lmtpd.specs.Program.{IsListenAddress, IsNotRun, IsNotServed, IsServedAsAsked, IsSizeAsked, sizes_asked}
 use Rattle.lmtpd.proofs.Unrun.{causes, unrun}
 
-not_run : (words : ServeWords) (cause : HouseFault) → IsListenAddress words.listen.now → first_fault (named_site words.site) ≡ None
+not_run : (words : ServeWords) (cause : HouseFault) → words.check_words ≡ false → IsListenAddress words.listen.now → first_fault (named_site words.site) ≡ None
     → (house_refusal cause ≡ fault.Memory) ⊎ IsNotRun (IsSizeAsked words) (house_refusal cause) → IsNotServed words (stop.Fault (house_refusal cause))
-not_run words cause address sound (inl memory) = inl (ap stop.Fault memory)
-not_run words cause address sound (inr why) = inr (inr (address, inr (sound, inr (inr why))))
+not_run words cause served address sound (inl memory) = inl (ap stop.Fault memory)
+not_run words cause served address sound (inr why) = inr (inr (address, inr (sound, served, inr (inr why))))
 
 size_asked : (words : ServeWords) (site : Site) (sizes : Sizes) (count : ℕ) → site ≡ named_site words.site → sizes ≡ sizes_asked words
     → count ≡ length words.site.boxes.items
@@ -52,12 +53,14 @@ size_of_sum x Good (inr good) = good
 
 pub served_as_asked : (L C E : Type 0) {G S : Type 0} (told : G → Option (List Entry)) (state : S → SpoolState) (words : ServeWords) (served : Served)
     (site : Site) (sizes : Sizes) (spools : List S)
+    → words.check_words ≡ false
     → IsListenAddress words.listen.now → (site ≡ named_site words.site) × (first_fault (named_site words.site) ≡ None) → sizes ≡ sizes_asked words
     → length spools ≡ length words.site.boxes.items
     → (◌≡◌ {A = Result Served HouseFault} (Ok served) (Err house.Size)) ⊎ IsSize site sizes words.lanes (length spools) (length spools)
     → IsServerRun L C E site state told (record { lanes = words.lanes; capacity = sizes.capacity; quota = sizes.quota }) spools served
     → IsServedAsAsked L C E told state words served
-served_as_asked L C E told state words served site sizes spools address made asked boxes good ran = record {
+served_as_asked L C E told state words served site sizes spools serves address made asked boxes good ran = record {
+  served = serves;
   listen_address = address;
   sound = made.1;
   sizes = size_asked words site sizes (length spools) made.0 asked boxes
@@ -71,36 +74,44 @@ served_as_asked L C E told state words served site sizes spools address made ask
 }
 
 pub no_server : (words : ServeWords) (cause : HouseFault) (site : Site) (sizes : Sizes) (count : ℕ)
+    → words.check_words ≡ false
     → IsListenAddress words.listen.now → (site ≡ named_site words.site) × (first_fault (named_site words.site) ≡ None) → sizes ≡ sizes_asked words
     → count ≡ length words.site.boxes.items
     → (◌≡◌ {A = Result Served HouseFault} (Err cause) (Err house.Size) → IsSize site sizes words.lanes count count → ⊥)
     → (◌≡◌ {A = Result Served HouseFault} (Err cause) (Err house.Size)) ⊎ IsSize site sizes words.lanes count count
     → IsNotServed words (stop.Fault (house_refusal cause))
-no_server words cause site sizes count address made asked boxes only (inl e) =
-    not_run words cause address made.1 (unrun (IsSizeAsked words) cause (inr (λ good. only e (size_given words site sizes count made.0 asked boxes good)))
+no_server words cause site sizes count served address made asked boxes only (inl e) =
+    not_run words cause served address made.1 (unrun (IsSizeAsked words) cause (inr (λ good. only e (size_given words site sizes count made.0 asked boxes good)))
     (λ f good. only (ap Err f) (size_given words site sizes count made.0 asked boxes good))
     (λ bad. causes {X = Served} cause house.Size house.Memory (inl e)))
-no_server words cause site sizes count address made asked boxes only (inr good) =
-    not_run words cause address made.1 (unrun (IsSizeAsked words) cause (inl (size_asked words site sizes count made.0 asked boxes good))
+no_server words cause site sizes count served address made asked boxes only (inr good) =
+    not_run words cause served address made.1 (unrun (IsSizeAsked words) cause (inl (size_asked words site sizes count made.0 asked boxes good))
     (λ f asks. only (ap Err f) (size_given words site sizes count made.0 asked boxes asks))
     (λ bad. absurd (bad (size_asked words site sizes count made.0 asked boxes good))))
 
+-- it has no site
+pub siteless : (words : ServeWords) (s : Stop) → IsListenAddress words.listen.now → IsNoSite words s → IsNotServed words s
+siteless words s address (inl memory) = inl memory
+siteless words s address (inr (f, fault_of_site, said)) = inr (inr (address, inl (f, fault_of_site, said)))
+
 -- it wasn't set up
-pub unset : (words : ServeWords) (s : Stop) → IsListenAddress words.listen.now → IsNotSetUp words s → IsNotServed words s
-unset words s address (inl memory) = inl memory
-unset words s address (inr (inl (f, is, fault_of_site))) = inr (inr (address, inl (f, is, fault_of_site)))
-unset words (stop.Unopened name) address (inr (inr (sound, named))) = inr (inr (address, inr (sound, named)))
-unset words (stop.NoFolder name) address (inr (inr (sound, named))) = inr (inr (address, inr (sound, named)))
-unset words (stop.Fault f) address (inr (inr (sound, is))) = inl (ap stop.Fault is)
-unset words (stop.Words refused) address (inr (inr (sound, never))) = absurd never
-unset words (stop.Unread path) address (inr (inr (sound, never))) = absurd never
+pub unset : (words : ServeWords) (s : Stop) → words.check_words ≡ false → IsListenAddress words.listen.now → IsNotSetUp words s → IsNotServed words s
+unset words s served address (inl none) = siteless words s address none
+unset words s served address (inr (inl memory)) = inl memory
+unset words (stop.Unopened name) served address (inr (inr (sound, named))) = inr (inr (address, inr (sound, served, named)))
+unset words (stop.NoFolder name) served address (inr (inr (sound, named))) = inr (inr (address, inr (sound, served, named)))
+unset words (stop.Fault f) served address (inr (inr (sound, is))) = inl (ap stop.Fault is)
+unset words (stop.Words refused) served address (inr (inr (sound, never))) = absurd never
+unset words (stop.Name f line) served address (inr (inr (sound, never))) = absurd never
+unset words (stop.Unread path) served address (inr (inr (sound, never))) = absurd never
 
 -- what listens wasn't opened
-pub unopened : (words : ServeWords) (listen_address : ListenAddress) (f : Fault) → Names words.listen.now listen_address
+pub unopened : (words : ServeWords) (listen_address : ListenAddress) (f : Fault) → words.check_words ≡ false → Names words.listen.now listen_address
     → first_fault (named_site words.site) ≡ None
     → IsUnopenedAt listen_address f → IsNotServed words (stop.Fault f)
-unopened words listen_address f names sound (listen.Memory, is, why) = inl (ap stop.Fault is)
-unopened words listen_address f names sound (listen.Listen reason, is, why) = inr (inr ((listen_address, names), inr (sound, inl is)))
-unopened words listen_address f names sound (listen.Port, is, why) =
-    inr (inr ((listen_address, names), inr (sound, inr (inl (is, subst (λ p. Names words.listen.now p) why names)))))
-unopened words listen_address f names sound (listen.Address, is, why) = absurd why
+unopened words listen_address f served names sound (listen.Memory, is, why) = inl (ap stop.Fault is)
+unopened words listen_address f served names sound (listen.Listen reason, is, why) =
+    inr (inr ((listen_address, names), inr (sound, served, inl is)))
+unopened words listen_address f served names sound (listen.Port, is, why) =
+    inr (inr ((listen_address, names), inr (sound, served, inr (inl (is, subst (λ p. Names words.listen.now p) why names)))))
+unopened words listen_address f served names sound (listen.Address, is, why) = absurd why

@@ -1,6 +1,6 @@
 -- What a run of the program comes to: the words say what is asked for, and then come what was done, the lines on
 -- standard error and the status.
-use Rattle.std.specs.Prelude.{◌≡◌, ◌⊎◌, ◌*◌, ◌-◌, ◌^◌, min, ℕ, true, false, List, ◌++◌, length, Option, Some, None, Contains}
+use Rattle.std.specs.Prelude.{◌≡◌, ◌⊎◌, ◌*◌, ◌-◌, ◌^◌, min, ℕ, Bool, true, false, List, [], ◌++◌, length, Option, Some, None, Contains}
 use Rattle.std.specs.Option.{option_map_or}
 use Rattle.clap.specs.Words.{Text, kind_of, subcommand_of, takes}
 use Rattle.clap.specs.declared.error.Error.{Error}
@@ -16,12 +16,14 @@ use Rattle.lmtpd_words.specs.Words.{IsAsked, IsLacking, named_site}
 use Rattle.lmtpd_words.specs.declared.words.RehearseWords.{RehearseWords}
 use Rattle.lmtpd_words.specs.declared.words.ServeWords.{ServeWords}
 use Rattle.lmtpd_words.specs.declared.words.CheckWords.{CheckWords}
+use Rattle.lmtpd_words.specs.declared.words.CopyWords.{CopyWords}
 use Rattle.lmtpd_words.specs.declared.words.SiteWords.{SiteWords}
-use Rattle.lmtpd_words.specs.declared.words.Words.TheVariants.{Rehearse, Serve, Check}
+use Rattle.lmtpd_words.specs.declared.words.Words.TheVariants.{Rehearse, Serve, Check, Copy}
 use Rattle.lmtpd_listen.specs.Listening.{AsksInherited, IsRefused, Names}
 use Rattle.lmtpd_listen.specs.declared.fault.ListenFault.{ListenFault}
 use Rattle.lmtpd_listen.specs.declared.listen_address.ListenAddress.{ListenAddress}
 use Rattle.lmtpd_setup.specs.Boxes.{IsUnfilled}
+use Rattle.lmtpd_setup.specs.Names.{IsRefusedBy}
 use Rattle.lmtpd_setup.specs.Faults.{first_fault, listen_refusal, stop_for, stop_status}
 use Rattle.lmtpd_setup.specs.Lines.{line_after, status_after, stop_line}
 use Rattle.lmtpd_setup.specs.declared.fault.Fault.{Fault}
@@ -35,8 +37,12 @@ use Rattle.lmtpd_rehearse.specs.declared.ending.Ending.{Ending}
 use Rattle.lmtpd_serve.specs.Served.{IsServerRun, trouble_lines}
 use Rattle.lmtpd_serve.specs.declared.served.Served.{Served as ServedRun}
 use Rattle.lmtpd.specs.Lacking.{check_fault, check_status, rehearsal_fault, server_fault}
+use Rattle.lmtpd.specs.Copied.{copy_line, copy_status}
+use Rattle.lmtpd.specs.declared.copy.Copied.{Copied as CopiedFile}
+use Rattle.lmtpd.specs.declared.serve.filled.ServeDone.{ServeDone}
+use Rattle.lmtpd.specs.declared.serve.filled.ServeDone.TheVariants as done
 use Rattle.lmtpd.specs.declared.program.Done.{Done}
-use Rattle.lmtpd.specs.declared.program.Done.TheVariants.{Rehearsed, Served, Checked, Stopped}
+use Rattle.lmtpd.specs.declared.program.Done.TheVariants.{Rehearsed, Served, WordsChecked, Checked, Copied, Stopped}
 
 -- why a server of a size didn't run, where memory wasn't lacking
 abbrev pub IsNotRun : Type 0 → Fault → Type 0
@@ -100,6 +106,7 @@ IsSizeAsked words =
 -- each mailbox.
 pub record IsServedAsAsked (L C E : Type 0) {G S : Type 0} (told : G → Option (List Entry)) (state : S → SpoolState)
     (words : ServeWords) (served : ServedRun) : Type 0 where
+  pub served : words.check_words ≡ false
   pub listen_address : IsListenAddress words.listen.now
   pub sound : first_fault (named_site words.site) ≡ None
   pub sizes : IsSizeAsked words
@@ -113,25 +120,44 @@ pub record IsServedAsAsked (L C E : Type 0) {G S : Type 0} (told : G → Option 
 abbrev pub IsNotServedAt : ServeWords → Stop → Type 0
 IsNotServedAt words (stop.Words error) = ⊥
 IsNotServedAt words (stop.Unread path) = ⊥
+IsNotServedAt words (stop.Name f line) = ⊥
 IsNotServedAt words (stop.Unopened name) = (words.start_anyway ≡ false) × Contains words.site.boxes.items name
 IsNotServedAt words (stop.NoFolder name) = (words.start_anyway ≡ true) × Contains words.site.boxes.items name
 IsNotServedAt words (stop.Fault f) = (f ≡ fault.Listen)
     ⊎ (((f ≡ fault.Port) × AsksInherited words.listen.now) ⊎ IsNotRun (IsSizeAsked words) f)
 
--- Why none ran: memory is lacking, and else the first of the address, the site, the files, what listens and the server
--- itself.
+-- Why none ran, or why its words can't be used: memory is lacking, and else the first of the address and the site, with
+-- the name that can't be used where that is to be said; and then, where the words alone aren't to be checked, of the
+-- files, what listens and the server itself.
 abbrev pub IsNotServed : ServeWords → Stop → Type 0
 IsNotServed words s = (s ≡ stop.Fault fault.Memory)
     ⊎ (((f : ListenFault) × (s ≡ stop.Fault (listen_refusal f)) × IsRefused words.listen.now f)
     ⊎ (IsListenAddress words.listen.now
-    × (((f : Fault) × (s ≡ stop.Fault f) × (first_fault (named_site words.site) ≡ Some f))
-    ⊎ ((first_fault (named_site words.site) ≡ None) × IsNotServedAt words s))))
+    × (((f : Fault) × (first_fault (named_site words.site) ≡ Some f) × IsRefusedBy words f s)
+    ⊎ ((first_fault (named_site words.site) ≡ None) × (words.check_words ≡ false) × IsNotServedAt words s))))
+
+-- The words of a server alone were to be checked, and each of them can be used: the address and the site, with all of
+-- its names.
+pub record AreServeWords (words : ServeWords) : Type 0 where
+  pub asked : words.check_words ≡ true
+  pub listen_address : IsListenAddress words.listen.now
+  pub sound : first_fault (named_site words.site) ≡ None
 
 -- The same of a server, once the file of its mailboxes was read: `IsRun` says which runs its words ask for then.
 abbrev pub IsServedFilled : (SiteWords → SiteWords → Type 0) → (ServeWords → ServedRun → Type 0) → ServeWords
     → ServedRun → Type 0
 IsServedFilled Fills IsRun words served =
     (site : SiteWords) × Fills words.site site × IsRun (record words { site = site }) served
+
+-- the same of words that were checked
+abbrev pub IsCheckedFilled : (SiteWords → SiteWords → Type 0) → ServeWords → Type 0
+IsCheckedFilled Fills words = (site : SiteWords) × Fills words.site site × AreServeWords (record words { site = site })
+
+-- what the words of a server came to
+abbrev pub IsServeDone : (SiteWords → SiteWords → Type 0) → (ServeWords → ServedRun → Type 0) → ServeWords → ServeDone
+    → Type 0
+IsServeDone Fills IsRun words (done.Served it) = IsServedFilled Fills IsRun words it
+IsServeDone Fills IsRun words done.WordsChecked = IsCheckedFilled Fills words
 
 abbrev pub IsNotServedFilled : (SiteWords → SiteWords → Type 0) → ServeWords → Stop → Type 0
 IsNotServedFilled Fills words s = IsUnfilled words.site s
@@ -162,32 +188,42 @@ streams_of remaining contents reader writer = record { unread = remaining reader
 
 -- What the program did is what its words ask for: `streams` is what contracts see of a reader and a writer, `Fills`
 -- says what the words of a site are once the file of its mailboxes was read, `IsRun` which runs of a server its words
--- ask for then, and `IsCheck` which checks of files.
+-- ask for then, `IsCheck` which checks of files, and `IsCopy` which copies.
 module _ {R W : Type 0} where
   abbrev pub IsDoneAsAsked : (R → W → Streams) → (SiteWords → SiteWords → Type 0) → (ServeWords → ServedRun → Type 0)
-      → (CheckWords → CheckedFiles W → Type 0) → List Text → Streams → Done R W → Type 0
-  IsDoneAsAsked streams Fills IsRun IsCheck texts old (Rehearsed it) =
+      → (CheckWords → CheckedFiles W → Type 0) → (CopyWords → CopiedFile → Type 0) → List Text → Streams → Done R W
+      → Type 0
+  IsDoneAsAsked streams Fills IsRun IsCheck IsCopy texts old (Rehearsed it) =
       (words : RehearseWords) × IsAsked (subcommand_of program_app texts) (Rehearse words)
       × IsRehearsedFilled Fills words old (streams it.reader it.writer) it.ending
-  IsDoneAsAsked streams Fills IsRun IsCheck texts old (Served it) =
+  IsDoneAsAsked streams Fills IsRun IsCheck IsCopy texts old (Served it) =
       (words : ServeWords) × IsAsked (subcommand_of program_app texts) (Serve words)
       × IsServedFilled Fills IsRun words it
-  IsDoneAsAsked streams Fills IsRun IsCheck texts old (Checked it) =
+  IsDoneAsAsked streams Fills IsRun IsCheck IsCopy texts old WordsChecked =
+      (words : ServeWords) × IsAsked (subcommand_of program_app texts) (Serve words) × IsCheckedFilled Fills words
+  IsDoneAsAsked streams Fills IsRun IsCheck IsCopy texts old (Checked it) =
       (words : CheckWords) × IsAsked (subcommand_of program_app texts) (Check words) × IsCheck words it
-  IsDoneAsAsked streams Fills IsRun IsCheck texts old (Stopped s) = IsStopped Fills texts s
+  IsDoneAsAsked streams Fills IsRun IsCheck IsCopy texts old (Copied it) =
+      (words : CopyWords) × IsAsked (subcommand_of program_app texts) (Copy words) × IsCopy words it
+  IsDoneAsAsked streams Fills IsRun IsCheck IsCopy texts old (Stopped s) = IsStopped Fills texts s
 
-  -- the status of the program, and its lines on standard error: 0 only for what was done with no fault, sound files,
-  -- and for help
+  -- the status of the program, and its lines on standard error: 0 only for what was done with no fault, words and files
+  -- that are sound, and for help
   abbrev pub exit_status : Done R W → ℕ
   exit_status (Rehearsed it) = status_after (rehearsal_fault it.ending)
   exit_status (Served it) = status_after (server_fault it.ending)
+  exit_status WordsChecked = 0
   exit_status (Checked it) = check_status it.findings.items it.cut
+  exit_status (Copied it) = copy_status it.fault
   exit_status (Stopped s) = stop_status s
 
-  -- a server's mailboxes that missed turns, and those over their quota, come before its fault, and so do a
-  -- check's files that were read without their lock
-  abbrev pub exit_lines : Done R W → List ℕ
-  exit_lines (Rehearsed it) = line_after (rehearsal_fault it.ending)
-  exit_lines (Served it) = trouble_lines it ++ line_after (server_fault it.ending)
-  exit_lines (Checked it) = unlocked_lines it.unlocked.items ++ line_after (check_fault it.cut)
-  exit_lines (Stopped s) = stop_line s
+  -- A server's mailboxes that missed turns, and those over their quota, come before its fault, and so do a check's
+  -- files that were read without their lock. The first argument says whether standard error is the journal, which is
+  -- told the priority of what ends the program.
+  abbrev pub exit_lines : Bool → Done R W → List ℕ
+  exit_lines is_journal (Rehearsed it) = line_after is_journal (rehearsal_fault it.ending)
+  exit_lines is_journal (Served it) = trouble_lines it ++ line_after is_journal (server_fault it.ending)
+  exit_lines is_journal WordsChecked = []
+  exit_lines is_journal (Checked it) = unlocked_lines it.unlocked.items ++ line_after is_journal (check_fault it.cut)
+  exit_lines is_journal (Copied it) = copy_line is_journal it.file.now it.to.now it.fault
+  exit_lines is_journal (Stopped s) = stop_line is_journal s

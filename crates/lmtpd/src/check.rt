@@ -41,14 +41,24 @@ where
 
 /// Says on `error` which files were read without their lock and whether a write failed, and gives the status: what is
 /// wrong with a file was said on its line.
-pub fn report_checked<W, E: Write>(checked: &Checked<'_, W>, error: &mut E) -> Exit
+pub fn report_checked<W, E: Write>(
+    checked: &Checked<'_, W>,
+    is_journal: bool,
+    error: &mut E,
+) -> Exit
     ensures status { result.status ≡ check_status checked.now.findings.items checked.now.cut }
-    ensures lines { IsListed (unlocked_lines checked.now.unlocked.items ++ line_after (check_fault checked.now.cut))
+    ensures lines { IsListed (unlocked_lines checked.now.unlocked.items ++ line_after is_journal (check_fault checked.now.cut))
         (E.contents error.old) (E.contents error.new) result.cut }
 {
     Exit {
         status: check_status(&checked.findings, checked.cut),
-        cut: write_lines(&checked.unlocked, check_fault(checked.cut), error).is_err(),
+        cut: write_lines(
+            &checked.unlocked,
+            check_fault(checked.cut),
+            is_journal,
+            error,
+        )
+        .is_err(),
     }
 }
 
@@ -57,15 +67,16 @@ pub fn report_checked<W, E: Write>(checked: &Checked<'_, W>, error: &mut E) -> E
 fn write_lines<E: Write>(
     unlocked: &[&str],
     fault: Option<Fault>,
+    is_journal: bool,
     error: &mut E,
 ) -> Result<(), WriteFault>
     ensures ok { OnOk result (Appends (E.contents error.old) (E.contents error.new)
-        (unlocked_lines unlocked.now ++ line_after fault)) }
+        (unlocked_lines unlocked.now ++ line_after is_journal fault)) }
     ensures err { OnErr result (IsCutOff (E.contents error.old) (E.contents error.new)
-        (unlocked_lines unlocked.now ++ line_after fault)) }
+        (unlocked_lines unlocked.now ++ line_after is_journal fault)) }
 {
     write_unlocked_lines(error, unlocked)?;
-    write_fault(fault, error)
+    write_fault(fault, is_journal, error)
 }
 
 fn check_status(findings: &[Finding], cut: bool) -> u8

@@ -1,18 +1,19 @@
 //! `lmtpd`, the last hop of a mail site: it speaks LMTP (RFC 2033) and delivers into mboxrd mailboxes.
 //!
-//! `run_program` does what the words ask for: here a rehearsal, a server or a check is run over what was made ready for
+//! `run_program` does what the words ask for: here a rehearsal, a server, a check or a copy is run over what was made ready for
 //! it, and faults become a line on standard error and a status. Nothing stands above it but the system; how mail is
 //! served it never knows: that is done below.
 #![tactic(auto)]
 
 mod check;
+mod copy;
 mod lacking;
 mod program;
 mod rehearse;
 mod serve;
 
 use lmtpd_setup::Stop;
-use lmtpd_words::not_text;
+use lmtpd_words::{is_journal, not_text};
 use program::run_program;
 use std::alloc::AllocError;
 use std::process::ExitCode;
@@ -29,7 +30,7 @@ fn main(rt: HostRuntime) -> ExitCode {
             let (reader, writer) = (rt.stdin(), rt.stdout());
             run_program(&rt, rt, &words, &mut room, reader, writer, &mut error).exit
         }
-        Err(refused) => Stop::from(refused).report(&rt, &mut error),
+        Err(refused) => Stop::from(refused).report(&rt, is_journal(&rt), &mut error),
     };
     ExitCode::from(exit.status)
 }

@@ -7,19 +7,22 @@ ghost use Rattle.lmtpd_words.specs.Words.{as_texts};
 ghost use Rattle.lmtpd_setup.specs.Boxes.{IsFilled};
 ghost use Rattle.lmtpd.specs.Program.{IsCheckedAsAsked, IsDoneAsAsked, IsServedAsAsked, exit_lines, exit_status};
 ghost use Rattle.lmtpd.specs.Program.{streams_of};
+ghost use Rattle.lmtpd.specs.Copied.{IsCopiedAsAsked};
 ghost use Rattle.lmtpd_words.specs.Output.{IsListed};
 
 use crate::check::{check_asked, report_checked};
+use crate::copy::{Copied, copy_asked, report_copied};
 use crate::lacking::rehearsal_fault;
 use crate::rehearse::rehearse_filled;
-use crate::serve::{report_served, serve_filled};
+use crate::serve::{ServeDone, report_served, serve_filled};
 use lmtpd_check::Checked;
+use lmtpd_copy::{CopyTarget, TargetFile};
 use lmtpd_log::{LaneLog, LineLog};
 use lmtpd_rehearse::Rehearsed;
 use lmtpd_serve::Served;
 use lmtpd_setup::{Exit, ServedMailbox, ServerLog, Stop, report_fault};
-use lmtpd_words::{Words, read_words};
-use mbox_rd::{FileLock, RangeLock, Spool};
+use lmtpd_words::{Words, is_journal, read_words};
+use mbox_rd::{FileLock, MailboxSource, RangeLock, Spool, StdMailboxFile};
 use std::env::Env;
 use std::fs::Files;
 use std::io::{Read, Write};
@@ -33,7 +36,10 @@ use std::time::Clock;
 pub enum Done<'a, R, W> {
     Rehearsed(Rehearsed<R, W>),
     Served(Served),
+    /// The words of a server alone were to be checked, and each can be used.
+    WordsChecked,
     Checked(Checked<'a, W>),
+    Copied(Copied<'a>),
     /// It stopped before its work was done.
     Stopped(Stop<'a>),
 }
@@ -42,6 +48,8 @@ pub enum Done<'a, R, W> {
 #[derive(Drop)]
 pub struct Ended<'a, R, W> {
     pub done: Done<'a, R, W>,
+    /// Whether standard error is the journal, whose lines have a priority.
+    pub is_journal: bool,
     pub exit: Exit,
 }
 
@@ -70,14 +78,22 @@ where
     ensures done { IsDoneAsAsked (streams_of R.remaining W.contents) (IsFilled P.File.remaining)
         (IsServedAsAsked ServerSocket H (ServerCurfew H) (⟦<LineLog<ServerLog<H>, H> as LaneLog>⟧.told)
         (⟦<ServedMailbox<H, ServerLog<H>> as Spool>⟧.state))
-        (IsCheckedAsAsked P.File.remaining W.contents (W.contents writer)) (as_texts words.entry.now)
+        (IsCheckedAsAsked P.File.remaining W.contents (W.contents writer))
+        (IsCopiedAsAsked (⟦<StdMailboxFile<H> as MailboxSource>⟧.unread)
+        (⟦<TargetFile<'static, H> as CopyTarget>⟧.state)) (as_texts words.entry.now)
         (streams_of R.remaining W.contents reader writer) result.done }
     ensures status { result.exit.status ≡ exit_status result.done }
-    ensures lines { IsListed (exit_lines result.done) (E.contents error.old) (E.contents error.new) result.exit.cut }
+    ensures lines { IsListed (exit_lines result.is_journal result.done) (E.contents error.old) (E.contents error.new)
+        result.exit.cut }
 {
     let done = do_asked(rt, threads, words, room, reader, writer);
-    let exit = report(rt, &done, error);
-    Ended { done, exit }
+    let is_journal = is_journal(rt);
+    let exit = report(rt, is_journal, &done, error);
+    Ended {
+        done,
+        is_journal,
+        exit,
+    }
 }
 
 // Does what the words ask for.
@@ -100,7 +116,9 @@ where
     ensures { IsDoneAsAsked (streams_of R.remaining W.contents) (IsFilled P.File.remaining)
         (IsServedAsAsked ServerSocket H (ServerCurfew H) (⟦<LineLog<ServerLog<H>, H> as LaneLog>⟧.told)
         (⟦<ServedMailbox<H, ServerLog<H>> as Spool>⟧.state))
-        (IsCheckedAsAsked P.File.remaining W.contents (W.contents writer)) (as_texts words.entry.now)
+        (IsCheckedAsAsked P.File.remaining W.contents (W.contents writer))
+        (IsCopiedAsAsked (⟦<StdMailboxFile<H> as MailboxSource>⟧.unread)
+        (⟦<TargetFile<'static, H> as CopyTarget>⟧.state)) (as_texts words.entry.now)
         (streams_of R.remaining W.contents reader writer) result }
 {
     match read_words(rt.alloc(), words) {
@@ -111,29 +129,35 @@ where
             }
         }
         Ok(Words::Serve(asked)) => match serve_filled(rt, threads, asked, room, writer) {
-            Ok(served) => Done::Served(served),
+            Ok(ServeDone::Served(served)) => Done::Served(served),
+            Ok(ServeDone::WordsChecked) => Done::WordsChecked,
             Err(stop) => Done::Stopped(stop),
         },
         Ok(Words::Check(asked)) => match check_asked(rt, &threads, &asked, writer) {
             Ok(checked) => Done::Checked(checked),
             Err(fault) => Done::Stopped(Stop::Fault(fault)),
         },
+        Ok(Words::Copy(asked)) => Done::Copied(copy_asked(threads, rt.alloc(), &asked)),
         Err(refused) => Done::Stopped(Stop::from(refused)),
     }
 }
 
 // Says what is to be known of the run, what went wrong last, and gives the status.
-fn report<P, R, W, E>(rt: &P, done: &Done<'_, R, W>, error: &mut E) -> Exit
+fn report<P, R, W, E>(rt: &P, is_journal: bool, done: &Done<'_, R, W>, error: &mut E) -> Exit
 where
     P: Print + Eprint,
     E: Write,
     ensures status { result.status ≡ exit_status done.now }
-    ensures lines { IsListed (exit_lines done.now) (E.contents error.old) (E.contents error.new) result.cut }
+    ensures lines { IsListed (exit_lines is_journal done.now) (E.contents error.old) (E.contents error.new) result.cut }
 {
     match done {
-        Done::Rehearsed(rehearsed) => report_fault(rehearsal_fault(rehearsed.ending), error),
-        Done::Served(served) => report_served(served, error),
-        Done::Checked(checked) => report_checked(checked, error),
-        Done::Stopped(stop) => stop.report(rt, error),
+        Done::Rehearsed(rehearsed) => {
+            report_fault(rehearsal_fault(rehearsed.ending), is_journal, error)
+        }
+        Done::Served(served) => report_served(served, is_journal, error),
+        Done::WordsChecked => report_fault(None, is_journal, error),
+        Done::Checked(checked) => report_checked(checked, is_journal, error),
+        Done::Copied(copied) => report_copied(copied, is_journal, error),
+        Done::Stopped(stop) => stop.report(rt, is_journal, error),
     }
 }

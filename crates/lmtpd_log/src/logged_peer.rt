@@ -1,7 +1,7 @@
 //! A client of whose conversation a lane's log is told.
 
 use crate::lane_log::LaneLog;
-use lmtp_talk::{Came, Peer, PeerFault};
+use lmtp_talk::{Came, Pause, Peer, PeerFault};
 use mail_world::Reply;
 
 /// A client, who has the lane's log for the time of its conversation.
@@ -15,9 +15,9 @@ impl<P: Peer, G: LaneLog> Peer for LoggedPeer<P, G> {
     ghost state = { λ p. record (P.state p.peer) { told = G.told p.log } };
 
     /// All replies are written before a client is read.
-    fn read(&mut self, buffer: &mut [u8]) -> Result<Came, PeerFault> {
+    fn read(&mut self, buffer: &mut [u8], pause: Pause) -> Result<Came, PeerFault> {
         self.log.written();
-        let came = self.peer.read(buffer);
+        let came = self.peer.read(buffer, pause);
         self.log.came();
         came
     }

@@ -2,7 +2,7 @@
 
 ghost use Rattle.std.specs.Prelude.{[], None};
 
-use lmtp_house::{Came, Peer, PeerFault};
+use lmtp_house::{Came, Pause, Peer, PeerFault};
 use mail_world::Reply;
 use std::io::{Read, Write};
 
@@ -29,7 +29,7 @@ impl<R: Read, W: Write> Peer for StreamPeer<R, W> {
       told = None;
     } };
 
-    fn read(&mut self, buffer: &mut [u8]) -> Result<Came, PeerFault> {
+    fn read(&mut self, buffer: &mut [u8], _pause: Pause) -> Result<Came, PeerFault> {
         self.reads = self.reads.saturating_add(1);
         match self.reader.read(buffer) {
             Ok(0) => Ok(Came::End),

@@ -1,3 +1,4 @@
 mod SiteRows
 pub mod Orders
 mod Whole
+pub mod WrongNames

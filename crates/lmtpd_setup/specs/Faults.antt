@@ -107,6 +107,7 @@ words_status kind = if is_shown kind then 0 else 2
 abbrev pub stop_status : Stop → ℕ
 stop_status (stop.Words error) = words_status (kind_of error)
 stop_status (stop.Fault f) = status_of f
+stop_status (stop.Name f line) = status_of f
 stop_status (stop.Unopened name) = 1
 stop_status (stop.NoFolder name) = 1
 stop_status (stop.Unread path) = 1

@@ -1,35 +1,46 @@
 -- The lines that the program says on standard error, and its status after them.
-use Rattle.std.specs.Prelude.{ℕ, List, [], ◌∷◌, ◌++◌, codes, Option, Some, None}
+use Rattle.std.specs.Prelude.{ℕ, Bool, List, [], ◌∷◌, ◌++◌, codes, Option, Some, None, string_bytes}
+use Rattle.log.specs.declared.level.Level.TheVariants as level
 use Rattle.mail_world.specs.Text.{lf}
+use Rattle.lmtpd_words.specs.Journal.{priority_in}
 use Rattle.lmtpd_setup.specs.Faults.{fault_text, status_of}
 use Rattle.lmtpd_setup.specs.declared.fault.Fault.{Fault}
 use Rattle.lmtpd_setup.specs.declared.stop.Stop.{Stop}
 use Rattle.lmtpd_setup.specs.declared.stop.Stop.TheVariants as stop
 
+-- what stands before a line that ends the program; the first argument says whether standard error is the journal
+abbrev pub mark : Bool → List ℕ
+mark is_journal = priority_in is_journal level.Error
+
 -- the line on standard error for a fault
-abbrev pub fault_line : Fault → List ℕ
-fault_line f = codes "lmtpd: " ++ fault_text f ++ (lf ∷ [])
+abbrev pub fault_line : Bool → Fault → List ℕ
+fault_line is_journal f = mark is_journal ++ (codes "lmtpd: " ++ fault_text f ++ (lf ∷ []))
+
+-- the line of the log on a name that can't be used, and then that for the fault
+abbrev pub named_lines : Bool → List ℕ → Fault → List ℕ
+named_lines is_journal line f = mark is_journal ++ (line ++ fault_line is_journal f)
 
 -- the line for a mailbox whose file can't be opened, whatever the cause
-abbrev pub unopened_line : List ℕ → List ℕ
-unopened_line name = codes "lmtpd: cannot open " ++ name ++ (codes ".mbox" ++ (lf ∷ []))
+abbrev pub unopened_line : Bool → List ℕ → List ℕ
+unopened_line is_journal name = mark is_journal ++ (codes "lmtpd: cannot open " ++ name ++ (codes ".mbox" ++ (lf ∷ [])))
 
 -- the line for a file of mailboxes that can't be read
-abbrev pub unread_line : List ℕ → List ℕ
-unread_line path = codes "lmtpd: cannot read " ++ path ++ (lf ∷ [])
+abbrev pub unread_line : Bool → List ℕ → List ℕ
+unread_line is_journal path = mark is_journal ++ (codes "lmtpd: cannot read " ++ path ++ (lf ∷ []))
 
 -- what the program itself says where it stops early; clap says its own text
-abbrev pub stop_line : Stop → List ℕ
-stop_line (stop.Words error) = []
-stop_line (stop.Fault f) = fault_line f
-stop_line (stop.Unopened name) = unopened_line name.now
-stop_line (stop.NoFolder name) = unopened_line name.now
-stop_line (stop.Unread path) = unread_line path.now
+abbrev pub stop_line : Bool → Stop → List ℕ
+stop_line is_journal (stop.Words error) = []
+stop_line is_journal (stop.Fault f) = fault_line is_journal f
+stop_line is_journal (stop.Name f line) = named_lines is_journal (string_bytes line) f
+stop_line is_journal (stop.Unopened name) = unopened_line is_journal name.now
+stop_line is_journal (stop.NoFolder name) = unopened_line is_journal name.now
+stop_line is_journal (stop.Unread path) = unread_line is_journal path.now
 
 -- the line and the status where all was done that was asked for, but for a fault
-abbrev pub line_after : Option Fault → List ℕ
-line_after None = []
-line_after (Some f) = fault_line f
+abbrev pub line_after : Bool → Option Fault → List ℕ
+line_after is_journal None = []
+line_after is_journal (Some f) = fault_line is_journal f
 
 abbrev pub status_after : Option Fault → ℕ
 status_after None = 0

@@ -1,11 +1,12 @@
 -- What a server has before it listens, and why it hasn't.
-use Rattle.std.specs.Prelude.{◌≡◌, ◌⊎◌, Some, None}
+use Rattle.std.specs.Prelude.{◌≡◌, ◌⊎◌, None}
 use Rattle.lmtpd_words.specs.Words.{named_site}
 use Rattle.lmtpd_words.specs.declared.words.ServeWords.{ServeWords}
 use Rattle.lmtpd_listen.specs.Opened.{IsUnopened}
 use Rattle.lmtpd_listen.specs.declared.fault.ListenFault.{ListenFault}
 use Rattle.lmtpd_listen.specs.declared.listen_address.ListenAddress.{ListenAddress}
 use Rattle.lmtpd_setup.specs.Faults.{first_fault, listen_refusal}
+use Rattle.lmtpd_setup.specs.Names.{IsNoSite}
 use Rattle.lmtpd_setup.specs.Unopened.{AreNotOpen}
 use Rattle.lmtpd_setup.specs.declared.ends.Ends.{Ends}
 use Rattle.lmtpd_setup.specs.declared.fault.Fault.{Fault}
@@ -28,12 +29,11 @@ access_asked words = record {
   anyway = words.start_anyway;
 }
 
--- why a server isn't set up: memory is lacking, and else the first fault of the site, and then one of its mailboxes'
--- files, or only their folder where it is to start anyway
+-- why a server isn't set up: it has no site, memory is lacking, or, its site being sound, one of its mailboxes' files
+-- can't be opened, or only their folder can't where it is to start anyway
 abbrev pub IsNotSetUp : ServeWords → Stop → Type 0
-IsNotSetUp words s = (s ≡ stop.Fault fault.Memory)
-    ⊎ (((f : Fault) × (s ≡ stop.Fault f) × (first_fault (named_site words.site) ≡ Some f))
-    ⊎ ((first_fault (named_site words.site) ≡ None) × AreNotOpen words.start_anyway words.site.boxes.items s))
+IsNotSetUp words s = IsNoSite words s
+    ⊎ ((s ≡ stop.Fault fault.Memory) ⊎ ((first_fault (named_site words.site) ≡ None) × AreNotOpen words.start_anyway words.site.boxes.items s))
 
 -- why nothing was opened there
 abbrev pub IsUnopenedAt : ListenAddress → Fault → Type 0

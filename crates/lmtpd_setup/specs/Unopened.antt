@@ -11,6 +11,7 @@ abbrev pub AreNotOpen : Bool → List (Bor (List ℕ)) → Stop → Type 0
 AreNotOpen anyway names (stop.Unopened name) = (anyway ≡ false) × Contains names name
 AreNotOpen anyway names (stop.NoFolder name) = (anyway ≡ true) × Contains names name
 AreNotOpen anyway names (stop.Fault cause) = cause ≡ fault.Memory
+AreNotOpen anyway names (stop.Name cause line) = ⊥
 AreNotOpen anyway names (stop.Words refused) = ⊥
 AreNotOpen anyway names (stop.Unread path) = ⊥
 
@@ -19,5 +20,6 @@ abbrev pub IsNotOpen : Bool → Bor (List ℕ) → Stop → Type 0
 IsNotOpen anyway mailbox (stop.Unopened name) = (anyway ≡ false) × (name ≡ mailbox)
 IsNotOpen anyway mailbox (stop.NoFolder name) = (anyway ≡ true) × (name ≡ mailbox)
 IsNotOpen anyway mailbox (stop.Fault cause) = cause ≡ fault.Memory
+IsNotOpen anyway mailbox (stop.Name cause line) = ⊥
 IsNotOpen anyway mailbox (stop.Words refused) = ⊥
 IsNotOpen anyway mailbox (stop.Unread path) = ⊥

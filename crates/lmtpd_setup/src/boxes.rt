@@ -8,7 +8,7 @@ use crate::stop::Stop;
 use lmtpd_words::{BOXES_FILE_LIMIT, SiteWords};
 use std::fs::{File, Files, OpenFile};
 use std::io::{ErrorKind, Read};
-use std::{fs, io, str};
+use std::{fs, io};
 use thiserror::Error;
 
 /// Why there is no text of a file.
@@ -52,7 +52,7 @@ pub fn fill<'a, P: Files>(
 }
 
 // The text of the file at this path.
-fn text_at<'a, P: Files>(rt: &P, path: &str, room: &'a mut Vec<u8>) -> Result<&'a str, TextFault>
+fn text_at<'a, P: Files>(rt: &P, path: &str, room: &'a mut Vec<u8>) -> Result<&'a [u8], TextFault>
     ensures { IfOk result (λ text. IsTextOfFile P.File.remaining text.now) }
 {
     let file = open_plain(rt, path)?;
@@ -74,8 +74,8 @@ fn open_plain<P: Files>(rt: &P, path: &str) -> Result<P::File, TextFault> {
     Ok(file)
 }
 
-// All that the file has left, where that is text within the limit.
-fn whole_text<'a, F: Read + Drop>(file: F, room: &'a mut Vec<u8>) -> Result<&'a str, TextFault>
+// All that the file has left, where that is within the limit.
+fn whole_text<'a, F: Read + Drop>(file: F, room: &'a mut Vec<u8>) -> Result<&'a [u8], TextFault>
     ensures { IfOk result (λ text. IsAllOfFile (F.remaining file) text.now) }
 {
     room.clear();
@@ -84,8 +84,5 @@ fn whole_text<'a, F: Read + Drop>(file: F, room: &'a mut Vec<u8>) -> Result<&'a 
     if room.len() > BOXES_FILE_LIMIT {
         return Err(TextFault::Unread);
     }
-    match str::from_utf8(room) {
-        Ok(text) => Ok(text),
-        Err(_) => Err(TextFault::Unread),
-    }
+    Ok(room)
 }

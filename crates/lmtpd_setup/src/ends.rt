@@ -7,7 +7,7 @@ use lmtp_talk::{Curfew, has_passed};
 use std::alloc::{AllocError, Global};
 use std::fs;
 use std::fs::Files;
-use std::sync::atomic::{AtomicBool, AtomicU64, Ordering};
+use std::sync::atomic::{AtomicU64, Ordering};
 use std::time::{Clock, Duration};
 
 /// How often the stop file is looked for, at most.
@@ -16,7 +16,10 @@ const LOOK_MS: u64 = 250;
 /// How long a server that heals goes on after a mailbox failed.
 const HEAL_MS: u64 = 30_000;
 
-/// No mailbox has failed.
+/// How long conversations, and waits for locks, go on once the server's end was asked for.
+const GRACE_MS: u64 = 5_000;
+
+/// No mailbox has failed, or the end wasn't asked for.
 const NEVER: u64 = u64::MAX;
 
 /// What ends a server, beside the number of its conversations, and what ends each of these.
@@ -40,7 +43,8 @@ pub struct ServerCurfew<R> {
     // by the monotonic clock, in milliseconds
     looked: AtomicU64,
     failed: AtomicU64,
-    is_asked: AtomicBool,
+    // when it was found that the end was asked for
+    asked: AtomicU64,
 }
 
 impl<R: Drop> ServerCurfew<R> {
@@ -60,7 +64,7 @@ impl<R: Drop> ServerCurfew<R> {
             session: Duration::from_secs(u64::from(ends.session_time)),
             looked: AtomicU64::new(0),
             failed: AtomicU64::new(NEVER),
-            is_asked: AtomicBool::new(false),
+            asked: AtomicU64::new(NEVER),
         })
     }
 }
@@ -102,6 +106,29 @@ impl<R: Clock + Files> ServerCurfew<R> {
         self.looked.store(now, Ordering::SeqCst);
         fs::symlink_metadata(&self.rt, path.as_str()).is_ok()
     }
+
+    // When it was found that the end was asked for; the first who finds it counts.
+    fn asked_ms(&self) -> Option<u64> {
+        let asked = self.asked.load(Ordering::SeqCst);
+        if asked != NEVER {
+            return Some(asked);
+        }
+        let now = self.now_ms();
+        if !self.is_to_heal(now) && !self.is_stop_file_there(now) {
+            return None;
+        }
+        Some(self.asked.fetch_min(now, Ordering::SeqCst).min(now))
+    }
+}
+
+impl<R: Clock + Files + Drop> ServerCurfew<R> {
+    /// Whether the end was asked for so long ago that nothing is waited for any more; without a clock at once.
+    pub(crate) fn is_grace_over(&self) -> bool {
+        match self.asked_at() {
+            Some(asked) => has_passed(asked, self.moment(), Duration::from_millis(GRACE_MS)),
+            None => false,
+        }
+    }
 }
 
 impl<R: Clock + Files + Drop> Curfew for ServerCurfew<R> {
@@ -113,15 +140,11 @@ impl<R: Clock + Files + Drop> Curfew for ServerCurfew<R> {
 
     /// Once it was asked for it stays so.
     fn is_asked(&self) -> bool {
-        if self.is_asked.load(Ordering::SeqCst) {
-            return true;
-        }
-        let now = self.now_ms();
-        let is_asked = self.is_to_heal(now) || self.is_stop_file_there(now);
-        if is_asked {
-            self.is_asked.store(true, Ordering::SeqCst);
-        }
-        is_asked
+        self.asked_ms().is_some()
+    }
+
+    fn asked_at(&self) -> Option<Duration> {
+        Some(Duration::from_millis(self.asked_ms()?))
     }
 
     fn moment(&self) -> Duration {
@@ -129,6 +152,6 @@ impl<R: Clock + Files + Drop> Curfew for ServerCurfew<R> {
     }
 
     fn is_over(&self, begun: Duration) -> bool {
-        has_passed(begun, self.now(), self.session) || self.is_asked()
+        has_passed(begun, self.now(), self.session) || self.is_grace_over()
     }
 }

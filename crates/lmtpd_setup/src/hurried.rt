@@ -1,16 +1,15 @@
-//! A clock that doesn't hold up a server whose end was asked for.
+//! A clock that doesn't hold up a server for long whose end was asked for.
 
 ghost use Rattle.std.specs.Prelude.{◌≡◌};
 
 use crate::ends::ServerCurfew;
-use lmtp_talk::Curfew;
 use std::fs::Files;
 use std::io;
 use std::sync::Arc;
 use std::time::{Clock, Duration};
 
-/// The clock by which a mailbox pauses while other programs have it locked: once the server's end was asked for a pause
-/// takes no time, so that the tries that are left are made at once.
+/// The clock by which a mailbox pauses while other programs have it locked: once the grace is over that the server has
+/// after its end was asked for a pause takes no time, so that the tries that are left are made at once.
 #[derive(Drop)]
 pub struct HurriedClock<R: Drop> {
     clock: R,
@@ -37,7 +36,7 @@ impl<R: Clock + Files + Drop> Clock for HurriedClock<R> {
     }
 
     fn sleep(&self, duration: Duration) {
-        if !self.curfew.is_asked() {
+        if !self.curfew.is_grace_over() {
             self.clock.sleep(duration);
         }
     }

@@ -10,6 +10,7 @@ use crate::hurried::HurriedClock;
 use crate::stop::Stop;
 use crate::watched::WatchedFile;
 use lmtpd_log::{LoggedFile, LoggedMailbox};
+use lmtpd_words::printable;
 use log::{Log, error};
 use mbox_rd::{RangeLock, SharedSpool, StdMailboxFile};
 use std::alloc::{AllocError, Global};
@@ -46,7 +47,7 @@ pub fn open_mailboxes<'a, R, G>(
     rt: R,
     alloc: Global,
     access: Access<'_>,
-    names: &[&'a str],
+    names: &[&'a [u8]],
     curfew: &Arc<ServerCurfew<R>>,
     log: G,
 ) -> Result<Vec<ServedMailbox<R, G>>, Stop<'a>>
@@ -71,12 +72,13 @@ where
 fn logged_mailbox<'a, S: Drop, G: Drop>(
     alloc: Global,
     spool: S,
-    name: &'a str,
+    name: &'a [u8],
     log: G,
 ) -> Result<LoggedMailbox<S, G>, Stop<'a>>
     ensures ok { IfOk result (λ mailbox. spool_in mailbox ≡ spool) }
     ensures err { IfErr result (λ stop. stop ≡ Stop.Fault Fault.Memory) }
 {
+    let name = printable(name);
     match format!(in alloc; "{name}") {
         Ok(name) => Ok(LoggedMailbox::new(spool, name, log)),
         Err(_) => Err(Stop::Fault(Fault::Memory)),
@@ -87,7 +89,7 @@ fn open_mailbox<'a, R, G>(
     rt: R,
     alloc: Global,
     access: Access<'_>,
-    name: &'a str,
+    name: &'a [u8],
     curfew: &Arc<ServerCurfew<R>>,
     log: G,
 ) -> Result<SharedMailbox<R, G>, Stop<'a>>
@@ -111,7 +113,7 @@ fn open_file<'a, R: Files + Clock + Copy + Drop, G: Log>(
     rt: R,
     alloc: Global,
     access: Access<'_>,
-    name: &'a str,
+    name: &'a [u8],
     log: &G,
 ) -> Result<StdMailboxFile<R>, Stop<'a>>
 where
@@ -119,7 +121,8 @@ where
     ensures { IfErr result (IsNotOpen access.entry.anyway name.entry) }
 {
     let folder = access.folder;
-    let path = match format!(in alloc; "{folder}/{name}.mbox") {
+    let shown = printable(name);
+    let path = match format!(in alloc; "{folder}/{shown}.mbox") {
         Ok(path) => path,
         Err(_) => return Err(Stop::Fault(Fault::Memory)),
     };
@@ -138,7 +141,7 @@ where
 fn allow_unopened<'a, R: Files, G: Log>(
     rt: &R,
     access: Access<'_>,
-    name: &'a str,
+    name: &'a [u8],
     reason: io::Error,
     log: &G,
 ) -> Result<(), Stop<'a>>
@@ -147,7 +150,8 @@ fn allow_unopened<'a, R: Files, G: Log>(
     if reason.kind() == ErrorKind::OutOfMemory {
         return Err(Stop::Fault(Fault::Memory));
     }
-    error!(log; target: "lmtpd", mailbox = name, reason:%; "cannot open");
+    let mailbox = printable(name);
+    error!(log; target: "lmtpd", mailbox:%, reason:%; "cannot open");
     if !access.anyway {
         return Err(Stop::Unopened(name));
     }
@@ -160,12 +164,13 @@ fn allow_unopened<'a, R: Files, G: Log>(
 fn logged_file<'a, F: Drop, G: Drop>(
     alloc: Global,
     file: F,
-    name: &'a str,
+    name: &'a [u8],
     log: G,
 ) -> Result<LoggedFile<F, G>, Stop<'a>>
     ensures ok { IfOk result (λ logged. file_in logged ≡ file) }
     ensures err { IfErr result (λ stop. stop ≡ Stop.Fault Fault.Memory) }
 {
+    let name = printable(name);
     match format!(in alloc; "{name}") {
         Ok(name) => Ok(LoggedFile::new(file, name, log)),
         Err(_) => Err(Stop::Fault(Fault::Memory)),

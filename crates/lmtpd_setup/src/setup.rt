@@ -11,7 +11,7 @@ use crate::fault::Fault;
 use crate::logger::{ServerLog, line_setting, server_log};
 use crate::mailboxes::{Access, ServedMailbox, open_mailboxes};
 use crate::room::tell_of_room;
-use crate::site::shared_site;
+use crate::site::served_site;
 use crate::stop::Stop;
 use lmtp_text::Site;
 use lmtpd_log::LineSetting;
@@ -59,7 +59,7 @@ where
     ensures refused { IfErr result (IsNotSetUp words.now) }
 {
     let alloc = rt.alloc();
-    let site = shared_site(alloc, &words.site)?;
+    let site = served_site(alloc, words)?;
     let log = server_log(rt, threads, words.log);
     tell_of_room(words, &log);
     let access = access_asked(words);

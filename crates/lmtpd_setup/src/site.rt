@@ -7,10 +7,13 @@ ghost use Rattle.std.specs.List.{list_all};
 ghost use Rattle.lmtp_text.specs.Sites.{site_of, texts};
 ghost use Rattle.lmtpd_words.specs.Words.{named_site};
 ghost use Rattle.lmtpd_setup.specs.Faults.{first_fault, site_of_one};
+ghost use Rattle.lmtpd_setup.specs.Names.{IsNoSite};
 
 use crate::fault::Fault;
+use crate::names::refused_site;
+use crate::stop::Stop;
 use lmtp_text::Site;
-use lmtpd_words::SiteWords;
+use lmtpd_words::{ServeWords, SiteWords};
 use std::alloc::{AllocError, Global};
 use std::sync::Arc;
 
@@ -23,8 +26,7 @@ pub fn site_of(alloc: Global, words: &SiteWords) -> Result<Site, Fault>
         (λ fault. (fault ≡ Fault.Memory) ⊎ (first_fault (named_site words.now) ≡ Some fault)) }
 {
     let domains = bytes_of(alloc, &words.domains)?;
-    let boxes = bytes_of(alloc, &words.boxes)?;
-    let site = make_site(alloc, words.host.as_bytes(), &domains, &boxes)?;
+    let site = make_site(alloc, words.host.as_bytes(), &domains, &words.boxes)?;
     let site = site.with_message_limit(words.message_limit);
     match words.recipient_delimiter {
         Some(delimiter) => Ok(site.with_recipient_delimiter(delimiter)),
@@ -32,8 +34,19 @@ pub fn site_of(alloc: Global, words: &SiteWords) -> Result<Site, Fault>
     }
 }
 
-/// The same, to be shared by threads.
-pub fn shared_site(alloc: Global, words: &SiteWords) -> Result<Arc<Site>, Fault>
+/// The site of a server's words, to be shared by threads, or what ends the server.
+pub fn served_site<'a>(alloc: Global, words: &ServeWords<'_>) -> Result<Arc<Site>, Stop<'a>>
+    ensures { MatchResult result
+        (λ site. (arc_value site ≡ named_site words.now.site) × (first_fault (named_site words.now.site) ≡ None))
+        (IsNoSite words.now) }
+{
+    match shared_site(alloc, &words.site) {
+        Ok(site) => Ok(site),
+        Err(fault) => Err(refused_site(alloc, words, fault)),
+    }
+}
+
+fn shared_site(alloc: Global, words: &SiteWords) -> Result<Arc<Site>, Fault>
     ensures { MatchResult result
         (λ site. (arc_value site ≡ named_site words.now) × (first_fault (named_site words.now) ≡ None))
         (λ fault. (fault ≡ Fault.Memory) ⊎ (first_fault (named_site words.now) ≡ Some fault)) }
@@ -78,7 +91,8 @@ fn try_each_box(alloc: Global, host: &[u8], domains: &[&[u8]], boxes: &[&[u8]]) 
     Ok(())
 }
 
-fn try_box(alloc: Global, host: &[u8], domains: &[&[u8]], name: &[u8]) -> Result<(), Fault>
+/// Whether the name is one that a mailbox can have, beside that host and these domains.
+pub fn try_box(alloc: Global, host: &[u8], domains: &[&[u8]], name: &[u8]) -> Result<(), Fault>
     ensures { let site = site_of_one host.now domains.now name.now in
         MatchResult result (λ _. first_fault site ≡ None)
         (λ fault. (fault ≡ Fault.Memory) ⊎ (first_fault site ≡ Some fault)) }

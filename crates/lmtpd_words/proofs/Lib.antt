@@ -1,4 +1,5 @@
 pub mod Written
+pub mod LineNames
 pub mod Listed
 mod Escapes
 mod Printables

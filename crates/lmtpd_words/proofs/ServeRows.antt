@@ -29,6 +29,14 @@ pub start_anyway_left_out : of_rows (one_of (codes "start-anyway")) (served (cod
 unfolding clap_on_literals
 start_anyway_left_out = refl
 
+pub check_words_given : of_rows (one_of (codes "check-words")) (served (codes "--check-words" ∷ codes "anna" ∷ [])) ≡ Some (Some (codes "true"))
+unfolding clap_on_literals
+check_words_given = refl
+
+pub check_words_left_out : of_rows (one_of (codes "check-words")) (served (codes "anna" ∷ [])) ≡ Some (Some (codes "false"))
+unfolding clap_on_literals
+check_words_left_out = refl
+
 pub log_addresses_given : of_rows (one_of (codes "log-addresses")) (served (codes "--log-addresses" ∷ codes "anna" ∷ [])) ≡ Some (Some (codes "true"))
 unfolding clap_on_literals
 log_addresses_given = refl

@@ -1,5 +1,5 @@
 -- Which names a text has that lists mailboxes, a name a line.
-use Rattle.std.specs.Prelude.{◌==◌, ◌-◌, not, ℕ, Bool, List, length, take, drop, map}
+use Rattle.std.specs.Prelude.{◌≡◌, ◌==◌, ◌-◌, ◌+◌, ◌<◌, not, ℕ, Bool, true, List, [], length, take, drop, map, get_or}
 use Rattle.std.specs.Char.{is_ascii_whitespace}
 use Rattle.std.specs.List.{before_first, filter, prefix_len, slice_split, suffix_len}
 use Rattle.mail_world.specs.Text.{lf}
@@ -31,3 +31,12 @@ names_in lines = filter is_named (map name_in lines)
 -- the mailboxes that a text lists
 abbrev pub listed_boxes : List ℕ → List (List ℕ)
 listed_boxes text = names_in (lines_of text)
+
+-- The name of that number, counted from 0, stands on this line, counted from 1: as many names stand on the lines before
+-- it. Each line counts, be it empty or a comment.
+pub record IsLineOfName (text : List ℕ) (number line : ℕ) : Type 0 where
+  pub above : ℕ
+  pub counted : line ≡ above + 1
+  pub within : above < length (lines_of text)
+  pub named : is_named (name_in (get_or (lines_of text) above [])) ≡ true
+  pub names_above : length (names_in (take above (lines_of text))) ≡ number

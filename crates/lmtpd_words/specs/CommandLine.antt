@@ -41,6 +41,10 @@ texts_rule name = record (new_rule name) {
   range = Some (record { start_inclusive = 1; end_inclusive = usize_max });
 }
 
+-- one `TEXT` with no name before it
+abbrev pub bare_rule : List ℕ → Rule
+bare_rule name = record (new_rule name) { value_names = 1 }
+
 abbrev pub box_rule : Rule
 box_rule = texts_rule (codes "box")
 
@@ -120,6 +124,9 @@ heal_rule = flag_rule (codes "heal")
 abbrev pub start_anyway_rule : Rule
 start_anyway_rule = flag_rule (codes "start-anyway")
 
+abbrev pub check_words_rule : Rule
+check_words_rule = flag_rule (codes "check-words")
+
 abbrev pub rehearse_app : App
 rehearse_app =
     with_rule (with_rule (with_rule (with_rule (with_rule (with_rule (with_rule (with_rule (with_rule
@@ -143,14 +150,23 @@ kept_app =
 
 abbrev pub serve_app : App
 serve_app =
-    with_rule (with_rule (with_rule (with_rule (with_rule (with_rule
-    kept_app connections_rule) stop_file_rule) heal_rule) start_anyway_rule) boxes_rule) box_rule
+    with_rule (with_rule (with_rule (with_rule (with_rule (with_rule (with_rule
+    kept_app connections_rule) stop_file_rule) heal_rule) start_anyway_rule) check_words_rule) boxes_rule) box_rule
 
 abbrev pub file_rule : Rule
 file_rule = must (texts_rule (codes "file"))
 
 abbrev pub check_app : App
 check_app = with_rule (new_app (codes "check")) file_rule
+
+abbrev pub copy_file_rule : Rule
+copy_file_rule = must (bare_rule (codes "file"))
+
+abbrev pub copy_to_rule : Rule
+copy_to_rule = must (bare_rule (codes "to"))
+
+abbrev pub copy_app : App
+copy_app = with_rule (with_rule (new_app (codes "copy")) copy_file_rule) copy_to_rule
 
 abbrev pub bare_app : App
 bare_app =
@@ -160,4 +176,6 @@ bare_app =
 
 -- the whole command line
 abbrev pub program_app : App
-program_app = with_subcommand (with_subcommand (with_subcommand bare_app rehearse_app.top) serve_app.top) check_app.top
+program_app =
+    with_subcommand (with_subcommand (with_subcommand (with_subcommand
+    bare_app rehearse_app.top) serve_app.top) check_app.top) copy_app.top

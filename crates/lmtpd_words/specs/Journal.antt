@@ -1,5 +1,5 @@
 -- How the environment names the stream to the journal, and how the journal is told the priority of a line.
-use Rattle.std.specs.Prelude.{ℕ, List, ◌++◌, codes, decimal}
+use Rattle.std.specs.Prelude.{ℕ, Bool, true, false, List, [], ◌++◌, codes, decimal}
 use Rattle.log.specs.declared.level.Level.{Level}
 use Rattle.log.specs.declared.level.Level.TheVariants as level
 
@@ -14,3 +14,8 @@ priority_text level.Warn = codes "<4>"
 priority_text level.Info = codes "<6>"
 priority_text level.Debug = codes "<7>"
 priority_text level.Trace = codes "<7>"
+
+-- the same where it may go elsewhere too, where nothing stands before it
+abbrev pub priority_in : Bool → Level → List ℕ
+priority_in true level = priority_text level
+priority_in false level = []

@@ -22,8 +22,9 @@ use Rattle.lmtpd_words.specs.declared.words.SiteWords.{SiteWords}
 use Rattle.lmtpd_words.specs.declared.words.RehearseWords.{RehearseWords}
 use Rattle.lmtpd_words.specs.declared.words.ServeWords.{ServeWords}
 use Rattle.lmtpd_words.specs.declared.words.CheckWords.{CheckWords}
+use Rattle.lmtpd_words.specs.declared.words.CopyWords.{CopyWords}
 use Rattle.lmtpd_words.specs.declared.words.Words.{Words}
-use Rattle.lmtpd_words.specs.declared.words.Words.TheVariants.{Rehearse, Serve, Check}
+use Rattle.lmtpd_words.specs.declared.words.Words.TheVariants.{Rehearse, Serve, Check, Copy}
 
 -- the texts of words
 abbrev pub as_texts : List (String Global) → List Text
@@ -141,6 +142,7 @@ pub record IsSiteRead (rows : List Row) (words : SiteWords) : Type 0 where
   pub host : first_of (codes "host") rows ≡ Some words.host.now
   pub domains : texts words.domains.items ≡ option_map_or listed (first_of (codes "domains") rows) []
   pub boxes_file : first_of (codes "boxes") rows ≡ option_map (λ path. path.now) words.boxes_file
+  pub listed : words.listed.now ≡ []
   pub boxes : texts words.boxes.items ≡ option_map_or (λ names. names) (all_of (codes "box") rows) []
   pub message_limit : IsMessageLimitOr (one_of (codes "message-limit") rows) words.message_limit
   pub recipient_delimiter : IsDelimiterIfGiven (first_of (codes "recipient-delimiter") rows) words.recipient_delimiter
@@ -175,10 +177,16 @@ pub record IsServeRead (rows : List Row) (words : ServeWords) : Type 0 where
   pub stop_file : IsPathIfGiven (first_of (codes "stop-file") rows) (option_map (λ path. path.now) words.stop_file)
   pub heal : IsFlag (one_of (codes "heal") rows) words.heal
   pub start_anyway : IsFlag (one_of (codes "start-anyway") rows) words.start_anyway
+  pub check_words : IsFlag (one_of (codes "check-words") rows) words.check_words
 
 -- what the values of a check's argument ask for
 pub record IsCheckRead (rows : List Row) (words : CheckWords) : Type 0 where
   pub files : all_of (codes "file") rows ≡ Some (texts words.files.items)
+
+-- what the values of a copy's arguments ask for
+pub record IsCopyRead (rows : List Row) (words : CopyWords) : Type 0 where
+  pub file : first_of (codes "file") rows ≡ Some words.file.now
+  pub to : first_of (codes "to") rows ≡ Some words.to.now
 
 -- an argument that must be given has no value, or no number; or one that is given writes no number, path, level or mode
 abbrev pub LacksText : List ℕ → List Row → Type 0
@@ -206,26 +214,36 @@ LacksServe rows =
 abbrev pub LacksCheck : List Row → Type 0
 LacksCheck rows = all_of (codes "file") rows ≡ None
 
+abbrev pub LacksCopy : List Row → Type 0
+LacksCopy rows = LacksText (codes "file") rows ⊎ LacksText (codes "to") rows
+
+-- a call of a copy lacks something
+abbrev pub LacksCopied : Option (Text × List Row) → Type 0
+LacksCopied call = (rows : List Row) → call ≡ Some (codes "copy", rows) → LacksCopy rows
+
 -- what a subcommand's call asks for: its name and the rows that its arguments get
 abbrev pub IsAsked : Option (Text × List Row) → Words → Type 0
 IsAsked call (Rehearse words) = (rows : List Row) × (call ≡ Some (codes "rehearse", rows)) × IsRehearseRead rows words
 IsAsked call (Serve words) = (rows : List Row) × (call ≡ Some (codes "serve", rows)) × IsServeRead rows words
 IsAsked call (Check words) = (rows : List Row) × (call ≡ Some (codes "check", rows)) × IsCheckRead rows words
+IsAsked call (Copy words) = (rows : List Row) × (call ≡ Some (codes "copy", rows)) × IsCopyRead rows words
 
 -- a call of any of them lacks something
 pub record IsLacking (call : Option (Text × List Row)) : Type 0 where
   pub rehearse : (rows : List Row) → call ≡ Some (codes "rehearse", rows) → LacksRehearse rows
   pub serve : (rows : List Row) → call ≡ Some (codes "serve", rows) → LacksServe rows
   pub check : (rows : List Row) → call ≡ Some (codes "check", rows) → LacksCheck rows
+  pub copy : LacksCopied call
 
--- these words with the mailboxes that a text lists, after their own
-pub record HasListed (text : Text) (words listed : SiteWords) : Type 0 where
-  pub host : listed.host ≡ words.host
-  pub domains : listed.domains ≡ words.domains
-  pub boxes_file : listed.boxes_file ≡ words.boxes_file
-  pub boxes : texts listed.boxes.items ≡ texts words.boxes.items ++ listed_boxes text
-  pub message_limit : listed.message_limit ≡ words.message_limit
-  pub recipient_delimiter : listed.recipient_delimiter ≡ words.recipient_delimiter
+-- these words with the mailboxes that a text lists, after their own, and with that text
+pub record HasListed (text : Text) (words filled : SiteWords) : Type 0 where
+  pub host : filled.host ≡ words.host
+  pub domains : filled.domains ≡ words.domains
+  pub boxes_file : filled.boxes_file ≡ words.boxes_file
+  pub listed : filled.listed.now ≡ text
+  pub boxes : texts filled.boxes.items ≡ texts words.boxes.items ++ listed_boxes text
+  pub message_limit : filled.message_limit ≡ words.message_limit
+  pub recipient_delimiter : filled.recipient_delimiter ≡ words.recipient_delimiter
 
 -- the site that they name
 abbrev pub named_site : SiteWords → Site

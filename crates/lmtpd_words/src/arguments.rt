@@ -1,4 +1,4 @@
-//! The arguments of the command line: a row for each, and the three subcommands' lists.
+//! The arguments of the command line: a row for each, and the four subcommands' lists.
 
 ghost use Rattle.std.specs.Prelude.{◌≡◌, false};
 ghost use Rattle.clap.specs.Words.{rule_of};
@@ -16,6 +16,8 @@ pub enum ValueKind {
     Number { least: u32, most: u32 },
     /// A number of bytes in decimal, below 2^64.
     Bytes,
+    /// One text, with no name before it.
+    Bare,
     /// One text or more, with no name before them.
     Texts,
     /// Nothing: the name alone says it.
@@ -51,6 +53,7 @@ impl Argument {
                 .long(self.name)
                 .value_name(self.value)
                 .value_parser(ValueParser::unsigned(0, u64::MAX)),
+            ValueKind::Bare => arg.value_name(self.value),
             ValueKind::Texts => arg.value_name(self.value).num_args(1..),
             ValueKind::Flag => arg.long(self.name).action(ArgAction::SetTrue),
         }
@@ -71,7 +74,7 @@ pub const REHEARSE: [Argument; 9] = [
 ];
 
 /// What a server takes: what must be given, what may be, what ends it, and the mailboxes.
-pub const SERVE: [Argument; 24] = [
+pub const SERVE: [Argument; 25] = [
     HOST,
     LISTEN,
     DIR,
@@ -94,12 +97,16 @@ pub const SERVE: [Argument; 24] = [
     STOP_FILE,
     HEAL,
     START_ANYWAY,
+    CHECK_WORDS,
     BOXES_FILE,
     BOXES,
 ];
 
 /// What a check takes.
 pub const CHECK: [Argument; 1] = [FILES];
+
+/// What a copy takes.
+pub const COPY: [Argument; 2] = [COPIED_FILE, COPY_TO];
 
 const SECONDS_OF_A_DAY: u32 = 86_400;
 
@@ -317,6 +324,14 @@ const START_ANYWAY: Argument = Argument {
     kind: ValueKind::Flag,
 };
 
+const CHECK_WORDS: Argument = Argument {
+    name: "check-words",
+    value: "",
+    help: "Reads all words and FILE, says what can't be used, and serves nothing; the folder isn't looked at",
+    is_required: false,
+    kind: ValueKind::Flag,
+};
+
 const BOXES_FILE: Argument = Argument {
     name: "boxes",
     value: "FILE",
@@ -339,4 +354,20 @@ const FILES: Argument = Argument {
     help: "The mailbox files, of any size, which are read in this order",
     is_required: true,
     kind: ValueKind::Texts,
+};
+
+const COPIED_FILE: Argument = Argument {
+    name: "file",
+    value: "FILE",
+    help: "The mailbox file, whosever it is; its locks are waited for for 10 seconds",
+    is_required: true,
+    kind: ValueKind::Bare,
+};
+
+const COPY_TO: Argument = Argument {
+    name: "to",
+    value: "TO",
+    help: "The copy, which is made for its owner alone; nothing may be there of that name",
+    is_required: true,
+    kind: ValueKind::Bare,
 };

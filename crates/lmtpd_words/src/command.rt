@@ -5,11 +5,13 @@ ghost use Rattle.clap.specs.Simple.{new_app};
 ghost use Rattle.clap.specs.Words.{app_of, with_subcommand};
 ghost use Rattle.clap.specs.declared.builder.command.Command.TheViews.{out-Command as fields_of};
 ghost use Rattle.lmtpd_words.specs.Arguments.{argument_rule, with_rules};
-ghost use Rattle.lmtpd_words.specs.CommandLine.{bare_app, check_app, program_app, rehearse_app, serve_app};
+ghost use Rattle.lmtpd_words.specs.CommandLine.{bare_app, check_app, copy_app, program_app, rehearse_app};
+ghost use Rattle.lmtpd_words.specs.CommandLine.{serve_app};
 
-use crate::arguments::{Argument, CHECK, REHEARSE, SERVE};
+use crate::arguments::{Argument, CHECK, COPY, REHEARSE, SERVE};
 use crate::texts::{
-    AFTER_HELP_CHECK, AFTER_HELP_PROGRAM, AFTER_HELP_REHEARSE, AFTER_HELP_SERVE, VERSION,
+    AFTER_HELP_CHECK, AFTER_HELP_COPY, AFTER_HELP_PROGRAM, AFTER_HELP_REHEARSE, AFTER_HELP_SERVE,
+    VERSION,
 };
 use clap::Command;
 use std::alloc::{AllocError, Global};
@@ -17,6 +19,16 @@ use std::alloc::{AllocError, Global};
 /// The whole command line.
 pub fn program<'a>(alloc: Global) -> Result<Command<'a>, AllocError>
     ensures { IfOk result (λ c. app_of c ≡ program_app) }
+{
+    let command = with_check(alloc)?;
+    let copy = copy(alloc)?;
+    command.subcommand(copy)
+}
+
+// The program with its first three subcommands.
+fn with_check<'a>(alloc: Global) -> Result<Command<'a>, AllocError>
+    ensures { IfOk result (λ c. app_of c ≡ with_subcommand (with_subcommand (with_subcommand
+        bare_app rehearse_app.top) serve_app.top) check_app.top) }
 {
     let command = with_serve(alloc)?;
     let check = check(alloc)?;
@@ -79,6 +91,18 @@ fn check<'a>(alloc: Global) -> Result<Command<'a>, AllocError>
         .about("Counts the letters in mailbox files, or says at which byte a file breaks the form")
         .after_help(AFTER_HELP_CHECK);
     with_arguments(alloc, check, &CHECK)
+}
+
+fn copy<'a>(alloc: Global) -> Result<Command<'a>, AllocError>
+    ensures shape { IfOk result (λ c. app_of c ≡ copy_app) }
+    ensures local { IfOk result (λ c. (fields_of c).has_globals ≡ false) }
+{
+    let copy = Command::new(alloc, "copy")
+        .about(
+            "Copies a mailbox file while it is locked, so that no letter is half there or half gone",
+        )
+        .after_help(AFTER_HELP_COPY);
+    with_arguments(alloc, copy, &COPY)
 }
 
 fn with_arguments<'a>(

@@ -4,17 +4,17 @@ ghost use Rattle.std.specs.Prelude.{◌≡◌, All};
 ghost use Rattle.percent_encoding.specs.Iter.{encoded_text};
 ghost use Rattle.lmtpd_words.specs.Printable.{IsPrintable, printable_text, Escapes};
 
-use percent_encoding::{CONTROLS, PercentEncode, utf8_percent_encode};
+use percent_encoding::{CONTROLS, PercentEncode, percent_encode};
 use std::fmt;
 use std::fmt::{Display, Formatter, Write};
 
-/// The text with `%` and two hexadecimal digits in place of each byte that isn't printable ASCII.
-pub fn printable(text: &str) -> PercentEncode<'_>
+/// The text, which may be any bytes, with `%` and two hexadecimal digits in place of each that isn't printable ASCII.
+pub fn printable(text: &[u8]) -> PercentEncode<'_>
     ensures text { encoded_text result ≡ printable_text text.now }
     ensures clean { All IsPrintable (encoded_text result) }
     ensures same { All IsPrintable text.now → encoded_text result ≡ text.now }
 {
-    utf8_percent_encode(text, CONTROLS)
+    percent_encode(text, CONTROLS)
 }
 
 /// Shows what the value shows, but for what isn't printable.
@@ -49,6 +49,6 @@ impl<'f, W: Write> Write for Escaping<'f, W> {
     ghost write_str_gives = { Escapes W.write_str_gives };
 
     fn write_str(&mut self, text: &str) -> fmt::Result {
-        self.out.write(printable(text))
+        self.out.write(printable(text.as_bytes()))
     }
 }

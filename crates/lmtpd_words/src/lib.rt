@@ -15,16 +15,19 @@ mod journal;
 mod lines;
 mod reading;
 mod texts;
+mod urgent;
 mod values;
 mod words;
 
+pub use boxes::{count_names, line_of_name};
 pub use bytes::{WriteFault, write_bytes, write_each};
 pub use escaped::printable;
 pub use journal::{is_journal, names_stream};
-pub use lines::ErrorLines;
+pub use lines::{ErrorLines, priority_in};
 pub use reading::{not_text, read_words};
+pub use urgent::Urgent;
 pub use words::{
-    BOXES_FILE_LIMIT, CheckWords, DEFAULT_BLOCKS, DEFAULT_CAPACITY, DEFAULT_LANES,
+    BOXES_FILE_LIMIT, CheckWords, CopyWords, DEFAULT_BLOCKS, DEFAULT_CAPACITY, DEFAULT_LANES,
     DEFAULT_LOCK_WAIT, DEFAULT_LOG, DEFAULT_MAILBOX_MODE, DEFAULT_READS, DEFAULT_SESSION_TIME,
     DEFAULT_SOCKET_MODE, DEFAULT_TIMEOUT, MODE_DIGIT_LIMIT, RehearseWords, ServeWords, SiteWords,
     Words,

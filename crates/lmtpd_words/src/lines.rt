@@ -2,7 +2,7 @@
 
 ghost use Rattle.std.specs.Prelude.{◌≡◌, Some};
 ghost use Rattle.std.specs.Fmt.{◌++?◌};
-ghost use Rattle.lmtpd_words.specs.Journal.{priority_text};
+ghost use Rattle.lmtpd_words.specs.Journal.{priority_in, priority_text};
 
 use crate::escaped::Escaped;
 use log::kv::Source;
@@ -42,11 +42,7 @@ impl<R: Eprint> Log for ErrorLines<R> {
 
     /// A line that can't be written is dropped.
     fn log<D: Display, K: Source, S: Spans>(&self, record: &Record<'_, D, K, S>) {
-        let priority = if self.is_journal {
-            priority_of(record.level())
-        } else {
-            ""
-        };
+        let priority = priority_in(self.is_journal, record.level());
         let line = Escaped(Line::new(record));
         let _ = self.rt.eprintln(Prioritized { priority, line });
     }
@@ -56,6 +52,13 @@ impl<R: Eprint> Log for ErrorLines<R> {
     fn target(&self) -> &str {
         ""
     }
+}
+
+/// What stands before a line of that level: in the journal its priority, and nothing elsewhere.
+pub fn priority_in(is_journal: bool, level: Level) -> &'static str
+    ensures { result.now ≡ priority_in is_journal level }
+{
+    if is_journal { priority_of(level) } else { "" }
 }
 
 /// How the journal is told a line's priority, of those of syslog: before the line, in angle brackets.

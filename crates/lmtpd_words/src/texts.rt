@@ -35,6 +35,7 @@ pub const AFTER_HELP_PROGRAM: &str = "\
 Examples:
   lmtpd serve --host mx.example --listen 127.0.0.1:2003 --dir mail anna ben
   lmtpd check mail/anna.mbox mail/ben.mbox
+  lmtpd copy mail/anna.mbox backup/anna.mbox
   lmtpd help serve
 
 Exit status:
@@ -73,4 +74,15 @@ Example:
 Exit status:
   0  Each file is a mailbox
   1  A file breaks the form or can't be read, as its line says; or memory was lacking, or a write failed
+  2  A word can't be used, and nothing was done";
+
+/// After the words of a copy.
+pub const AFTER_HELP_COPY: &str = "\
+Example:
+  lmtpd copy mail/anna.mbox backup/anna.mbox
+
+Exit status:
+  0  TO has the bytes of FILE, as they were at one moment, and is on the disk
+  1  FILE can't be read or is in use, TO can't be made, memory was lacking, or a write failed; standard error says which,
+     and nothing is left of TO
   2  A word can't be used, and nothing was done";

@@ -4,20 +4,20 @@ ghost use Rattle.std.specs.Prelude.{◌≡◌, ◌∷◌, [], codes, Some, IfOk,
 ghost use Rattle.clap.specs.Words.{Text, all_of, first_of, found_of, one_of, rows_of, subcommand_rows_of};
 ghost use Rattle.std.specs.Option.{option_map, option_map_or};
 ghost use Rattle.lmtp_text.specs.Sites.{texts};
-ghost use Rattle.lmtpd_words.specs.Words.{IsAsked, IsCheckRead, IsLimit, IsNumberOr, IsRehearseRead, IsServeRead};
+ghost use Rattle.lmtpd_words.specs.Words.{IsAsked, IsCheckRead, IsCopyRead, IsLimit, IsNumberOr, IsRehearseRead, IsServeRead};
 ghost use Rattle.lmtpd_words.specs.Words.{IsEmpty, IsModeOr, IsNoMode, IsNoPath, NamesPath, IsPathIfGiven, WritesMode};
 ghost use Rattle.lmtpd_words.specs.Words.{IsFlag, IsLevel, IsNoLevel, IsNoNumber, IsSiteRead, octal};
 ghost use Rattle.lmtpd_words.specs.Words.{IsDelimiterIfGiven, IsNoDelimiter};
 ghost use Rattle.lmtpd_words.specs.Words.{IsMessageLimitOr, IsNoMessageLimit, usual_blocks};
-ghost use Rattle.lmtpd_words.specs.Words.{IsLacking, LacksCheck, LacksNumber, LacksRehearse, LacksServe, LacksSite};
+ghost use Rattle.lmtpd_words.specs.Words.{IsLacking, LacksCheck, LacksCopied, LacksCopy, LacksNumber, LacksRehearse, LacksServe, LacksSite};
 ghost use Rattle.lmtpd_words.specs.Words.{is_log_level, number, listed};
 
 use crate::texts::{
     BAD_DELIMITER, BAD_FOLDER, BAD_LEVEL, BAD_MAILBOX_MODE, BAD_SOCKET_MODE, BAD_STOP_FILE,
 };
 use crate::words::{
-    CheckWords, DEFAULT_BLOCKS, DEFAULT_CAPACITY, DEFAULT_LANES, DEFAULT_LOCK_WAIT, DEFAULT_LOG,
-    DEFAULT_MAILBOX_MODE, DEFAULT_READS, DEFAULT_SESSION_TIME, DEFAULT_SOCKET_MODE,
+    CheckWords, CopyWords, DEFAULT_BLOCKS, DEFAULT_CAPACITY, DEFAULT_LANES, DEFAULT_LOCK_WAIT,
+    DEFAULT_LOG, DEFAULT_MAILBOX_MODE, DEFAULT_READS, DEFAULT_SESSION_TIME, DEFAULT_SOCKET_MODE,
     DEFAULT_TIMEOUT, MODE_DIGIT_LIMIT, RehearseWords, ServeWords, SiteWords, Words,
 };
 use clap::ArgMatches;
@@ -51,9 +51,22 @@ pub fn words_of<'a>(
                     Some(read) => Ok(Some(Words::Check(read))),
                     None => Ok(None),
                 },
-                None => Ok(None),
+                None => Ok(copied_words_of(matches)),
             },
         },
+    }
+}
+
+// What a copy asks for, where the subcommand is none of the others.
+fn copied_words_of<'a>(matches: &ArgMatches<'a>) -> Option<Words<'a>>
+    ensures { let call = subcommand_rows_of matches.now in MatchOption result (LacksCopied call) (IsAsked call) }
+{
+    match matches.subcommand_matches("copy") {
+        Some(copy) => match copy_words(copy) {
+            Some(read) => Some(Words::Copy(read)),
+            None => None,
+        },
+        None => None,
     }
 }
 
@@ -137,6 +150,7 @@ fn serve_words<'a>(
         stop_file,
         heal: is_given(matches, "heal"),
         start_anyway: is_given(matches, "start-anyway"),
+        check_words: is_given(matches, "check-words"),
     }))
 }
 
@@ -152,6 +166,18 @@ fn check_words<'a>(
     };
     let files = files.to_vec(alloc)?;
     Ok(Some(CheckWords { files }))
+}
+
+fn copy_words<'a>(matches: &ArgMatches<'a>) -> Option<CopyWords<'a>>
+    ensures { let rows = rows_of (found_of matches.now) in MatchOption result (LacksCopy rows) (IsCopyRead rows) }
+{
+    let Some(file) = matches.get_str("file") else {
+        return None;
+    };
+    let Some(to) = matches.get_str("to") else {
+        return None;
+    };
+    Some(CopyWords { file, to })
 }
 
 fn site_words<'a>(
@@ -176,6 +202,7 @@ fn site_words<'a>(
         host,
         domains,
         boxes_file: boxes_file_of(matches),
+        listed: b"",
         boxes,
         message_limit,
         recipient_delimiter,
@@ -183,14 +210,25 @@ fn site_words<'a>(
 }
 
 // The mailboxes that were given, if any were.
-fn boxes_of<'a>(alloc: Global, matches: &ArgMatches<'a>) -> Result<Vec<&'a str>, AllocError>
+fn boxes_of<'a>(alloc: Global, matches: &ArgMatches<'a>) -> Result<Vec<&'a [u8]>, AllocError>
     ensures { let rows = rows_of (found_of matches.now) in
         IfOk result (λ v. texts v.items ≡ option_map_or (λ names. names) (all_of (codes "box") rows) []) }
 {
     match matches.get_strs("box") {
-        Some(names) => names.to_vec(alloc),
+        Some(names) => bytes_of(alloc, names),
         None => Ok(Vec::new(alloc)),
     }
+}
+
+// The bytes of each name.
+fn bytes_of<'a>(alloc: Global, names: &[&'a str]) -> Result<Vec<&'a [u8]>, AllocError>
+    ensures { IfOk result (λ v. texts v.items ≡ texts names.now) }
+{
+    let mut all = Vec::with_capacity(alloc, names.len())?;
+    for name in names {
+        all.push(name.as_bytes())?;
+    }
+    Ok(all)
 }
 
 fn boxes_file_of<'a>(matches: &ArgMatches<'a>) -> Option<&'a str>

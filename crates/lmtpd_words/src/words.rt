@@ -49,7 +49,10 @@ pub struct SiteWords<'a> {
     pub domains: Vec<&'a str>,
     /// The file that lists further mailboxes, by its path, if there is one.
     pub boxes_file: Option<&'a str>,
-    pub boxes: Vec<&'a str>,
+    /// The text of that file, once it was read, and before that an empty one.
+    pub listed: &'a [u8],
+    /// The names as they were given, which may be no text, and then those of the file.
+    pub boxes: Vec<&'a [u8]>,
     /// How many bytes a message may have.
     pub message_limit: u32,
     ghost limited: { IsMessageLimit message_limit },
@@ -110,6 +113,8 @@ pub struct ServeWords<'a> {
     pub heal: bool,
     /// The server starts though the file of a mailbox can't be opened.
     pub start_anyway: bool,
+    /// The words alone are checked, and nothing is served.
+    pub check_words: bool,
 }
 
 /// What a check is asked to do.
@@ -119,10 +124,20 @@ pub struct CheckWords<'a> {
     pub files: Vec<&'a str>,
 }
 
+/// What a copy is asked to do.
+#[derive(Debug, Drop)]
+pub struct CopyWords<'a> {
+    /// The mailbox's file, by its path.
+    pub file: &'a str,
+    /// The path at which the copy is made.
+    pub to: &'a str,
+}
+
 /// What the program is asked to do.
 #[derive(Debug, Drop)]
 pub enum Words<'a> {
     Rehearse(RehearseWords<'a>),
     Serve(ServeWords<'a>),
     Check(CheckWords<'a>),
+    Copy(CopyWords<'a>),
 }

@@ -1,2 +1,3 @@
 pub mod MailboxFile
 pub mod Holder
+pub mod MailboxSource

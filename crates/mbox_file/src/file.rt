@@ -54,7 +54,7 @@ pub(crate) fn open_or_new<R: Files>(rt: &R, path: &str, mode: u32) -> io::Result
 }
 
 /// Has the entries of the folder that holds that path kept through a crash.
-pub(crate) fn sync_folder<R: Files>(rt: &R, path: &str) -> io::Result<()> {
+pub fn sync_folder<R: Files>(rt: &R, path: &str) -> io::Result<()> {
     File::open(rt, folder_of(path))?.sync_all()
 }
 

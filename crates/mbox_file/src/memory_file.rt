@@ -3,6 +3,7 @@ ghost use Rattle.std.specs.Prelude.{◌≡◌, [], true, false, length, IfOk};
 
 use crate::file::FileEnd;
 use crate::mailbox_file::MailboxFile;
+use crate::mailbox_source::MailboxSource;
 use mbox_record::{InUse, tail_of};
 use std::alloc::{AllocError, Global};
 use std::io;
@@ -17,6 +18,8 @@ pub struct MemoryFile {
     has_range_lock: bool,
     changes: u64,
     faults: u64,
+    /// How many of its bytes were read.
+    read_to: usize,
 }
 
 impl MemoryFile {
@@ -41,6 +44,7 @@ impl MemoryFile {
             has_range_lock: false,
             changes: 0,
             faults: 0,
+            read_to: 0,
         })
     }
 }
@@ -112,6 +116,30 @@ impl MailboxFile for MemoryFile {
         self.changes = self.changes.saturating_add(1);
         self.bytes.truncate(size as usize);
         self.kept = self.kept.min(size as usize);
+        Ok(())
+    }
+}
+
+impl MailboxSource for MemoryFile {
+    ghost use Rattle.std.specs.Prelude.{Some, drop};
+
+    ghost unread = { λ s. Some (drop s.read_to s.bytes.items) };
+
+    fn rewind(&mut self) -> io::Result<()> {
+        self.read_to = 0;
+        Ok(())
+    }
+
+    fn read(&mut self, buffer: &mut [u8]) -> io::Result<usize> {
+        let from = self.read_to.min(self.bytes.len());
+        let rest = &self.bytes[from..];
+        let size = rest.len().min(buffer.len());
+        buffer[..size].copy_from_slice(&rest[..size]);
+        self.read_to = from + size;
+        Ok(size)
+    }
+
+    fn renew_lock_file(&mut self) -> Result<(), InUse> {
         Ok(())
     }
 }

@@ -2,7 +2,7 @@
 //! that a link leads to.
 use crate::file::open_or_new;
 use mbox_record::InUse;
-use std::fs::{Files, Metadata, OpenFile};
+use std::fs::{Files, Metadata, OpenFile, OpenOptions};
 use std::io::ErrorKind;
 use std::os::unix::fs::MetadataExt;
 use std::{fs, io};
@@ -28,24 +28,49 @@ pub(crate) struct OpenNode<F: Drop> {
     pub node: Node,
 }
 
-/// A regular file with one name, and root's own where root asks. Metadata that doesn't follow a symbolic link tells of
-/// the link.
-pub(crate) fn is_plain(metadata: &Metadata) -> bool {
-    let is_own = libc::geteuid() != 0 || metadata.uid() == 0;
-    metadata.is_file() && metadata.nlink() <= 1 && is_own
+/// Which plain files are taken, and whether one is made where it is missing.
+#[derive(Clone, Copy, Debug)]
+pub(crate) enum Taken {
+    /// One's own, where root asks. It is made with these permission bits.
+    Own(u32),
+    /// Anybody's. None is made.
+    Anybodys,
 }
 
-/// Opens the plain file at that path, or makes it. A link that leads elsewhere is seen before it is followed, or,
-/// where it was put there meanwhile, by what the path names afterwards: a turn looks at that once more.
+impl Taken {
+    /// A regular file with one name, of an owner whose files are taken. Metadata that doesn't follow a symbolic link
+    /// tells of the link.
+    pub fn is_plain(self, metadata: &Metadata) -> bool {
+        metadata.is_file() && metadata.nlink() <= 1 && self.takes_owner(metadata.uid())
+    }
+
+    fn takes_owner(self, uid: u32) -> bool {
+        match self {
+            Taken::Own(_) => libc::geteuid() != 0 || uid == 0,
+            Taken::Anybodys => true,
+        }
+    }
+
+    fn open<R: Files>(self, rt: &R, path: &str) -> io::Result<R::File> {
+        match self {
+            Taken::Own(mode) => Ok(open_or_new(rt, path, mode)?.file),
+            Taken::Anybodys => OpenOptions::new().read(true).append(true).open(rt, path),
+        }
+    }
+}
+
+/// Opens the plain file at that path, or makes it, where that is asked for. A link that leads elsewhere is seen before
+/// it is followed, or, where it was put there meanwhile, by what the path names afterwards: a turn looks at that once
+/// more.
 pub(crate) fn open_plain<R: Files>(
     rt: &R,
     path: &str,
-    mode: u32,
+    taken: Taken,
 ) -> Result<OpenNode<R::File>, InUse> {
-    names_plain(rt, path)?;
-    let file = open_or_new(rt, path, mode).map_err(system_fault)?.file;
+    names_plain(rt, path, taken)?;
+    let file = taken.open(rt, path).map_err(system_fault)?;
     let metadata = file.metadata().map_err(system_fault)?;
-    if !is_plain(&metadata) || !names_plain(rt, path)? {
+    if !taken.is_plain(&metadata) || !names_plain(rt, path, taken)? {
         return Err(InUse::NotPlain);
     }
     Ok(OpenNode {
@@ -55,9 +80,9 @@ pub(crate) fn open_plain<R: Files>(
 }
 
 // False: the path names nothing.
-fn names_plain<R: Files>(rt: &R, path: &str) -> Result<bool, InUse> {
+fn names_plain<R: Files>(rt: &R, path: &str, taken: Taken) -> Result<bool, InUse> {
     match fs::symlink_metadata(rt, path) {
-        Ok(found) if is_plain(&found) => Ok(true),
+        Ok(found) if taken.is_plain(&found) => Ok(true),
         Ok(_) => Err(InUse::NotPlain),
         Err(error) if error.kind() == ErrorKind::NotFound => Ok(false),
         Err(error) => Err(system_fault(error)),

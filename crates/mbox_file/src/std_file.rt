@@ -2,20 +2,24 @@
 //!
 //! A lock file is linked from one that is made at the start and stays, `PATH.source.lock`: to make a file and write to
 //! it for each turn takes ten times as long. Where there can be no link it is made.
+ghost use Rattle.std.specs.Io.{ReadsAtMost};
+ghost use Rattle.std.specs.Io.KnownBytes.{ReadConsumes};
+
 use crate::file::{FileEnd, end_of_file, sync_folder};
 use crate::mailbox_file::MailboxFile;
-use crate::plain::{Node, OpenNode, is_plain, node_of, open_plain, system_fault};
+use crate::mailbox_source::MailboxSource;
+use crate::plain::{Node, OpenNode, Taken, node_of, open_plain, system_fault};
 use crate::range_lock::{LockKind, RangeLock};
 use crate::stale::{is_stale, owner_text};
 use mbox_record::InUse;
 use std::alloc::{AllocError, Global};
 use std::fs::{FileTimes, Files, Metadata, OpenFile, OpenOptions};
-use std::io::{ErrorKind, Write};
+use std::io::{ErrorKind, Read, Seek, SeekFrom, Write};
 use std::os::unix::fs::{MetadataExt, OpenOptionsExt};
 use std::time::{Clock, SystemTime};
 use std::{fs, io};
 
-/// Others read in a lock file whose it is.
+/// Others read in a lock file whose it is, where the umask lets them; the service's doesn't, and they go by its age.
 const LOCK_MODE: u32 = 0o644;
 
 /// A mailbox's file that is open, or that could not be opened yet, and its lock file `PATH.lock`. It tells contracts
@@ -23,7 +27,7 @@ const LOCK_MODE: u32 = 0o644;
 pub struct StdMailboxFile<R: Files + Clock + Drop> {
     rt: R,
     path: String,
-    mode: u32,
+    taken: Taken,
     open: Option<OpenNode<R::File>>,
     // the folder was synced since this file is the open one
     is_folder_synced: bool,
@@ -40,7 +44,7 @@ impl<R: Files + Clock + Drop> Drop for StdMailboxFile<R> {
         let StdMailboxFile {
             rt,
             path: _,
-            mode: _,
+            taken: _,
             open: _,
             is_folder_synced: _,
             lock_path: _,
@@ -88,6 +92,14 @@ where
         Ok(file)
     }
 
+    /// Opens the plain file at that path, whosever it is and for root too, and makes none. Neither lock is held. Its lock
+    /// file is made and not linked, since it is taken once.
+    pub fn existing(rt: R, alloc: Global, path: &str) -> io::Result<StdMailboxFile<R>> {
+        let mut file = StdMailboxFile::taking(rt, alloc, path, Taken::Anybodys)?;
+        file.reopen().map_err(error_of)?;
+        Ok(file)
+    }
+
     /// The file at that path, of which nothing is touched before the first turn: each turn tries to open it, as `open`
     /// does, until one can.
     pub fn unopened(
@@ -96,9 +108,18 @@ where
         path: &str,
         mode: u32,
     ) -> Result<StdMailboxFile<R>, AllocError> {
+        StdMailboxFile::taking(rt, alloc, path, Taken::Own(mode))
+    }
+
+    fn taking(
+        rt: R,
+        alloc: Global,
+        path: &str,
+        taken: Taken,
+    ) -> Result<StdMailboxFile<R>, AllocError> {
         Ok(StdMailboxFile {
             path: format!(in alloc; "{path}")?,
-            mode,
+            taken,
             open: None,
             is_folder_synced: false,
             lock_path: format!(in alloc; "{path}.lock")?,
@@ -123,6 +144,11 @@ where
             Some(open) => Ok(&mut open.file),
             None => Err(io::Error::from_raw_os_error(libc::EBADF)),
         }
+    }
+
+    // Whether lock files are linked from one that stays.
+    fn has_source(&self) -> bool {
+        matches!(self.taken, Taken::Own(_))
     }
 
     // Makes the file that lock files are linked from. One that was left behind goes; where a server has one there is
@@ -226,9 +252,21 @@ where
         Ok(())
     }
 
-    // Has the folder keep its entry for the open file through a crash. It need not be done again for that file.
+    // Sets the time of the lock file that is its own to now.
+    fn set_lock_time(&self) -> io::Result<()> {
+        let now = SystemTime::now(&self.rt)?;
+        let times = FileTimes::new().set_modified(now);
+        match (&self.lock_file, &self.source) {
+            (Held::Made(own), _) => own.file.set_times(times),
+            (Held::Linked(_), Some(source)) => source.file.set_times(times),
+            _ => Err(io::Error::from_raw_os_error(libc::EBADF)),
+        }
+    }
+
+    // Has the folder keep its entry for the open file through a crash. It need not be done again for that file, nor for
+    // one that is only read.
     fn sync_folder(&mut self) -> io::Result<()> {
-        if !self.is_folder_synced {
+        if !self.is_folder_synced && matches!(self.taken, Taken::Own(_)) {
             sync_folder(&self.rt, self.path.as_str())?;
             self.is_folder_synced = true;
         }
@@ -292,8 +330,8 @@ fn remove_node<R: Files>(rt: &R, path: &str, node: Node) -> io::Result<()> {
     }
 }
 
-// Removes what the path names, if it is still the open file.
-fn remove_open<R: Files>(rt: &R, path: &str, file: &R::File) {
+/// Removes what the path names, if it is still the open file.
+pub fn remove_open<R: Files>(rt: &R, path: &str, file: &R::File) {
     if let Ok(metadata) = file.metadata() {
         let _ = remove_node(rt, path, node_of(&metadata));
     }
@@ -359,7 +397,7 @@ where
 
     fn is_named(&mut self) -> Result<bool, InUse> {
         match fs::symlink_metadata(&self.rt, self.path.as_str()) {
-            Ok(found) if !is_plain(&found) => Err(InUse::NotPlain),
+            Ok(found) if !self.taken.is_plain(&found) => Err(InUse::NotPlain),
             Ok(found) => Ok(Some(node_of(&found)) == self.open_node()),
             Err(error) if error.kind() == ErrorKind::NotFound => Ok(false),
             Err(error) => Err(system_fault(error)),
@@ -367,13 +405,13 @@ where
     }
 
     fn reopen(&mut self) -> Result<(), InUse> {
-        let named = open_plain(&self.rt, self.path.as_str(), self.mode)?;
+        let named = open_plain(&self.rt, self.path.as_str(), self.taken)?;
         // it is compared while both are open, since a closed file's number may be given again
         let is_same = self.open_node() == Some(named.node);
         let is_first = self.open.is_none();
         self.is_folder_synced = self.is_folder_synced && is_same;
         self.open = Some(named);
-        if is_first {
+        if is_first && self.has_source() {
             self.source = self.make_source().ok();
         }
         Ok(())
@@ -401,4 +439,49 @@ where
         }
         self.opened()?.set_len(size)
     }
+}
+
+impl<R: Files + Clock + Drop> MailboxSource for StdMailboxFile<R>
+where
+    R::File: RangeLock,
+{
+    ghost use Rattle.mbox_file.specs.MailboxSource.{unread_of};
+
+    ghost unread = { λ s. unread_of R.File.remaining s.open };
+
+    fn rewind(&mut self) -> io::Result<()> {
+        self.opened()?.seek(SeekFrom::Start(0))?;
+        Ok(())
+    }
+
+    /// A read that a signal interrupted is made again.
+    fn read(&mut self, buffer: &mut [u8]) -> io::Result<usize> {
+        match &mut self.open {
+            Some(open) => read_some(&mut open.file, buffer),
+            None => Err(io::Error::from_raw_os_error(libc::EBADF)),
+        }
+    }
+
+    fn renew_lock_file(&mut self) -> Result<(), InUse> {
+        self.set_lock_time().map_err(system_fault)?;
+        if !self.owns_lock_file().map_err(system_fault)? {
+            return Err(InUse::Locked);
+        }
+        Ok(())
+    }
+}
+
+// One read, made again where a signal interrupted it.
+fn read_some<F: Read>(file: &mut F, buffer: &mut [u8]) -> io::Result<usize>
+    ensures bound { ReadsAtMost result buffer.new }
+    ensures bytes { ReadConsumes (F.remaining file.old) (F.remaining file.new) result buffer.new }
+{
+    for _ in 0..u64::MAX {
+        match file.read(buffer) {
+            Ok(size) => return Ok(size),
+            Err(error) if error.kind() == ErrorKind::Interrupted => {}
+            Err(error) => return Err(error),
+        }
+    }
+    Err(io::Error::from(ErrorKind::Interrupted))
 }

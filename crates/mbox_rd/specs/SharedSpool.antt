@@ -24,7 +24,7 @@ pub record SharedSpool (F : Type 0) : Type 0 where
   pub is_unsynced : Bool
   -- how long the file was as the turn began
   pub began : ℕ
-  -- how the file ended then, with the bytes taken since
+  -- how the file ended then, with what was written since
   pub tail : Tail
   -- how long it was, and the bytes taken since; it stays at 2^64 - 1
   pub held : ℕ
@@ -35,6 +35,10 @@ pub record SharedSpool (F : Type 0) : Type 0 where
 -- the file's bytes and then what waits
 abbrev pub contents_of : {F : Type 0} → (F → FileState) → SharedSpool F → List ℕ
 contents_of state spool = (state spool.file).bytes ++ spool.waiting
+
+-- it knows how the file ends
+abbrev pub KnowsEnd : {F : Type 0} → (F → FileState) → SharedSpool F → Type 0
+KnowsEnd state spool = ending_of spool.tail ≡ ending (state spool.file).bytes
 
 -- just opened: nothing waits, nothing failed, and it is in no turn
 pub record IsOpened {F : Type 0} (spool : SharedSpool F) : Type 0 where

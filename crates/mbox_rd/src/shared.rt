@@ -8,7 +8,7 @@ ghost use Rattle.mail_world.specs.Counts.{counted};
 ghost use Rattle.mail_world.specs.Failures.{Rises};
 ghost use Rattle.mail_world.specs.Prefixes.{IsPrefix};
 ghost use Rattle.mbox_record.specs.Spool.{SpoolTook, SpoolFailed, HasSynced, HasNotSynced, AsksForTurn, EndsTurn};
-ghost use Rattle.mail_world.specs.Endings.{ending};
+ghost use Rattle.mail_world.specs.Endings.{ending, ending_from};
 ghost use Rattle.mbox_record.specs.Tail.{ending_of};
 
 use crate::file::BUFFER_SIZE;
@@ -98,7 +98,7 @@ impl<F: MailboxFile + Drop, C: Clock + Drop> SharedSpool<F, C> {
 
 impl<F: MailboxFile + Drop, C: Clock + Drop> SharedSpool<F, C> {
     ghost use Rattle.mbox_file.specs.MailboxFile.{HasAppended, HasNotAppended, KeepsFile, FailsToKeep};
-    ghost use Rattle.mbox_rd.specs.SharedSpool.{KeepsAll, HasLost, failed_again};
+    ghost use Rattle.mbox_rd.specs.SharedSpool.{KeepsAll, KnowsEnd, HasLost, failed_again};
 
     // Counts a failure, and throws away what waits.
     fn fail(&mut self) -> SpoolFault
@@ -123,6 +123,35 @@ impl<F: MailboxFile + Drop, C: Clock + Drop> SharedSpool<F, C> {
     {
         self.file.write(&self.waiting)?;
         self.waiting.clear();
+        Ok(())
+    }
+
+    // How the file ends once what waits is written too.
+    fn tail_written(&self) -> Tail
+        ensures { ending_of result ≡ ending_from (ending_of self.now.tail) self.now.waiting }
+    {
+        tail_after(self.tail, &self.waiting)
+    }
+
+    // Writes what waits, so that there is room for more. How the file ends is known again after each write, and not after
+    // each piece.
+    fn make_room(&mut self) -> io::Result<()>
+        ensures same { self.new ≡ record self.old {
+          file = self.new.file;
+          waiting = self.new.waiting;
+          tail = self.new.tail;
+        } }
+        ensures empty { OnOk result (self.new.waiting ≡ []) }
+        ensures written { F.tells ≡ true
+            → OnOk result (HasAppended (F.state self.old.file) (F.state self.new.file) self.old.waiting) }
+        ensures ends { F.tells ≡ true → OnOk result (KnowsEnd F.state self.old → KnowsEnd F.state self.new) }
+        ensures left { OnErr result ((self.new.waiting ≡ self.old.waiting) × (self.new.tail ≡ self.old.tail)) }
+        ensures failed { F.tells ≡ true
+            → OnErr result (HasNotAppended (F.state self.old.file) (F.state self.new.file) self.old.waiting) }
+    {
+        let tail = self.tail_written();
+        self.write_waiting()?;
+        self.tail = tail;
         Ok(())
     }
 
@@ -184,17 +213,13 @@ impl<F: MailboxFile + Drop, C: Clock + Drop> SharedSpool<F, C> {
           waiting = self.old.waiting ++ take result piece.now;
           held = counted (self.old.held + result);
           is_unsynced = true;
-          tail = self.new.tail;
         } }
-        ensures tail { (prefix : List ℕ) → ending_of self.old.tail ≡ ending prefix
-            → ending_of self.new.tail ≡ ending (prefix ++ take result piece.now) }
     {
         let n = piece.len().min(BUFFER_SIZE - self.waiting.len());
         let taken = &piece[..n];
         if self.waiting.extend_from_slice(taken).is_err() {
             unreachable!();
         }
-        self.tail = tail_after(self.tail, taken);
         self.held = self.held.saturating_add(n as u64);
         self.is_unsynced = true;
         n
@@ -205,7 +230,7 @@ impl<F: MailboxFile + Drop, C: Clock + Drop> Spool for SharedSpool<F, C> {
     ghost use Rattle.std.specs.Prelude.{None};
     ghost use Rattle.mbox_rd.specs.SharedSpool.{HasTurn, HasNoTurn, StartsTurn, CountsRefusal, HasEnded, StopsTurn};
     ghost use Rattle.mbox_rd.specs.SharedSpool.{HasTaken, KeepsAll, StaysSound, Breaks, HasLost, failed_again};
-    ghost use Rattle.mbox_rd.specs.SharedSpool.{contents_of};
+    ghost use Rattle.mbox_rd.specs.SharedSpool.{KnowsEnd};
 
     ghost state = { λ s. record {
       bytes = None;
@@ -299,8 +324,7 @@ impl<F: MailboxFile + Drop, C: Clock + Drop> Spool for SharedSpool<F, C> {
         ensures taken { F.tells ≡ true → IfOk result (λ n. HasTaken F.state self.old self.new (take n piece.now)) }
         ensures grows { F.tells ≡ true
             → OnOk result (IsPrefix (F.state self.old.file).bytes (F.state self.new.file).bytes) }
-        ensures ends { F.tells ≡ true → OnOk result (ending_of self.old.tail ≡ ending (contents_of F.state self.old)
-            → ending_of self.new.tail ≡ ending (contents_of F.state self.new)) }
+        ensures ends { F.tells ≡ true → OnOk result (KnowsEnd F.state self.old → KnowsEnd F.state self.new) }
         ensures held { IfOk result (λ n. self.new.held ≡ counted (self.old.held + n)) }
         ensures breaks { OnErr result (Breaks self.old self.new) }
         ensures lost { F.tells ≡ true → self.old.in_turn ≡ true → self.old.is_broken ≡ false
@@ -319,7 +343,7 @@ impl<F: MailboxFile + Drop, C: Clock + Drop> Spool for SharedSpool<F, C> {
         if self.is_broken || !self.in_turn {
             return Err(self.fail());
         }
-        if self.waiting.len() == BUFFER_SIZE && self.write_waiting().is_err() {
+        if self.waiting.len() == BUFFER_SIZE && self.make_room().is_err() {
             return Err(self.fail());
         }
         Ok(self.take(piece))
@@ -333,7 +357,7 @@ impl<F: MailboxFile + Drop, C: Clock + Drop> Spool for SharedSpool<F, C> {
         ensures written { self.new.waiting ≡ [] }
         ensures kept { F.tells ≡ true → OnOk result (KeepsAll F.state self.old self.new) }
         ensures held { self.new.held ≡ self.old.held }
-        ensures ends { self.new.tail ≡ self.old.tail }
+        ensures ends { F.tells ≡ true → OnOk result (KnowsEnd F.state self.old → KnowsEnd F.state self.new) }
         ensures breaks { OnErr result (Breaks self.old self.new) }
         ensures lost { F.tells ≡ true → self.old.in_turn ≡ true → self.old.is_broken ≡ false
             → OnErr result (HasLost F.state self.old self.new) }
@@ -346,21 +370,23 @@ impl<F: MailboxFile + Drop, C: Clock + Drop> Spool for SharedSpool<F, C> {
         ensures outside { (⟦<SharedSpool<F, C> as Spool>⟧.state self.old).sharing.is_shared ≡ true
             → (⟦<SharedSpool<F, C> as Spool>⟧.state self.old).sharing.in_turn ≡ false → IsErr result }
     {
+        let end = self.tail_written();
         if self.is_broken || !self.in_turn || self.write_and_keep().is_err() {
             return Err(self.fail());
         }
+        self.tail = end;
         self.is_unsynced = false;
         Ok(())
     }
 
-    /// How the file ended as the turn began, with the bytes that were taken since.
+    /// How the file ends, with the bytes that wait.
     fn tail(&self) -> Tail
-        ensures exact { result ≡ self.now.tail }
+        ensures exact { ending_of result ≡ ending_from (ending_of self.now.tail) self.now.waiting }
 
         // what every spool ensures
         ensures known { IfSome (⟦<SharedSpool<F, C> as Spool>⟧.state self.now).bytes (λ held. ending_of result ≡ ending held) }
     {
-        self.tail
+        self.tail_written()
     }
 
     fn held(&self) -> u64

@@ -12,6 +12,21 @@ use std::time::Clock;
 /// How many files are looked at in one try, where the path names another one each time.
 const OPENINGS: usize = 4;
 
+/// Takes both locks as a turn does, on the file that the path names. Other programs that have one are waited for, that
+/// many seconds in all and 3,600 at most.
+pub fn hold_locks<F: MailboxFile, C: Clock>(
+    file: &mut F,
+    clock: &C,
+    seconds: u32,
+) -> Result<FileEnd, InUse>
+    ensures ok { F.tells ≡ true → IfOk result (HasBegun (F.state file.old) (F.state file.new)) }
+    ensures err { F.tells ≡ true → OnErr result (HasMissed (F.state file.old) (F.state file.new)) }
+{
+    let mut patience = Patience::new();
+    let tries = patience.tries(clock, seconds);
+    wait_for_turn(file, clock, &mut patience, tries)
+}
+
 /// Tries for a turn that often, and pauses after each try that others' locks were in the way of, but the last.
 pub(crate) fn wait_for_turn<F: MailboxFile, C: Clock>(
     file: &mut F,
@@ -98,7 +113,7 @@ fn own_end<F: MailboxFile>(file: &mut F) -> Result<Option<FileEnd>, InUse>
 }
 
 /// Gives both locks back.
-pub(crate) fn let_go<F: MailboxFile>(file: &mut F)
+pub fn let_go<F: MailboxFile>(file: &mut F)
     ensures { F.tells ≡ true → HasLetGo (F.state file.old) (F.state file.new) }
 {
     file.remove_lock_file();

@@ -6,7 +6,9 @@ ghost use Rattle.std.specs.Duration.{as_nanos};
 
 use crate::curfew::{Curfew, has_passed};
 use crate::ending::EndCause;
+use crate::pause::Pause;
 use crate::peer::{Came, Peer, PeerFault};
+use crate::tcp::at_rest::{begins_mail, ends_at_rest, has_rested};
 use crate::tcp::drain::close;
 use crate::tcp::read_buffer::ReadBuffer;
 use crate::tcp::retry::{is_silence, write_some};
@@ -29,7 +31,9 @@ pub struct Bounds {
 /// A client whose bytes come and go over a stream. What the system has for it is read at once, as far as the
 /// buffer goes, and handed out in pieces. It says that the server is to stop once as many pieces were handed
 /// out as may be, once the client was silent for as many waits of the stream as it may be (RFC 5321, 4.5.3.2), and
-/// once the curfew says that its conversation is over, though bytes wait.
+/// once the curfew says that its conversation is over, though bytes wait. Before that, but after the server's end was
+/// asked for, it says so at rest: in place of a line that ends the conversation there, which stays in the buffer, and
+/// after three seconds of silence.
 #[derive(Drop)]
 pub struct TcpPeer<T, E: Drop> {
     stream: T,
@@ -41,6 +45,10 @@ pub struct TcpPeer<T, E: Drop> {
     waits: u32,
     // how many reads may still be made
     reads_left: u64,
+    // when it was found that bytes had come, last
+    heard: Duration,
+    // whether MAIL was handed on at rest since the server's end was asked for
+    had_mail: bool,
     // when it was first to be written to after its conversation was over
     over_since: Option<Duration>,
     // each stays at its largest value
@@ -66,6 +74,8 @@ impl<T, E: Curfew> TcpPeer<T, E> {
             begun,
             waits: bounds.waits,
             reads_left: bounds.reads,
+            heard: begun,
+            had_mail: false,
             over_since: None,
             reads: 0,
             failures: 0,
@@ -82,13 +92,57 @@ impl<T, E: Curfew> TcpPeer<T, E> {
 }
 
 impl<T, E: Curfew> TcpPeer<T, E> {
-    ghost use Rattle.std.specs.Prelude.{true};
+    ghost use Rattle.std.specs.Prelude.{true, IfSome, ◌⊎◌};
+    ghost use Rattle.lmtp_talk.specs.Pause.{is_at_rest};
+    ghost use Rattle.lmtp_talk.specs.ReadBuffer.{waiting};
+    ghost use Rattle.lmtp_talk.specs.AtRest.{begins_mail};
+    ghost use Rattle.lmtp_talk.specs.TcpPeer.{EndsAtRest};
 
     // Whether the conversation is over.
     fn is_over(&self) -> bool
         ensures { result ≡ true → E.IsOver (arc_value self.now.curfew) (as_nanos self.now.begun) }
     {
         self.curfew.is_over(self.begun)
+    }
+
+    // When the server's end was asked for, where it was and the client is at rest.
+    fn asked_at(&self, pause: Pause) -> Option<Duration>
+        ensures asked { IfSome result (λ _. E.IsAsked (arc_value self.now.curfew)) }
+        ensures rest { IfSome result (λ _. is_at_rest pause ≡ true) }
+    {
+        match pause {
+            Pause::Within => None,
+            Pause::Before | Pause::Between => self.curfew.asked_at(),
+        }
+    }
+
+    // Whether the client's silence ends the conversation where it is at rest.
+    fn has_rested(&self, pause: Pause) -> bool
+        ensures asked { result ≡ true → E.IsAsked (arc_value self.now.curfew) }
+        ensures rest { result ≡ true → is_at_rest pause ≡ true }
+    {
+        match self.asked_at(pause) {
+            Some(asked) => has_rested(asked, self.heard, self.curfew.moment()),
+            None => false,
+        }
+    }
+
+    // Whether what waits ends the conversation where it is at rest; else MAIL is kept in mind.
+    fn refuses(&mut self, pause: Pause) -> bool
+        ensures refused { result ≡ true → EndsAtRest E.IsAsked pause self.old self.old }
+        ensures mail { self.new.had_mail ≡ true → (self.old.had_mail ≡ true)
+            ⊎ (E.IsAsked (arc_value self.old.curfew) × (is_at_rest pause ≡ true)
+            × (begins_mail (waiting self.old.buffer) ≡ true)) }
+        ensures same { self.new ≡ record self.old { had_mail = self.new.had_mail } }
+    {
+        if self.asked_at(pause).is_none() {
+            return false;
+        }
+        if ends_at_rest(pause, self.had_mail, self.buffer.unread()) {
+            return true;
+        }
+        self.had_mail = self.had_mail || begins_mail(self.buffer.unread());
+        false
     }
 }
 
@@ -139,7 +193,7 @@ enum Waited {
     Came,
     /// The client has closed its end.
     End,
-    /// As many waits as may be brought nothing.
+    /// As many waits as may be brought nothing, or the client was silent at rest.
     Silent,
     /// The conversation is over.
     Over,
@@ -153,15 +207,17 @@ impl<T: Read, E: Curfew> TcpPeer<T, E> {
     ghost use Rattle.lmtp_talk.specs.TcpPeer.{Fills, WaitedFor, tcp_state};
 
     // Waits for bytes as long as the client may be silent and its conversation isn't over.
-    fn wait(&mut self) -> Result<Waited, PeerFault>
+    fn wait(&mut self, pause: Pause) -> Result<Waited, PeerFault>
         requires { waiting self.old.buffer ≡ [] }
         ensures waited { IfOk result (WaitedFor T.remaining self.old self.new) }
         ensures over { result ≡ Ok Waited.Over → E.IsOver (arc_value self.old.curfew) (as_nanos self.old.begun) }
+        ensures silent { result ≡ Ok Waited.Silent → waiting self.new.buffer ≡ [] }
         ensures err { OnErr result (PeerFailed (tcp_state T.remaining self.old) (tcp_state T.remaining self.new)) }
         ensures bounds { self.new ≡ record self.old {
           stream = self.new.stream;
           buffer = self.new.buffer;
           failures = self.new.failures;
+          heard = self.new.heard;
         } }
     {
         for _ in 0..self.waits {
@@ -170,8 +226,14 @@ impl<T: Read, E: Curfew> TcpPeer<T, E> {
             }
             match self.buffer.refill(&mut self.stream) {
                 Ok(0) => return Ok(Waited::End),
-                Ok(_) => return Ok(Waited::Came),
+                Ok(_) => {
+                    self.heard = self.curfew.moment();
+                    return Ok(Waited::Came);
+                }
                 Err(error) => self.answer(&error)?,
+            }
+            if self.has_rested(pause) {
+                return Ok(Waited::Silent);
             }
         }
         Ok(Waited::Silent)
@@ -192,19 +254,22 @@ impl<T: Read, E: Curfew> TcpPeer<T, E> {
     }
 
     // Reads on where nothing waits, and says what the client did where it said nothing.
-    fn fill(&mut self) -> Result<Option<Came>, PeerFault>
+    fn fill(&mut self, pause: Pause) -> Result<Option<Came>, PeerFault>
         ensures ok { IfOk result (Fills T.remaining self.old self.new) }
         ensures err { OnErr result (PeerFailed (tcp_state T.remaining self.old) (tcp_state T.remaining self.new)) }
         ensures waits { 0 < length (waiting self.old.buffer)
             → ((result ≡ Ok None) × (self.new ≡ self.old))
             ⊎ ((result ≡ Ok (Some Came.Stop)) × (self.new.stream ≡ self.old.stream)
-            × E.IsOver (arc_value self.old.curfew) (as_nanos self.old.begun)) }
-        ensures same { (self.new.reads_left ≡ self.old.reads_left) × (self.new.reads ≡ self.old.reads) }
+            × (self.new.buffer ≡ self.old.buffer) × E.IsOver (arc_value self.old.curfew) (as_nanos self.old.begun)) }
+        ensures causes { result ≡ Ok (Some Came.Stop) → (waiting self.new.buffer ≡ [])
+            ⊎ E.IsOver (arc_value self.old.curfew) (as_nanos self.old.begun) }
+        ensures same { (self.new.reads_left ≡ self.old.reads_left) × (self.new.reads ≡ self.old.reads)
+            × (self.new.curfew ≡ self.old.curfew) × (self.new.had_mail ≡ self.old.had_mail) }
     {
         if !self.buffer.is_empty() {
             return Ok(self.stop_if_over());
         }
-        match self.wait()? {
+        match self.wait(pause)? {
             Waited::Came => Ok(None),
             Waited::End => Ok(Some(Came::End)),
             Waited::Silent | Waited::Over => Ok(Some(self.stop())),
@@ -300,21 +365,24 @@ impl<T: Read + Write, E: Curfew> Peer for TcpPeer<T, E> {
 
     /// What it handed out, what its buffer has and what the stream has left are, together, what buffer and
     /// stream had.
-    fn read(&mut self, buffer: &mut [u8]) -> Result<Came, PeerFault>
+    fn read(&mut self, buffer: &mut [u8], pause: Pause) -> Result<Came, PeerFault>
         requires { 0 < length buffer.old }
         ensures reads { WasRead 1 (tcp_state T.remaining self.old) (tcp_state T.remaining self.new) }
         ensures come { IfOk result
             (λ came. HasBrought (tcp_state T.remaining self.old) (tcp_state T.remaining self.new) buffer.new came) }
         ensures failed { OnErr result (PeerFailed (tcp_state T.remaining self.old) (tcp_state T.remaining self.new)) }
-        ensures bound { TakesRead E.IsOver self.old self.new result }
+        ensures bound { TakesRead E.IsAsked E.IsOver pause self.old self.new result }
     {
         self.reads = self.reads.saturating_add(1);
         if self.reads_left == 0 {
             return Ok(self.stop());
         }
         self.reads_left -= 1;
-        if let Some(came) = self.fill()? {
+        if let Some(came) = self.fill(pause)? {
             return Ok(came);
+        }
+        if self.refuses(pause) {
+            return Ok(self.stop());
         }
         Ok(Came::Bytes(self.buffer.hand_out(buffer)))
     }

@@ -44,6 +44,13 @@ impl ReadBuffer {
         self.start == self.end
     }
 
+    /// What waits.
+    pub(super) fn unread(&self) -> &[u8]
+        ensures { result.now ≡ waiting self.now }
+    {
+        &self.bytes[self.start..self.end]
+    }
+
     /// Forgets what waits.
     pub fn clear(&mut self)
         ensures { waiting self.new ≡ [] }

@@ -1,6 +1,6 @@
 //! The server that the program's words ask for.
 
-ghost use Rattle.std.specs.Prelude.{◌≡◌, length, None, MatchResult};
+ghost use Rattle.std.specs.Prelude.{◌≡◌, false, length, None, MatchResult};
 ghost use Rattle.std.specs.Arc.{arc_value};
 ghost use Rattle.lmtpd_words.specs.Words.{named_site};
 ghost use Rattle.lmtpd_listen.specs.declared.server.ServerSocket.{ServerSocket};
@@ -39,6 +39,7 @@ where
     H::Dir: Send + 'static,
     H: Threads + Wait + Clock + Files + Eprint + Copy + Drop + Send + Sync + 'static,
     W: Write + Drop,
+    requires { words.now.check_words ≡ false }
     ensures { MatchResult result
         (IsServedAsAsked ServerSocket H (ServerCurfew H) (⟦<LineLog<ServerLog<H>, H> as LaneLog>⟧.told)
         (⟦<ServedMailbox<H, ServerLog<H>> as Spool>⟧.state) words.now)
@@ -70,6 +71,7 @@ where
     H::Dir: Send + 'static,
     H: Threads + Wait + Clock + Files + Eprint + Copy + Drop + Send + Sync + 'static,
     W: Write + Drop,
+    requires served { words.now.check_words ≡ false }
     requires address { IsListenAddress words.now.listen.now }
     requires site { arc_value setup.site ≡ named_site words.now.site }
     requires sound { first_fault (named_site words.now.site) ≡ None }

@@ -4,9 +4,10 @@ ghost use Rattle.std.specs.Prelude.{MatchResult};
 ghost use Rattle.lmtpd_listen.specs.declared.server.ServerSocket.{ServerSocket};
 ghost use Rattle.lmtpd_setup.specs.declared.ends.ServerCurfew.{ServerCurfew};
 ghost use Rattle.lmtpd_setup.specs.Boxes.{IsFilled};
-ghost use Rattle.lmtpd.specs.Program.{IsNotServedFilled, IsServedAsAsked, IsServedFilled};
+ghost use Rattle.lmtpd.specs.Program.{IsNotServedFilled, IsServeDone, IsServedAsAsked};
 
 use super::asked::serve_asked;
+use super::checked::check_words;
 use lmtpd_log::{LaneLog, LineLog};
 use lmtpd_serve::Served;
 use lmtpd_setup::{ServedMailbox, ServerLog, Stop, fill};
@@ -20,14 +21,22 @@ use std::sync::Wait;
 use std::thread::Threads;
 use std::time::Clock;
 
-/// Runs the server, once the file of its mailboxes is read; `room` keeps the text of that.
+/// What became of the words of a server.
+#[derive(Drop)]
+pub enum ServeDone {
+    Served(Served),
+    /// They alone were to be checked, and each can be used.
+    WordsChecked,
+}
+
+/// Runs the server, or checks its words alone, once the file of its mailboxes is read; `room` keeps the text of that.
 pub fn serve_filled<'a, P, H, W>(
     rt: &P,
     threads: H,
     mut words: ServeWords<'a>,
     room: &'a mut Vec<u8>,
     writer: W,
-) -> Result<Served, Stop<'a>>
+) -> Result<ServeDone, Stop<'a>>
 where
     P: AllocGlobal + Files + Net<Listener = TcpListener, Stream = TcpStream> + Env + Clock,
     P::File: FileLock,
@@ -36,11 +45,16 @@ where
     H: Threads + Wait + Clock + Files + Eprint + Copy + Drop + Send + Sync + 'static,
     W: Write + Drop,
     ensures { MatchResult result
-        (IsServedFilled (IsFilled P.File.remaining)
+        (IsServeDone (IsFilled P.File.remaining)
         (IsServedAsAsked ServerSocket H (ServerCurfew H) (⟦<LineLog<ServerLog<H>, H> as LaneLog>⟧.told)
         (⟦<ServedMailbox<H, ServerLog<H>> as Spool>⟧.state)) words.entry)
         (IsNotServedFilled (IsFilled P.File.remaining) words.entry) }
 {
     fill(rt, &mut words.site, room)?;
-    serve_asked(rt, threads, &words, writer)
+    if words.check_words {
+        check_words(rt.alloc(), &words)?;
+        return Ok(ServeDone::WordsChecked);
+    }
+    let served = serve_asked(rt, threads, &words, writer)?;
+    Ok(ServeDone::Served(served))
 }

@@ -15,15 +15,15 @@ use std::io::Write;
 
 /// Says on `error` which mailboxes are over their quota, and then what is lacking, if anything is, and gives the
 /// status.
-pub fn report_served<E: Write>(served: &Served, error: &mut E) -> Exit
+pub fn report_served<E: Write>(served: &Served, is_journal: bool, error: &mut E) -> Exit
     ensures status { result.status ≡ status_after (server_fault served.now.ending) }
-    ensures lines { IsListed (trouble_lines served.now ++ line_after (server_fault served.now.ending))
+    ensures lines { IsListed (trouble_lines served.now ++ line_after is_journal (server_fault served.now.ending))
         (E.contents error.old) (E.contents error.new) result.cut }
 {
     let fault = server_fault(served.ending);
     Exit {
         status: status_after(fault),
-        cut: write_lines(served, fault, error).is_err(),
+        cut: write_lines(served, fault, is_journal, error).is_err(),
     }
 }
 
@@ -32,13 +32,14 @@ pub fn report_served<E: Write>(served: &Served, error: &mut E) -> Exit
 fn write_lines<E: Write>(
     served: &Served,
     fault: Option<Fault>,
+    is_journal: bool,
     error: &mut E,
 ) -> Result<(), WriteFault>
     ensures ok { OnOk result (Appends (E.contents error.old) (E.contents error.new)
-        (trouble_lines served.now ++ line_after fault)) }
+        (trouble_lines served.now ++ line_after is_journal fault)) }
     ensures err { OnErr result (IsCutOff (E.contents error.old) (E.contents error.new)
-        (trouble_lines served.now ++ line_after fault)) }
+        (trouble_lines served.now ++ line_after is_journal fault)) }
 {
     write_trouble_lines(error, served)?;
-    write_fault(fault, error)
+    write_fault(fault, is_journal, error)
 }

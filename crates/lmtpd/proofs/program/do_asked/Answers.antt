@@ -15,10 +15,15 @@ returns-in-Ok-Rehearse g c =
     let read = subst (λ w. IsAsked (subcommand_of program_app (as_texts c.args.words.now)) w) c.in-Ok-Rehearse.field-0-is c.in-Ok-Rehearse.ensures.read in
     inr (inl (c.in-Ok-Rehearse.asked, read, c.in-Err-rehearse_filled.ensures))
 
-pub returns-in-Ok-serve_filled : goal.returns-in-Ok-serve_filled
-returns-in-Ok-serve_filled g c =
+pub returns-in-Ok-Served : goal.returns-in-Ok-Served
+returns-in-Ok-Served g c =
     let read = subst (λ w. IsAsked (subcommand_of program_app (as_texts c.args.words.now)) w) c.in-Ok-Serve.field-0-is c.in-Ok-Serve.ensures.read in
-    (c.in-Ok-Serve.asked, read, c.in-Ok-serve_filled.ensures)
+    (c.in-Ok-Serve.asked, read, c.in-Ok-Served.ensures)
+
+pub returns-in-Ok-WordsChecked : goal.returns-in-Ok-WordsChecked
+returns-in-Ok-WordsChecked g c =
+    let read = subst (λ w. IsAsked (subcommand_of program_app (as_texts c.args.words.now)) w) c.in-Ok-Serve.field-0-is c.in-Ok-Serve.ensures.read in
+    (c.in-Ok-Serve.asked, read, c.in-Ok-WordsChecked.ensures)
 
 pub returns-in-Ok-Serve : goal.returns-in-Ok-Serve
 returns-in-Ok-Serve g c =

@@ -1,11 +1,12 @@
-use Rattle.std.proofs.Common.{sym, arith}
-use Rattle.std.proofs.lemmas.List.{take_all}
+use Rattle.std.proofs.Common.{arith}
+use Rattle.std.proofs.lemmas.Grind.{common_steps}
+use Rattle.bstr.specs.Find.{is_byte}
+use Rattle.lmtp_text.proofs.CommandCuts.{first_at, first_nowhere}
 use Rattle.lmtpd_words.proofs.boxes.before_comment.Goals as goal
 
 pub returns-in-Some : goal.returns-in-Some
-returns-in-Some c = (c.in-Some.ensures.byte (omega arith) (λ w o h. h)).0
+returns-in-Some c =
+    let e = first_at (is_byte 35) c.args.line.now c.in-Some.at c.in-Some.ensures.0 c.in-Some.ensures.1 in grind (arith, common_steps)
 
 pub returns-in-None : goal.returns-in-None
-returns-in-None c =
-    let none = c.in-None.ensures.byte (omega arith) (λ w o h. h) in
-    sym (take_all _ c.args.line.now (omega (arith, none)))
+returns-in-None c = let e = first_nowhere (is_byte 35) c.args.line.now c.in-None.ensures in grind (arith, common_steps)

@@ -4,5 +4,5 @@ use Rattle.clap.specs.Simple.{App, with_subcommand}
 use Rattle.lmtpd_words.proofs.command.program.Goals as goal
 
 pub returns : goal.returns
-returns c = IfOk-weaker c.subcommand.result _ _ (λ command added. added.shape c.in_ok-check.ensures.local
-    ∙ ap₂ with_subcommand c.in_ok-command.ensures (ap (λ (a : App). a.top) c.in_ok-check.ensures.shape)) c.subcommand.ensures
+returns c = IfOk-weaker c.subcommand.result _ _ (λ command added. added.shape c.in_ok-copy.ensures.local
+    ∙ ap₂ with_subcommand c.in_ok-command.ensures (ap (λ (a : App). a.top) c.in_ok-copy.ensures.shape)) c.subcommand.ensures

@@ -3,7 +3,7 @@ use Rattle.lmtpd_words.proofs.Printables.{all_printable, stays}
 use Rattle.lmtpd_words.proofs.escaped.printable.Goals as goal
 
 pub returns-clause-clean : goal.returns-clause-clean
-returns-clause-clean c = rw c.utf8_percent_encode.ensures.text (all_printable _)
+returns-clause-clean c = rw c.percent_encode.ensures.text (all_printable _)
 
 pub returns-clause-same : goal.returns-clause-same
-returns-clause-same c = λ printable. c.utf8_percent_encode.ensures.text ∙ stays _ printable
+returns-clause-same c = λ printable. c.percent_encode.ensures.text ∙ stays _ printable

@@ -30,4 +30,5 @@ returns c =
       stop_file = c.in-Some-Some-2.ensures;
       heal = c.is_given-2.ensures;
       start_anyway = c.is_given-3.ensures;
+      check_words = c.is_given-4.ensures;
     }

@@ -1,4 +1,4 @@
-use Rattle.std.proofs.Common.{◌∙◌, sym, inl, codes}
+use Rattle.std.proofs.Common.{◌∙◌, sym, inl, codes, refl}
 use Rattle.clap.specs.Words.{found_of}
 use Rattle.clap.proofs.WalkLemmas.{first_value-rows}
 use Rattle.lmtpd_words.proofs.values.site_words.Goals as goal
@@ -12,6 +12,7 @@ returns c =
       host = sym (first_value-rows f (codes "host")) ∙ sym c.in-Some.ensures;
       domains = c.in_ok-domains.ensures;
       boxes_file = c.boxes_file_of.ensures;
+      listed = refl;
       boxes = c.in_ok-boxes.ensures;
       message_limit = c.in-Some-message_limit_of.ensures;
       recipient_delimiter = c.in-Some-delimiter_of.ensures;

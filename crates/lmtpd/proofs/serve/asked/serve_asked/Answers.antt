@@ -8,11 +8,11 @@ serve_opened-requires-clause-address g c κs within = (c.in_ok-listen_address.li
 pub returns-in_err-setup : goal.returns-in_err-setup
 returns-in_err-setup g c =
     let p = err_from_is_err_and c.from_residual-in_err-setup.result c.from_residual-in_err-setup.ensures.1 in
-    rw (p.1, p.2) (unset c.args.words.now c.in_err-setup.field-0.0
+    rw (p.1, p.2) (unset c.args.words.now c.in_err-setup.field-0.0 c.requires
     (c.in_ok-listen_address.listen_address, c.in_ok-listen_address.ensures) c.in_err-setup.ensures.refused)
 
 pub returns-in_err-opened : goal.returns-in_err-opened
 returns-in_err-opened g c =
     let p = err_from_is_err_and c.from_residual-in_err-opened.result c.from_residual-in_err-opened.ensures.1 in
-    rw (p.1, p.2) (unopened c.args.words.now c.in_ok-listen_address.listen_address c.in_err-opened.field-0.0 c.in_ok-listen_address.ensures
+    rw (p.1, p.2) (unopened c.args.words.now c.in_ok-listen_address.listen_address c.in_err-opened.field-0.0 c.requires c.in_ok-listen_address.ensures
     c.in_ok-setup.ensures.sound c.in_err-opened.ensures)

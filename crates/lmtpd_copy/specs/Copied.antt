@@ -1,0 +1,75 @@
+-- A mailbox that is copied under its locks.
+use Rattle.std.specs.Prelude.{◌≡◌, ◌⊎◌, ℕ, Bool, true, false, List, Option, Some, None, ⊤}
+use Rattle.std.specs.Io.KnownBytes.{Appends}
+use Rattle.mail_world.specs.Failures.{Rises}
+use Rattle.mbox_file.specs.MailboxFile.{FileState}
+use Rattle.mbox_file.specs.MailboxSource.{HasBothLocks, HasRewound}
+use Rattle.mbox_rd.specs.Turn.{HasMissed, HasLetGo}
+use Rattle.lmtpd_copy.specs.Target.{TargetState, HasMade}
+
+-- all that there was to be read was written, after what stood there, where both are known
+abbrev pub Copies : Option (List ℕ) → Option (List ℕ) → Option (List ℕ) → Type 0
+Copies None old new = ⊤
+Copies (Some text) old new = Appends old new text
+
+-- the mailbox stays as it is, with both locks; calls may have failed
+abbrev pub StaysLocked : FileState → FileState → Type 0
+StaysLocked old new = new ≡ record old { refusals = new.refusals; faults = new.faults }
+
+-- the copy stays made, whatever it holds
+abbrev pub StaysMade : TargetState → TargetState → Type 0
+StaysMade old new = new ≡ record old { bytes = new.bytes; kept = new.kept }
+
+-- both locks are held, on the file that the path names, and nothing was written to it
+pub record StandsLocked (old new : FileState) : Type 0 where
+  pub locks : HasBothLocks new
+  pub named : new.is_named ≡ true
+  pub unchanged : new.changes ≡ old.changes
+
+-- Neither lock is left, but the lock file where it couldn't be removed, and nothing was written to the mailbox: the locks
+-- were never had, or both were given back.
+pub record GivesLocksBack (old new : FileState) : Type 0 where
+  pub held : FileState
+  pub stood : StandsLocked old held
+  pub let_go : HasLetGo held new
+
+abbrev pub IsFree : FileState → FileState → Type 0
+IsFree old new = HasMissed old new ⊎ GivesLocksBack old new
+
+-- nothing of the copy is left, but where it couldn't be removed
+abbrev pub IsGone : TargetState → TargetState → Type 0
+IsGone old new = (new.is_made ≡ false) ⊎ Rises old.unremoved new.unremoved
+
+module _ {F T : Type 0} (source_tells : Bool) (source : F → FileState) (unread : F → Option (List ℕ))
+    (target_tells : Bool) (target : T → TargetState) where
+  -- The copy, made and empty, was filled by all that the mailbox held while it was locked, and is kept so.
+  pub record IsFilled (from_old from_new : F) (made : TargetState) (to_new : T) : Type 0 where
+    -- the mailbox at its beginning
+    pub first : F
+    pub begins : source_tells ≡ true → HasRewound (source from_old) (source first) (unread first)
+    pub copied : Copies (unread first) made.bytes (target to_new).bytes
+    pub stays : source_tells ≡ true → source from_new ≡ source first
+    pub kept : target_tells ≡ true → (target to_new).kept ≡ (target to_new).bytes
+    pub is_made : target_tells ≡ true → StaysMade made (target to_new)
+
+  -- it was made anew before
+  pub record IsMadeAndFilled (from_old from_new : F) (to_old to_new : T) : Type 0 where
+    pub made : T
+    pub fresh : target_tells ≡ true → HasMade (target to_old) (target made)
+    pub filled : IsFilled from_old from_new (target made) to_new
+
+  -- Both locks were held, on the file that the path names, as the copy was made and filled, and then they were given
+  -- back.
+  pub record IsCopied (from_old from_new : F) (to_old to_new : T) : Type 0 where
+    -- the mailbox with the locks, before the copy and after it
+    pub locked : F
+    pub done : F
+    pub stands : source_tells ≡ true → StandsLocked (source from_old) (source locked)
+    pub copied : IsMadeAndFilled locked done to_old to_new
+    pub let_go : source_tells ≡ true → HasLetGo (source done) (source from_new)
+
+-- Some mailbox's file and the copy's, of which only the bytes may be known: all that the one had left was written to the
+-- other after it was made.
+abbrev pub HasCopiedFile : {F T : Type 0} → (F → Option (List ℕ)) → (T → TargetState) → Type 0
+HasCopiedFile {F = F} {T = T} unread target =
+    (first : F) × ((made : T) × ((after : T) × Copies (unread first) (target made).bytes (target after).bytes))

@@ -1,0 +1,229 @@
+-- Where the name stands that can't be used, and what is said of it.
+use Rattle.std.proofs.Common.{◌≡◌, ◌∙◌, ◌⊎◌, ◌+◌, ◌<◌, ◌≤◌, ◌++◌, ◌∷◌, [], inl, inr, ap, sym, subst, refl, suc, ℕ, Bool, true, false, List, String, Option, Some, None, length, cond, arith}
+use Rattle.std.proofs.Common.{append_assoc, append-nil, ap₂, codes, drop, get_or, take, true≢false}
+use Rattle.std.specs.Prelude.{not, ◌||◌, ◌&&◌, ◌==◌, nat_lt, string_bytes}
+use Rattle.std.specs.declared.alloc.Global.{Global}
+use Rattle.std.specs.Borrow.{Bor}
+use Rattle.std.specs.List.{list_all, prefix_len}
+use Rattle.std.specs.Str.{bytes_eq}
+use Rattle.std.proofs.lemmas.Bool.Decides.{nat_tests}
+use Rattle.std.proofs.lemmas.Cmp.{nat_list_eq_equiv}
+use Rattle.std.proofs.lemmas.List.{drop_more, length-map, map-append, take_more}
+use Rattle.mail_world.specs.Site.{is_box_name, has_text, has_twice, is_host_name}
+use Rattle.mail_world.specs.declared.limits.TheConstants.{BOX_LIMIT}
+use Rattle.lmtp_text.specs.Sites.{texts}
+use Rattle.lmtpd_words.specs.Words.{named_site}
+use Rattle.lmtpd_words.specs.declared.words.ServeWords.{ServeWords}
+use Rattle.lmtpd_words.specs.declared.words.SiteWords.{SiteWords}
+use Rattle.lmtpd_setup.specs.Faults.{first_fault, site_of_one}
+use Rattle.lmtpd_setup.specs.Names.{IsNameLine, IsNoSite, IsToldIf, IsToldOf, tells_names, twice_place, wrong_place}
+use Rattle.lmtpd_setup.specs.declared.fault.Fault.{Fault}
+use Rattle.lmtpd_setup.specs.declared.fault.Fault.TheVariants as fault
+use Rattle.lmtpd_setup.specs.declared.stop.Stop.{Stop}
+use Rattle.lmtpd_setup.specs.declared.stop.Stop.TheVariants as stop
+
+-- of the first fault of a site which of its tests failed
+bad_of : (n h d b c t : Bool)
+    → cond n (Some fault.NoBox) (cond (not h) (Some fault.Host) (cond (not d) (Some fault.Domain) (cond (not b) (Some fault.Box)
+    (cond c (Some fault.TooManyBoxes) (cond t (Some fault.BoxTwice) None))))) ≡ Some fault.Box → b ≡ false
+bad_of true h d b c t e = cc
+bad_of false false d b c t e = cc
+bad_of false true false b c t e = cc
+bad_of false true true false c t e = refl
+bad_of false true true true true t e = cc
+bad_of false true true true false true e = cc
+bad_of false true true true false false e = cc
+
+many_of : (n h d b c t : Bool)
+    → cond n (Some fault.NoBox) (cond (not h) (Some fault.Host) (cond (not d) (Some fault.Domain) (cond (not b) (Some fault.Box)
+    (cond c (Some fault.TooManyBoxes) (cond t (Some fault.BoxTwice) None))))) ≡ Some fault.TooManyBoxes → c ≡ true
+many_of true h d b c t e = cc
+many_of false false d b c t e = cc
+many_of false true false b c t e = cc
+many_of false true true false c t e = cc
+many_of false true true true true t e = refl
+many_of false true true true false true e = cc
+many_of false true true true false false e = cc
+
+twice_of : (n h d b c t : Bool)
+    → cond n (Some fault.NoBox) (cond (not h) (Some fault.Host) (cond (not d) (Some fault.Domain) (cond (not b) (Some fault.Box)
+    (cond c (Some fault.TooManyBoxes) (cond t (Some fault.BoxTwice) None))))) ≡ Some fault.BoxTwice → t ≡ true
+twice_of true h d b c t e = cc
+twice_of false false d b c t e = cc
+twice_of false true false b c t e = cc
+twice_of false true true false c t e = cc
+twice_of false true true true true t e = cc
+twice_of false true true true false true e = refl
+twice_of false true true true false false e = cc
+
+-- names that are all passed are all good
+good_step : (b : Bool) (n m : ℕ) (rest : Bool) → suc m ≤ cond b (1 + n) 0 → (m ≤ n → rest ≡ true) → (b && rest) ≡ true
+good_step true n m rest all more = more (omega (arith, all))
+good_step false n m rest all more = absurd (omega (arith, all))
+
+all_good : (names : List (List ℕ)) → length names ≤ prefix_len is_box_name names → list_all is_box_name names ≡ true
+all_good [] all = refl
+all_good (name ∷ names) all =
+    good_step (is_box_name name) (prefix_len is_box_name names) (length names) (list_all is_box_name names) all (all_good names)
+
+shuffle : (a e t b : Bool) → ((a || e) || (t || b)) ≡ ((a || t) || (e || b))
+shuffle true e t b = refl
+shuffle false true true b = refl
+shuffle false true false b = refl
+shuffle false false t b = refl
+
+or_false : (b : Bool) → (b || false) ≡ b
+or_false true = refl
+or_false false = refl
+
+or_assoc : (a b c : Bool) → (a || (b || c)) ≡ ((a || b) || c)
+or_assoc true b c = refl
+or_assoc false b c = refl
+
+has_text_more : (names : List (List ℕ)) (last text : List ℕ) → has_text (names ++ last ∷ []) text ≡ (has_text names text || bytes_eq last text)
+has_text_more [] last text = or_false (bytes_eq last text)
+has_text_more (name ∷ names) last text =
+    ap (λ b. bytes_eq name text || b) (has_text_more names last text) ∙ or_assoc (bytes_eq name text) (has_text names text) (bytes_eq last text)
+
+has_twice_more : (names : List (List ℕ)) (last : List ℕ) → has_twice (names ++ last ∷ []) ≡ (has_twice names || has_text names last)
+has_twice_more [] last = refl
+has_twice_more (name ∷ names) last =
+    ap₂ (λ a b. a || b) (has_text_more names last name) (has_twice_more names last)
+    ∙ (shuffle (has_text names name) (bytes_eq last name) (has_twice names) (has_text names last)
+    ∙ ap (λ e. (has_text names name || has_twice names) || (e || has_text names last)) (nat_list_eq_equiv.symm last name))
+
+-- names that are all passed are named once
+once_step : (seen : List (List ℕ)) (name : List ℕ) (names : List (List ℕ)) (t : Bool) → has_text seen name ≡ t → has_twice seen ≡ false
+    → (has_twice (seen ++ name ∷ []) ≡ false → length names ≤ twice_place (seen ++ name ∷ []) names → has_twice ((seen ++ name ∷ []) ++ names) ≡ false)
+    → suc (length names) ≤ cond t 0 (suc (twice_place (seen ++ name ∷ []) names)) → has_twice (seen ++ name ∷ names) ≡ false
+once_step seen name names true is once rest all = absurd (omega (arith, all))
+once_step seen name names false is once rest all =
+    let more : has_twice (seen ++ name ∷ []) ≡ false = has_twice_more seen name ∙ (ap (λ b. b || has_text seen name) once ∙ is) in
+    ap has_twice (sym (append_assoc seen (name ∷ []) names)) ∙ rest more (omega (arith, all))
+
+none_twice : (seen names : List (List ℕ)) → has_twice seen ≡ false → length names ≤ twice_place seen names → has_twice (seen ++ names) ≡ false
+none_twice seen [] once all = ap has_twice (append-nil seen) ∙ once
+none_twice seen (name ∷ names) once all = once_step seen name names (has_text seen name) refl once (none_twice (seen ++ name ∷ []) names) all
+
+over : (limit count : ℕ) → nat_lt limit count ≡ true → count ≤ limit → ⊥
+over limit count more within = let above : limit < count = grind (arith, nat_tests) in omega (arith, above, within)
+
+no_name : (words : SiteWords) (f : Fault) → first_fault (named_site words) ≡ Some f → length (texts words.boxes.items) ≤ wrong_place f (texts words.boxes.items)
+    → IsToldOf words f (stop.Fault f)
+no_name words fault.Box first all =
+    let site = named_site words in
+    let bad : list_all is_box_name site.boxes ≡ false =
+    bad_of (length site.boxes == 0) (is_host_name site.host) (list_all is_host_name site.domains) (list_all is_box_name site.boxes)
+    (nat_lt BOX_LIMIT (length site.boxes)) (has_twice site.boxes) first in
+    absurd (true≢false (sym (all_good site.boxes all) ∙ bad))
+no_name words fault.TooManyBoxes first all =
+    let site = named_site words in
+    let many : nat_lt BOX_LIMIT (length site.boxes) ≡ true =
+    many_of (length site.boxes == 0) (is_host_name site.host) (list_all is_host_name site.domains) (list_all is_box_name site.boxes)
+    (nat_lt BOX_LIMIT (length site.boxes)) (has_twice site.boxes) first in
+    absurd (over BOX_LIMIT (length site.boxes) many all)
+no_name words fault.BoxTwice first all =
+    let site = named_site words in
+    let twice : has_twice site.boxes ≡ true =
+    twice_of (length site.boxes == 0) (is_host_name site.host) (list_all is_host_name site.domains) (list_all is_box_name site.boxes)
+    (nat_lt BOX_LIMIT (length site.boxes)) (has_twice site.boxes) first in
+    absurd (true≢false (sym twice ∙ none_twice [] site.boxes refl all))
+no_name words fault.Address first all = refl
+no_name words fault.Port first all = refl
+no_name words fault.NoBox first all = refl
+no_name words fault.Host first all = refl
+no_name words fault.Domain first all = refl
+no_name words fault.Memory first all = refl
+no_name words fault.Listen first all = refl
+no_name words fault.Size first all = refl
+no_name words fault.NoThread first all = refl
+no_name words fault.ChannelGone first all = refl
+no_name words fault.Device first all = refl
+
+-- a site's fault that is about no name
+pub nothing_told : (words : SiteWords) (f : Fault) → (f ≡ fault.Memory) ⊎ (first_fault (named_site words) ≡ Some f)
+    → length words.boxes.items ≤ wrong_place f (texts words.boxes.items)
+    → (stop.Fault f ≡ stop.Fault fault.Memory) ⊎ IsToldOf words f (stop.Fault f)
+nothing_told words f (inl memory) all = inl (ap stop.Fault memory)
+nothing_told words f (inr first) all =
+    inr (no_name words f first (omega (arith, all, length-map words.boxes.items (λ (name : Bor (List ℕ)). name.now))))
+
+no_place : (names : List (Bor (List ℕ))) → length (texts names) < length names → ⊥
+no_place names below = omega (arith, below, length-map names (λ (name : Bor (List ℕ)). name.now))
+
+-- a name is said of the faults that are about one
+pub name_told : (words : SiteWords) (f : Fault) (line : String Global) → IsNameLine words f (string_bytes line) → IsToldOf words f (stop.Name f line)
+name_told words fault.Box line is = (line, refl, is)
+name_told words fault.TooManyBoxes line is = (line, refl, is)
+name_told words fault.BoxTwice line is = (line, refl, is)
+name_told words fault.Address line is = absurd (no_place words.boxes.items is.within)
+name_told words fault.Port line is = absurd (no_place words.boxes.items is.within)
+name_told words fault.NoBox line is = absurd (no_place words.boxes.items is.within)
+name_told words fault.Host line is = absurd (no_place words.boxes.items is.within)
+name_told words fault.Domain line is = absurd (no_place words.boxes.items is.within)
+name_told words fault.Memory line is = absurd (no_place words.boxes.items is.within)
+name_told words fault.Listen line is = absurd (no_place words.boxes.items is.within)
+name_told words fault.Size line is = absurd (no_place words.boxes.items is.within)
+name_told words fault.NoThread line is = absurd (no_place words.boxes.items is.within)
+name_told words fault.ChannelGone line is = absurd (no_place words.boxes.items is.within)
+name_told words fault.Device line is = absurd (no_place words.boxes.items is.within)
+
+-- what ends a server that has no site
+pub no_site : (words : ServeWords) (f : Fault) (s : Stop) (tells : Bool) → tells_names words ≡ tells
+    → (f ≡ fault.Memory) ⊎ (first_fault (named_site words.site) ≡ Some f)
+    → (s ≡ stop.Fault fault.Memory) ⊎ IsToldIf tells words.site f s → IsNoSite words s
+no_site words f s tells is first (inl memory) = inl memory
+no_site words f s tells is (inr first) (inr told) = inr (f, first, subst (λ t. IsToldIf t words.site f s) (sym is) told)
+no_site words f s true is (inl memory) (inr told) = inl (subst (λ g. IsToldOf words.site g s) memory told)
+no_site words f s false is (inl memory) (inr told) = inl (told ∙ ap stop.Fault memory)
+
+-- what is found of faults that are about no name
+pub place_of_none : (f : Fault) (names : List (List ℕ)) → ¬ (f ≡ fault.Box) → ¬ (f ≡ fault.TooManyBoxes) → ¬ (f ≡ fault.BoxTwice)
+    → wrong_place f names ≡ length names
+place_of_none fault.Box names a b c = absurd (a refl)
+place_of_none fault.TooManyBoxes names a b c = absurd (b refl)
+place_of_none fault.BoxTwice names a b c = absurd (c refl)
+place_of_none fault.Address names a b c = refl
+place_of_none fault.Port names a b c = refl
+place_of_none fault.NoBox names a b c = refl
+place_of_none fault.Host names a b c = refl
+place_of_none fault.Domain names a b c = refl
+place_of_none fault.Memory names a b c = refl
+place_of_none fault.Listen names a b c = refl
+place_of_none fault.Size names a b c = refl
+place_of_none fault.NoThread names a b c = refl
+place_of_none fault.ChannelGone names a b c = refl
+place_of_none fault.Device names a b c = refl
+
+alone : (b : Bool) → cond (not (b && true)) (Some fault.Box) None ≡ Some fault.Box → b ≡ false
+alone true e = cc
+alone false e = refl
+
+-- a name that alone is no mailbox's
+pub bad_alone : (name : List ℕ) → first_fault (site_of_one (codes "h") [] name) ≡ Some fault.Box → is_box_name name ≡ false
+bad_alone name e = alone (is_box_name name) e
+
+-- the name at this place stands among those before it, or it doesn't
+pub here : (names : List (Bor (List ℕ))) (k : ℕ) (d : Bor (List ℕ)) → k < length names
+    → twice_place (texts (take k names)) (texts (drop k names)) + k ≡ twice_place [] (texts names)
+    → has_text (texts (take k names)) (get_or names k d).now ≡ true → k ≡ twice_place [] (texts names)
+here names k d below before among =
+    let parts : texts (drop k names) ≡ (get_or names k d).now ∷ texts (drop (k + 1) names) = ap texts (drop_more names k d below) in
+    let none : twice_place (texts (take k names)) (texts (drop k names)) ≡ 0 =
+    ap (twice_place (texts (take k names))) parts
+    ∙ ap (λ t. cond t 0 (suc (twice_place (texts (take k names) ++ (get_or names k d).now ∷ []) (texts (drop (k + 1) names))))) among in
+    omega (arith, none, before)
+
+pub later : (names : List (Bor (List ℕ))) (k : ℕ) (d : Bor (List ℕ)) → k < length names
+    → twice_place (texts (take k names)) (texts (drop k names)) + k ≡ twice_place [] (texts names)
+    → has_text (texts (take k names)) (get_or names k d).now ≡ false
+    → twice_place (texts (take (k + 1) names)) (texts (drop (k + 1) names)) + (k + 1) ≡ twice_place [] (texts names)
+later names k d below before among =
+    let parts : texts (drop k names) ≡ (get_or names k d).now ∷ texts (drop (k + 1) names) = ap texts (drop_more names k d below) in
+    let seen : texts (take (k + 1) names) ≡ texts (take k names) ++ (get_or names k d).now ∷ [] =
+    ap texts (take_more names k d below) ∙ map-append (λ (name : Bor (List ℕ)). name.now) (take k names) (get_or names k d ∷ []) in
+    let one : twice_place (texts (take k names)) (texts (drop k names)) ≡ suc (twice_place (texts (take (k + 1) names)) (texts (drop (k + 1) names))) =
+    ap (twice_place (texts (take k names))) parts
+    ∙ (ap (λ t. cond t 0 (suc (twice_place (texts (take k names) ++ (get_or names k d).now ∷ []) (texts (drop (k + 1) names))))) among
+    ∙ ap (λ l. suc (twice_place l (texts (drop (k + 1) names)))) (sym seen)) in
+    omega (arith, one, before)

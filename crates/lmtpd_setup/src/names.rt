@@ -1,0 +1,179 @@
+//! Which name of a mailbox can't be used, and the line of the log that says it.
+
+ghost use Rattle.std.specs.Prelude.{◌≡◌, ◌⊎◌, ◌<◌, ◌++◌, [], length, Some, IfOk, OnOk, string_bytes};
+ghost use Rattle.std.specs.List.{prefix_len};
+ghost use Rattle.mail_world.specs.Site.{has_text, is_box_name};
+ghost use Rattle.lmtp_text.specs.Sites.{texts};
+ghost use Rattle.lmtpd_words.specs.Words.{named_site};
+ghost use Rattle.lmtpd_setup.specs.Faults.{first_fault};
+ghost use Rattle.lmtpd_setup.specs.Names.{IsFoundAt, IsNameLine, IsNoSite, IsPlace, IsToldOf, place_text};
+ghost use Rattle.lmtpd_setup.specs.Names.{shown_name, tells_names, twice_place, wrong_place};
+
+use crate::fault::Fault;
+use crate::site::try_box;
+use crate::stop::Stop;
+use itoa::Buffer;
+use lmtpd_words::{ServeWords, SiteWords, count_names, line_of_name, printable};
+use log::LevelFilter;
+use mail_world::limits::BOX_LIMIT;
+use std::alloc::{AllocError, Global};
+
+/// The bytes that are shown of a name.
+pub const SHOWN_LIMIT: usize = 60;
+
+/// What ends a server whose site has that fault: where a name can't be used, and errors are logged or the words alone
+/// are checked, it has the line of the log that says which.
+pub fn refused_site<'a>(alloc: Global, words: &ServeWords<'_>, fault: Fault) -> Stop<'a>
+    requires { (fault ≡ Fault.Memory) ⊎ (first_fault (named_site words.now.site) ≡ Some fault) }
+    ensures { IsNoSite words.now result }
+{
+    if tells_names(words) {
+        told_site(alloc, &words.site, fault)
+    } else {
+        Stop::Fault(fault)
+    }
+}
+
+fn tells_names(words: &ServeWords<'_>) -> bool
+    ensures { result ≡ tells_names words.now }
+{
+    words.check_words || !matches!(words.log, LevelFilter::Off)
+}
+
+fn told_site<'a>(alloc: Global, words: &SiteWords<'_>, fault: Fault) -> Stop<'a>
+    requires { (fault ≡ Fault.Memory) ⊎ (first_fault (named_site words.now) ≡ Some fault) }
+    ensures { (result ≡ Stop.Fault Fault.Memory) ⊎ IsToldOf words.now fault result }
+{
+    let number = match wrong_number(alloc, &words.boxes, fault) {
+        Ok(Some(number)) => number,
+        Ok(None) => return Stop::Fault(fault),
+        Err(_) => return Stop::Fault(Fault::Memory),
+    };
+    match told_name(alloc, words, fault, number) {
+        Ok(line) => Stop::Name(fault, line),
+        Err(_) => Stop::Fault(Fault::Memory),
+    }
+}
+
+// The number of the name that the fault is about, if it is about one of these.
+fn wrong_number(alloc: Global, names: &[&[u8]], fault: Fault) -> Result<Option<usize>, AllocError>
+    ensures { IfOk result (IsFoundAt (wrong_place fault (texts names.now)) (length names.now)) }
+{
+    match fault {
+        Fault::Box => first_bad(alloc, names),
+        Fault::TooManyBoxes => Ok(place_within(names, BOX_LIMIT)),
+        Fault::BoxTwice => Ok(first_twice(names)),
+        _ => Ok(None),
+    }
+}
+
+fn place_within(names: &[&[u8]], place: usize) -> Option<usize>
+    ensures { IsFoundAt place (length names.now) result }
+{
+    if place < names.len() {
+        Some(place)
+    } else {
+        None
+    }
+}
+
+// The first that no mailbox can have.
+fn first_bad(alloc: Global, names: &[&[u8]]) -> Result<Option<usize>, AllocError>
+    ensures { IfOk result (IsFoundAt (prefix_len is_box_name (texts names.now)) (length names.now)) }
+{
+    for (place, name) in names.iter().enumerate() {
+        if !is_good(alloc, name)? {
+            return Ok(Some(place));
+        }
+    }
+    Ok(None)
+}
+
+fn is_good(alloc: Global, name: &[u8]) -> Result<bool, AllocError>
+    ensures { IfOk result (λ good. good ≡ is_box_name name.now) }
+{
+    match try_box(alloc, b"h", &[], name) {
+        Ok(()) => Ok(true),
+        Err(Fault::Box) => Ok(false),
+        Err(_) => Err(AllocError),
+    }
+}
+
+// The first that stands among those before it.
+fn first_twice(names: &[&[u8]]) -> Option<usize>
+    ensures { IsFoundAt (twice_place [] (texts names.now)) (length names.now) result }
+{
+    for (place, name) in names.iter().enumerate() {
+        if is_among(&names[..place], name) {
+            return Some(place);
+        }
+    }
+    None
+}
+
+fn is_among(names: &[&[u8]], name: &[u8]) -> bool
+    ensures { result ≡ has_text (texts names.now) name.now }
+{
+    for other in names {
+        if *other == name {
+            return true;
+        }
+    }
+    false
+}
+
+// The line of the log on the name of that number.
+fn told_name(
+    alloc: Global,
+    words: &SiteWords<'_>,
+    fault: Fault,
+    number: usize,
+) -> Result<String, AllocError>
+    requires place { number ≡ wrong_place fault (texts words.now.boxes.items) }
+    requires within { number < length words.now.boxes.items }
+    ensures { IfOk result (λ line. IsNameLine words.now fault (string_bytes line)) }
+{
+    let line = line_of(words, number);
+    let mut text = String::new(alloc);
+    text.push_str("[ERROR lmtpd] ")?;
+    text.push_str(fault.text())?;
+    text.push_str(" name=")?;
+    push_name(&mut text, words.boxes[number])?;
+    push_place(&mut text, words.boxes_file, line)?;
+    text.push_str("\n")?;
+    Ok(text)
+}
+
+fn push_name(text: &mut String, name: &[u8]) -> Result<(), AllocError>
+    ensures { OnOk result (string_bytes text.new ≡ string_bytes text.old ++ shown_name name.now) }
+{
+    if name.len() > SHOWN_LIMIT {
+        printable(&name[..SHOWN_LIMIT]).append_to(text)?;
+        text.push_str("..")
+    } else {
+        printable(name).append_to(text)
+    }
+}
+
+fn push_place(text: &mut String, path: Option<&str>, line: Option<usize>) -> Result<(), AllocError>
+    ensures { OnOk result (string_bytes text.new ≡ string_bytes text.old ++ place_text path.entry line) }
+{
+    if let (Some(path), Some(line)) = (path, line) {
+        text.push_str(" file=")?;
+        printable(path.as_bytes()).append_to(text)?;
+        text.push_str(" line=")?;
+        let mut digits = Buffer::new();
+        text.push_str(digits.format(line))?;
+    }
+    Ok(())
+}
+
+// The line of the file on which the mailbox of that number stands.
+fn line_of(words: &SiteWords<'_>, number: usize) -> Option<usize>
+    requires { number < length words.now.boxes.items }
+    ensures { IsPlace words.now number result }
+{
+    let own = words.boxes.len().saturating_sub(count_names(words.listed));
+    let before = number.checked_sub(own)?;
+    line_of_name(words.listed, before)
+}
