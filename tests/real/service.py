@@ -118,4 +118,7 @@ class Service:
 
 def systemctl(*words):
     said = subprocess.run(["systemctl", *words], stdout=subprocess.PIPE, stderr=subprocess.STDOUT, text=True)
-    equal((words, said.returncode, said.stdout if said.returncode else ""), (words, 0, ""))
+    if said.returncode:
+        last = ["journalctl", "-n", "30", "-o", "cat", "--no-pager"]
+        told = subprocess.run(last, stdout=subprocess.PIPE, text=True, errors="replace", check=False).stdout
+        raise AssertionError((words, said.returncode, said.stdout, told))
