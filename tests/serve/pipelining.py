@@ -102,5 +102,10 @@ def a_stop_while_a_client_pipelines_and_reads_late(folder):
         equal(last_heard(folder, where, "from the stop on"), [LAST] * len(STOPS))
 
 
+# a client that sends on may be served for the five seconds that a stop leaves it
+for one in [a_stop_while_a_client_pipelines_and_reads, a_stop_while_a_client_pipelines_and_reads_late]:
+    one.seconds = 240
+
+
 def last_heard(folder, where, reads):
     return [stopped_while_it_sends(folder, where, seconds, reads) for seconds in STOPS]
