@@ -5,6 +5,7 @@ import mailbox
 import os
 import pathlib
 import re
+import threading
 
 import letters
 from cases import case, equal
@@ -75,5 +76,33 @@ def another_name(_folder):
         equal(os.path.exists(service.mailbox("anna")), False)
 
 
-for one in [maildir_and_back, another_name]:
+@case
+@in_a_machine()
+def a_backup_while_letters_come(_folder):
+    """a backup by the typed lines of docs/operating/MOVING.md while a client delivers to the service: the letters that
+    were told 250 before are in it, whole and in order, and no lock is left"""
+    backup = pathlib.Path("/var/backups/lmtpd/anna.mbox")
+    with Service(["anna"]) as service:
+        sent = [deliver_one(service.address, ["anna"], f"letter {number}") for number in range(20)]
+        over = threading.Event()
+        client = threading.Thread(target=deliver_on, args=(service.address, over))
+        client.start()
+        type_lines(lines_of("MOVING.md", "## Backup"))
+        over.set()
+        client.join()
+        equal(sent, [[stored("anna")]] * 20)
+        owner = backup.stat()
+        equal((backup.owner(), oct(owner.st_mode & 0o777)), ("lmtpd", "0o600"))
+        equal(letters.messages(backup)[:20], [b"letter %d\n" % number for number in range(20)])
+        equal(service.mailbox("anna").read_bytes().startswith(backup.read_bytes()), True)
+        equal(service.lock_file("anna").exists(), False)
+
+
+def deliver_on(address, over):
+    """Until that is set; a copy that misses its turn meanwhile may be told 451."""
+    while not over.is_set():
+        deliver_one(address, ["anna"], "more")
+
+
+for one in [maildir_and_back, another_name, a_backup_while_letters_come]:
     one.seconds = 180
