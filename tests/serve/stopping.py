@@ -14,8 +14,8 @@ from server import Server
 
 STORED, NOT_STORED = stored("anna"), not_stored("anna")
 # How long a client at rest may be silent, how long all go on, and how much later a client may hear of it: the file is
-# looked for four times a second, and a wait lasts half a second.
-SILENCE, GRACE, LATE = 3, 5, 1.5
+# looked for four times a second, a wait lasts half a second, and the machine may be busy.
+SILENCE, GRACE, LATE = 3, 5, 3
 # After that long the server has seen the stop file.
 SEEN = 0.6
 
