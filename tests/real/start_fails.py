@@ -79,7 +79,7 @@ def an_end_within_the_first_second(_folder):
             systemctl("kill", "--kill-who=main", "--signal=TERM", service.unit)
             service.wait(lambda: service.told("MainPID") not in ["0", process])
             assert time.monotonic() - since < PAUSE - 1, "not at once"
-            equal(service.told("SubState"), "start-post")
+            service.wait(lambda: service.told("SubState") == "start-post")
         time.sleep(0.3)
         service.stop()
         equal(service.told("ActiveState"), "inactive")
