@@ -35,16 +35,17 @@ use Rattle.box_worker.proofs.Turning.{turned_more, tells_told}
 use Rattle.box_worker.proofs.Counting.{let_in, kept_out}
 use Rattle.box_worker.proofs.Settling.{is_kept, marks_count, marks_next, bytes_one, bytes_none, settled_stored, settled_over, settled_not, settled_later}
 use Rattle.box_worker.proofs.Telling.{owed_more}
+use Rattle.mail_world.specs.Site.{Site}
 
 -- no record tells its copy's place or mailbox
-pub text_of : (calendar : Calendar) (host : List ℕ) (note : Note) → record_text calendar host (envelope_of note) note.message ≡ record_of calendar host note
+pub text_of : (calendar : Calendar) (site : Site) (note : Note) → record_text calendar site (envelope_of note) note.message ≡ record_of calendar site note
 unfolding record_of
-text_of calendar host note = refl
+text_of calendar site note = refl
 
 -- each record ends with LF
-pub some_text : (calendar : Calendar) (host : List ℕ) (note : Note) → 1 ≤ length (record_of calendar host note)
+pub some_text : (calendar : Calendar) (site : Site) (note : Note) → 1 ≤ length (record_of calendar site note)
 unfolding record_of
-some_text calendar host note = omega arith
+some_text calendar site note = omega arith
 
 -- a count of one more
 counted_more : (n : ℕ) → min (counted n + 1) (2 ^ 64 - 1) ≡ counted (n + 1)
@@ -102,18 +103,18 @@ module _ (at : Setting) (copies : List Note) (old : SpoolState) (now : MailboxSt
   }
 
   abbrev size : ℕ
-  size = length (record_of at.calendar at.host note)
+  size = length (record_of at.calendar at.site note)
 
   -- what was settled, where it is known whether the spool had failed
   settled_at : (faulty : Bool) → now.faulty ≡ faulty → HasSettled at h.start copies old (mailbox_of now.state h.stored h.over faulty)
   settled_at faulty e = let P : Bool → Type 0 = λ b. HasSettled at h.start copies old (mailbox_of now.state h.stored h.over b) in subst P e h.settled
 
   pub copy_counted : (outcome : Outcome) (after : CountedMailbox)
-      → TakesCopy (record_of at.calendar at.host note) outcome (record { mailbox = now; limit = before; in_use = used }) after
+      → TakesCopy (record_of at.calendar at.site note) outcome (record { mailbox = now; limit = before; in_use = used }) after
       → IsTendedAlone at (copies ++ note ∷ []) (outs ++ outcome ∷ []) old after.mailbox after.limit
   copy_counted Stored after take =
       let was = settled_at false take.0 in
-      let fit = let_in at.quota (bytes_after at h.start copies) size before after.limit (some_text at.calendar at.host note) (x.counts take.0) take.1 in
+      let fit = let_in at.quota (bytes_after at h.start copies) size before after.limit (some_text at.calendar at.site note) (x.counts take.0) take.1 in
       let now_is = settled_stored at h.start copies note old now.state after.mailbox.state h.stored h.over was fit.0 take.2 in
       let P : Bool → Type 0 = λ b. HasSettled at h.start (copies ++ note ∷ []) old (mailbox_of after.mailbox.state (h.stored + 1) h.over b) in
       let count : h.stored + 1 + h.over ≡ h.stored + h.over + 1 = omega arith in
@@ -146,7 +147,7 @@ module _ (at : Setting) (copies : List Note) (old : SpoolState) (now : MailboxSt
       (subst P (sym faulty) (elim take.1 [
         | inl before' ↦ settled_later at h.start copies note old now.state after.mailbox.state h.stored h.over (settled_at true before'.0) before'.1
         | inr fails ↦
-            let fit = let_in at.quota (bytes_after at h.start copies) size before after.limit (some_text at.calendar at.host note) (x.counts fails.0) fails.1 in
+            let fit = let_in at.quota (bytes_after at h.start copies) size before after.limit (some_text at.calendar at.site note) (x.counts fails.0) fails.1 in
             settled_not at h.start copies note old now.state after.mailbox.state h.stored h.over (settled_at false fails.0) fit.0 fails.2
       ]))
       (ap (λ (m : MailboxState). m.stored) take.0 ∙ h.stored_count)
@@ -178,9 +179,9 @@ module _ (at : Setting) (copies : List Note) (old now : WorkerState) (before : O
   t = x.tended
 
   tended_more : (outcome : Outcome) (after : CountedMailbox) → after.mailbox.state.sharing.is_shared ≡ now.mailbox.state.sharing.is_shared
-      → (now.mailbox.state.sharing.is_shared ≡ false → TakesCopy (record_of at.calendar at.host note) outcome (counted_of now before) after)
+      → (now.mailbox.state.sharing.is_shared ≡ false → TakesCopy (record_of at.calendar at.site note) outcome (counted_of now before) after)
       → (now.mailbox.state.sharing.is_shared ≡ false → after.in_use ≡ now.in_use)
-      → (now.mailbox.state.sharing.is_shared ≡ true → TurnsCopy (record_of at.calendar at.host note) outcome (counted_of now before) after)
+      → (now.mailbox.state.sharing.is_shared ≡ true → TurnsCopy (record_of at.calendar at.site note) outcome (counted_of now before) after)
       → IsTended at (copies ++ note ∷ []) (x.outcomes ++ outcome ∷ []) old.mailbox.state after
   tended_more outcome after whose alone never shared = record {
     whose = whose ∙ t.whose;
@@ -194,9 +195,9 @@ module _ (at : Setting) (copies : List Note) (old now : WorkerState) (before : O
 
   pub handled_more : (moment : ℕ) (outcome : Outcome) (after : CountedMailbox) → CountsOutcome outcome now.mailbox after.mailbox
       → after.mailbox.state.sharing.is_shared ≡ now.mailbox.state.sharing.is_shared
-      → (now.mailbox.state.sharing.is_shared ≡ false → TakesCopy (record_of at.calendar at.host note) outcome (counted_of now before) after)
+      → (now.mailbox.state.sharing.is_shared ≡ false → TakesCopy (record_of at.calendar at.site note) outcome (counted_of now before) after)
       → (now.mailbox.state.sharing.is_shared ≡ false → after.in_use ≡ now.in_use)
-      → (now.mailbox.state.sharing.is_shared ≡ true → TurnsCopy (record_of at.calendar at.host note) outcome (counted_of now before) after)
+      → (now.mailbox.state.sharing.is_shared ≡ true → TurnsCopy (record_of at.calendar at.site note) outcome (counted_of now before) after)
       → IsOffered moment note.txn.lane (slip_by note.txn note.place outcome) accepted now.slips next
       → (y : IsCounting at (copies ++ note ∷ []) old
       (record { slips = next; mailbox = after.mailbox; in_use = after.in_use; taken = counted (now.taken + 1); lost = any_gone next }) after.limit)
@@ -246,7 +247,7 @@ handled_of at copies old now limit x = record {
 
 -- a worker that took nothing
 pub counting_none : (at : Setting) (slips : List (Sender Slip)) (old : SpoolState) (new : CountedMailbox)
-    → HaveNumber at.worker slips → (old.sharing.is_shared ≡ false → HasStored at.calendar at.host [] old new.mailbox)
+    → HaveNumber at.worker slips → (old.sharing.is_shared ≡ false → HasStored at.calendar at.site [] old new.mailbox)
     → (old.sharing.is_shared ≡ false → new.mailbox.faulty ≡ true → HasNotMended old new.mailbox.state)
     → (old.sharing.is_shared ≡ true → new.mailbox ≡ mailbox_of old 0 0 false)
     → (new.mailbox.stored ≡ 0) × (new.mailbox.over ≡ 0) × (new.in_use ≡ 0)
@@ -259,7 +260,7 @@ counting_none at slips old new mine stored broken left none begins whose =
     let limit = new.limit in
     let same : mailbox ≡ mailbox_of mailbox.state 0 0 mailbox.faulty =
     ap (λ n. mailbox_of mailbox.state n mailbox.over mailbox.faulty) none.0 ∙ ap (λ n. mailbox_of mailbox.state 0 n mailbox.faulty) none.1 in
-    let P : MailboxState → Type 0 = λ m. HasStored at.calendar at.host [] old m in
+    let P : MailboxState → Type 0 = λ m. HasStored at.calendar at.site [] old m in
     let Q : ℕ → Type 0 = λ n. CountsTo at.quota n limit in
     let start_is : begins.0 ≡ begins.0 + 0 = omega arith in
     let k : old.sharing.is_shared ≡ false → IsTendedAlone at [] [] old mailbox limit = λ e. record {

@@ -12,6 +12,7 @@ use Rattle.mbox_record.specs.Writing.{Pending, bytes_owed, WritesPiece, FailsPie
 use Rattle.mbox_record.proofs.Parts.{record_split}
 use Rattle.mbox_record.proofs.Taken.{SpoolTook-then, SpoolTook-as, SpoolFailed-first, SpoolFailed-later, SpoolFailed-as}
 use Rattle.mbox_record.proofs.Wholes.{BeginsRecord, WritesPiece-then, FailsPiece-then}
+use Rattle.mail_world.specs.Site.{Site}
 
 -- a failure in a prefix of a text is one in the text
 FailsPiece-more : (s t : SpoolState) (a : Pending) (p q : List ℕ) → FailsPiece s t a p → FailsPiece s t a (p ++ q)
@@ -73,38 +74,38 @@ pub counted_text : (s t : SpoolState) (text : List ℕ) (held : ℕ) → s.held 
 counted_text s t text held none x says = let e : s.held + length text ≡ length text = omega (arith, none) in says ∙ x.grown ∙ ap counted e
 
 -- a head begins with `From `
-some_head : (calendar : Calendar) (host : List ℕ) (envelope : Envelope) → 1 ≤ length (head_text calendar host envelope)
-some_head calendar host envelope = omega arith
+some_head : (calendar : Calendar) (site : Site) (envelope : Envelope) → 1 ≤ length (head_text calendar site envelope)
+some_head calendar site envelope = omega arith
 
 -- a record ends with LF
-pub some_record : (calendar : Calendar) (host : List ℕ) (envelope : Envelope) (message : List ℕ) → 1 ≤ length (record_text calendar host envelope message)
-some_record calendar host envelope message =
-    let long = ap length (record_split calendar host envelope message) in
-    let last = length-append (head_text calendar host envelope ++ quoted_text (unix message)) (lf ∷ []) in
+pub some_record : (calendar : Calendar) (site : Site) (envelope : Envelope) (message : List ℕ) → 1 ≤ length (record_text calendar site envelope message)
+some_record calendar site envelope message =
+    let long = ap length (record_split calendar site envelope message) in
+    let last = length-append (head_text calendar site envelope ++ quoted_text (unix message)) (lf ∷ []) in
     omega (arith, long, last)
 
 -- a record is its head and its text
-module _ (calendar : Calendar) (host : List ℕ) (envelope : Envelope) (message : List ℕ) (first : Pending) (begins : BeginsRecord first) where
+module _ (calendar : Calendar) (site : Site) (envelope : Envelope) (message : List ℕ) (first : Pending) (begins : BeginsRecord first) where
   abbrev head : List ℕ
-  head = head_text calendar host envelope
+  head = head_text calendar site envelope
 
   abbrev rest : List ℕ
   rest = bytes_owed first message ++ lf ∷ []
 
-  pub record_is : record_text calendar host envelope message ≡ head ++ rest
-  record_is = record_split calendar host envelope message ∙ append_assoc head (quoted_text (unix message)) (lf ∷ [])
+  pub record_is : record_text calendar site envelope message ≡ head ++ rest
+  record_is = record_split calendar site envelope message ∙ append_assoc head (quoted_text (unix message)) (lf ∷ [])
       ∙ ap (λ (l : List ℕ). head ++ (l ++ lf ∷ [])) (sym (begins message))
 
-  pub record_took : (s t u : SpoolState) → SpoolTook s t head → SpoolTook t u rest → SpoolTook s u (record_text calendar host envelope message)
+  pub record_took : (s t u : SpoolState) → SpoolTook s t head → SpoolTook t u rest → SpoolTook s u (record_text calendar site envelope message)
   record_took s t u x y = SpoolTook-as s u _ _ record_is (SpoolTook-then s t u head rest x y)
 
-  pub record_failed : (s t u : SpoolState) → SpoolTook s t head → SpoolFailed t u rest → SpoolFailed s u (record_text calendar host envelope message)
+  pub record_failed : (s t u : SpoolState) → SpoolTook s t head → SpoolFailed t u rest → SpoolFailed s u (record_text calendar site envelope message)
   record_failed s t u x y = SpoolFailed-as s u _ _ record_is (SpoolFailed-later s t u head rest x y)
 
   -- what two counts of the parts come to, which stay at their largest value
   pub record_count : (a b : ℕ) → a ≡ counted (length head) → b ≡ counted (length rest) → (result : Option ℕ) → SomeIff result (a + b < 2 ^ 64) (a + b)
-      → SomeIff result (length (record_text calendar host envelope message) < 2 ^ 64) (length (record_text calendar host envelope message))
+      → SomeIff result (length (record_text calendar site envelope message) < 2 ^ 64) (length (record_text calendar site envelope message))
   record_count a b is_a is_b result sum =
-      let long : length (record_text calendar host envelope message) ≡ length head + length rest = ap length record_is ∙ length-append head rest in
+      let long : length (record_text calendar site envelope message) ≡ length head + length rest = ap length record_is ∙ length-append head rest in
       let last : length rest ≡ length (bytes_owed first message) + 1 = length-append (bytes_owed first message) (lf ∷ []) in
-      sum_of (length head) (length rest) a b _ is_a is_b long (some_head calendar host envelope) (omega (arith, last)) result sum
+      sum_of (length head) (length rest) a b _ is_a is_b long (some_head calendar site envelope) (omega (arith, last)) result sum

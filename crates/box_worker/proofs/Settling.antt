@@ -26,17 +26,17 @@ marked-append (false ∷ ts) (y ∷ ys) m x e = marked-append ts ys m x (omega (
 
 module _ (at : Setting) (start : ℕ) (copies : List Note) (note : Note) where
   abbrev size : ℕ
-  size = length (record_of at.calendar at.host note)
+  size = length (record_of at.calendar at.site note)
 
   -- whether the copy after these is kept
   abbrev pub is_kept : Bool
   is_kept = fits at.quota (bytes_after at start copies) size
 
   pub marks_count : length (marks_after at start copies) ≡ length copies
-  marks_count = length-kept_after at.calendar at.host at.quota copies start
+  marks_count = length-kept_after at.calendar at.site at.quota copies start
 
   pub marks_next : marks_after at start (copies ++ note ∷ []) ≡ marks_after at start copies ++ is_kept ∷ []
-  marks_next = next_after at.calendar at.host at.quota start copies note
+  marks_next = next_after at.calendar at.site at.quota start copies note
 
   kept_next : kept_after at start (copies ++ note ∷ []) ≡ kept_after at start copies ++ (if is_kept then note ∷ [] else [])
   kept_next = ap (λ marks. marked marks (copies ++ note ∷ [])) marks_next ∙ marked-append (marks_after at start copies) copies is_kept note marks_count
@@ -49,7 +49,7 @@ module _ (at : Setting) (start : ℕ) (copies : List Note) (note : Note) where
 
   pub bytes_one : is_kept ≡ true → bytes_after at start (copies ++ note ∷ []) ≡ bytes_after at start copies + size
   bytes_one e =
-      let record' = record_of at.calendar at.host in
+      let record' = record_of at.calendar at.site in
       let prefix = kept_after at start copies in
       let one : flat_map record' (prefix ++ note ∷ []) ≡ flat_map record' prefix ++ record' note =
       flat_map-append record' prefix (note ∷ []) ∙ ap (λ l. flat_map record' prefix ++ l) (append-nil (record' note)) in
@@ -58,7 +58,7 @@ module _ (at : Setting) (start : ℕ) (copies : List Note) (note : Note) where
       omega (arith, long)
 
   pub bytes_none : is_kept ≡ false → bytes_after at start (copies ++ note ∷ []) ≡ bytes_after at start copies
-  bytes_none e = ap (λ l. start + length (flat_map (record_of at.calendar at.host) l)) (kept_none e)
+  bytes_none e = ap (λ l. start + length (flat_map (record_of at.calendar at.site) l)) (kept_none e)
 
   more : length (copies ++ note ∷ []) ≡ length copies + 1
   more = length-append copies (note ∷ [])
@@ -71,9 +71,9 @@ module _ (at : Setting) (start : ℕ) (copies : List Note) (note : Note) where
   all_kept n e = ap (kept_after at start) (sym (take_all n (copies ++ note ∷ []) (omega (arith, e, more))))
 
   stored_as : (old : SpoolState) (s : SpoolState) (stored over : ℕ) (faulty : Bool) (notes : List Note) → kept_after at start (copies ++ note ∷ []) ≡ notes
-      → HasStored at.calendar at.host notes old (mailbox_of s stored over faulty)
-      → HasStored at.calendar at.host (kept_after at start (copies ++ note ∷ [])) old (mailbox_of s stored over faulty)
-  stored_as old s stored over faulty notes e x = let P : List Note → Type 0 = λ l. HasStored at.calendar at.host l old (mailbox_of s stored over faulty) in
+      → HasStored at.calendar at.site notes old (mailbox_of s stored over faulty)
+      → HasStored at.calendar at.site (kept_after at start (copies ++ note ∷ [])) old (mailbox_of s stored over faulty)
+  stored_as old s stored over faulty notes e x = let P : List Note → Type 0 = λ l. HasStored at.calendar at.site l old (mailbox_of s stored over faulty) in
       subst P (sym e) x
 
   module _ (old s t : SpoolState) (stored over : ℕ) where
@@ -81,7 +81,7 @@ module _ (at : Setting) (start : ℕ) (copies : List Note) (note : Note) where
     prefix = kept_after at start copies
 
     -- the copy is stored
-    pub settled_stored : HasSettled at start copies old (mailbox_of s stored over false) → is_kept ≡ true → HasKept s t (record_of at.calendar at.host note)
+    pub settled_stored : HasSettled at start copies old (mailbox_of s stored over false) → is_kept ≡ true → HasKept s t (record_of at.calendar at.site note)
         → HasSettled at start (copies ++ note ∷ []) old (mailbox_of t (stored + 1) over false)
     settled_stored x keeps y =
         let now : stored + over ≡ length copies = x.all refl in
@@ -95,7 +95,7 @@ module _ (at : Setting) (start : ℕ) (copies : List Note) (note : Note) where
           stored = count ∙ ap length (all_kept (stored + 1 + over) (omega (arith, now)));
           next = λ e. absurd (true≢false (sym e));
           spool = stored_as old t (stored + 1) over false (prefix ++ note ∷ []) (kept_one keeps)
-              (stored_more at.calendar at.host note old s t prefix stored over x.spool y);
+              (stored_more at.calendar at.site note old s t prefix stored over x.spool y);
         }
 
     -- it is over the quota
@@ -111,11 +111,11 @@ module _ (at : Setting) (start : ℕ) (copies : List Note) (note : Note) where
           stored = was ∙ ap length (sym (kept_none keeps)) ∙ ap length (all_kept (stored + (over + 1)) (omega (arith, now)));
           next = λ e. absurd (true≢false (sym e));
           spool = stored_as old s stored (over + 1) false prefix (kept_none keeps)
-              (stored_over at.calendar at.host note old s t prefix stored over (over + 1) x.spool);
+              (stored_over at.calendar at.site note old s t prefix stored over (over + 1) x.spool);
         }
 
     -- the spool failed at its record
-    pub settled_not : HasSettled at start copies old (mailbox_of s stored over false) → is_kept ≡ true → HasNotKept s t (record_of at.calendar at.host note)
+    pub settled_not : HasSettled at start copies old (mailbox_of s stored over false) → is_kept ≡ true → HasNotKept s t (record_of at.calendar at.site note)
         → HasSettled at start (copies ++ note ∷ []) old (mailbox_of t stored over true)
     settled_not x keeps y =
         let now : stored + over ≡ length copies = x.all refl in
@@ -129,7 +129,7 @@ module _ (at : Setting) (start : ℕ) (copies : List Note) (note : Note) where
           stored = x.stored ∙ ap length (prefix_kept (stored + over) x.within);
           next = λ e. inr (omega (arith, now, more), sym (count ∙ ap length (all_kept (stored + over + 1) (omega (arith, now)))));
           spool = stored_as old t stored over true (prefix ++ note ∷ []) (kept_one keeps)
-              (stored_not at.calendar at.host note old s t prefix stored over x.spool y);
+              (stored_not at.calendar at.site note old s t prefix stored over x.spool y);
         }
 
     next_later : t ≡ s → HasFailedFirst old s (stored + over) ⊎ IsKeptNext at start copies (stored + over) stored
@@ -142,12 +142,12 @@ module _ (at : Setting) (start : ℕ) (copies : List Note) (note : Note) where
       )
     ]
 
-    spool_later : (keeps : Bool) → is_kept ≡ keeps → t ≡ s → HasStored at.calendar at.host prefix old (mailbox_of s stored over true)
-        → HasStored at.calendar at.host (kept_after at start (copies ++ note ∷ [])) old (mailbox_of t stored over true)
+    spool_later : (keeps : Bool) → is_kept ≡ keeps → t ≡ s → HasStored at.calendar at.site prefix old (mailbox_of s stored over true)
+        → HasStored at.calendar at.site (kept_after at start (copies ++ note ∷ [])) old (mailbox_of t stored over true)
     spool_later true keeps same x =
-        stored_as old t stored over true (prefix ++ note ∷ []) (kept_one keeps) (stored_later at.calendar at.host note old s t prefix stored over x same)
+        stored_as old t stored over true (prefix ++ note ∷ []) (kept_one keeps) (stored_later at.calendar at.site note old s t prefix stored over x same)
     spool_later false keeps same x =
-        let P : SpoolState → Type 0 = λ u. HasStored at.calendar at.host prefix old (mailbox_of u stored over true) in
+        let P : SpoolState → Type 0 = λ u. HasStored at.calendar at.site prefix old (mailbox_of u stored over true) in
         stored_as old t stored over true prefix (kept_none keeps) (subst P (sym same) x)
 
     -- the spool had failed before

@@ -14,6 +14,7 @@ use Rattle.mbox_record.specs.Spool.{SpoolState, CoversAll}
 use Rattle.mail_world.specs.declared.Outcome.{Outcome}
 use Rattle.mail_world.specs.declared.Outcome.TheVariants.{Stored, Failed, NoRoom, TooLarge, OverQuota}
 use Rattle.box_worker.specs.Stored.{HasKept, HasNotKept, IsTornAt, MailboxState, mailbox_of, CountedMailbox, TakesCopy, CountsOutcome, HasStored}
+use Rattle.mail_world.specs.Site.{Site}
 
 one_more : (copies : List Note) (note : Note) → length (copies ++ note ∷ []) ≡ length copies + 1
 one_more copies note = length-append copies (note ∷ [])
@@ -22,84 +23,84 @@ one_more copies note = length-append copies (note ∷ [])
 not_both : {A : Type 0} → false ≡ true → A
 not_both e = absurd (true≢false (sym e))
 
-module _ (calendar : Calendar) (host : List ℕ) (note : Note) where
+module _ (calendar : Calendar) (site : Site) (note : Note) where
   abbrev text : List ℕ
-  text = record_of calendar host note
+  text = record_of calendar site note
 
   -- what is after the stored copies, with one more copy after those
-  torn_more : (rest : List Note) (torn : List ℕ) → IsTorn calendar host rest torn → IsTorn calendar host (rest ++ note ∷ []) torn
+  torn_more : (rest : List Note) (torn : List ℕ) → IsTorn calendar site rest torn → IsTorn calendar site (rest ++ note ∷ []) torn
   torn_more [] torn e = record { rest = text; whole = ap (λ (l : List ℕ). l ++ text) (sym e) }
   torn_more (x ∷ rest) torn h = h
 
   torn_at_more : (held : List ℕ) (copies : List Note) (n settled : ℕ) (bytes : List ℕ) → n ≤ length copies
-      → IsTornAt calendar host held copies n settled bytes → IsTornAt calendar host held (copies ++ note ∷ []) n settled bytes
+      → IsTornAt calendar site held copies n settled bytes → IsTornAt calendar site held (copies ++ note ∷ []) n settled bytes
   torn_at_more held copies n settled bytes within h = elim h [
     | inl some ↦ inl (
       some.0,
       omega (arith, some.1, one_more copies note),
-      some.2 ∙ ap (λ (prefix : List Note). mailbox calendar host held prefix ++ some.0) (sym (take-append-le n copies (note ∷ []) within)),
-      (let P : List Note → Type 0 = λ l. IsTorn calendar host l some.0 in subst P (sym (drop-append-le n copies (note ∷ []) within))
+      some.2 ∙ ap (λ (prefix : List Note). mailbox calendar site held prefix ++ some.0) (sym (take-append-le n copies (note ∷ []) within)),
+      (let P : List Note → Type 0 = λ l. IsTorn calendar site l some.0 in subst P (sym (drop-append-le n copies (note ∷ []) within))
           (torn_more (drop n copies) some.0 some.3)),
     )
     | inr none ↦ inr none
   ]
 
   -- the spool's bytes, where they are known
-  whole_more : (u v w : Option (List ℕ)) (copies : List Note) → IfSome u (λ held. v ≡ Some (mailbox calendar host held copies)) → Appends v w text
-      → IfSome u (λ held. w ≡ Some (mailbox calendar host held (copies ++ note ∷ [])))
+  whole_more : (u v w : Option (List ℕ)) (copies : List Note) → IfSome u (λ held. v ≡ Some (mailbox calendar site held copies)) → Appends v w text
+      → IfSome u (λ held. w ≡ Some (mailbox calendar site held (copies ++ note ∷ [])))
   whole_more None v w copies e a = tt
   whole_more (Some held) None w copies e a = cc
   whole_more (Some held) (Some ys) None copies e a = absurd a
   whole_more (Some held) (Some ys) (Some zs) copies e a =
-      let before : ys ≡ mailbox calendar host held copies = cc in
-      ap (λ bytes. Some bytes) (a ∙ ap (λ (l : List ℕ). l ++ text) before ∙ sym (mailbox-one_more calendar host held copies note))
+      let before : ys ≡ mailbox calendar site held copies = cc in
+      ap (λ bytes. Some bytes) (a ∙ ap (λ (l : List ℕ). l ++ text) before ∙ sym (mailbox-one_more calendar site held copies note))
 
   covered_all : (u w : Option (List ℕ)) (copies : List Note) (n synced : ℕ) → n ≡ length copies
-      → IfSome u (λ held. w ≡ Some (mailbox calendar host held copies)) → CoversAll w synced
-      → IfSome u (λ held. synced ≡ length (mailbox calendar host held (take n copies)))
+      → IfSome u (λ held. w ≡ Some (mailbox calendar site held copies)) → CoversAll w synced
+      → IfSome u (λ held. synced ≡ length (mailbox calendar site held (take n copies)))
   covered_all None w copies n synced all e c = tt
   covered_all (Some held) None copies n synced all e c = cc
   covered_all (Some held) (Some bytes) copies n synced all e c =
-      let same : bytes ≡ mailbox calendar host held copies = cc in
-      c ∙ ap length same ∙ ap (λ (l : List Note). length (mailbox calendar host held l)) (sym (take_all n copies (omega arith)))
+      let same : bytes ≡ mailbox calendar site held copies = cc in
+      c ∙ ap length same ∙ ap (λ (l : List Note). length (mailbox calendar site held l)) (sym (take_all n copies (omega arith)))
 
   torn_first : (u v w : Option (List ℕ)) (copies : List Note) (n settled : ℕ) (prefix rest : List ℕ) → n ≡ length copies → text ≡ prefix ++ rest
-      → IfSome u (λ held. v ≡ Some (mailbox calendar host held copies)) → Appends v w prefix
-      → IfSome u (λ held. IfSome w (λ bytes. IsTornAt calendar host held (copies ++ note ∷ []) n settled bytes))
+      → IfSome u (λ held. v ≡ Some (mailbox calendar site held copies)) → Appends v w prefix
+      → IfSome u (λ held. IfSome w (λ bytes. IsTornAt calendar site held (copies ++ note ∷ []) n settled bytes))
   torn_first None v w copies n settled prefix rest all is e a = tt
   torn_first (Some held) None w copies n settled prefix rest all is e a = cc
   torn_first (Some held) (Some ys) None copies n settled prefix rest all is e a = absurd a
   torn_first (Some held) (Some ys) (Some zs) copies n settled prefix rest all is e a =
-      let before : ys ≡ mailbox calendar host held copies = cc in
+      let before : ys ≡ mailbox calendar site held copies = cc in
       let taken : take n (copies ++ note ∷ []) ≡ copies = take-append-le n copies (note ∷ []) (omega arith) ∙ take_all n copies (omega arith) in
       let left : drop n (copies ++ note ∷ []) ≡ note ∷ [] =
       drop-append-le n copies (note ∷ []) (omega arith) ∙ ap (λ (l : List Note). l ++ note ∷ []) (drop_all n copies (omega arith)) in
-      let P : List Note → Type 0 = λ l. IsTorn calendar host l prefix in
+      let P : List Note → Type 0 = λ l. IsTorn calendar site l prefix in
       inl (
         prefix,
         omega (arith, all, one_more copies note),
-        a ∙ ap (λ (l : List ℕ). l ++ prefix) (before ∙ ap (λ (l : List Note). mailbox calendar host held l) (sym taken)),
+        a ∙ ap (λ (l : List ℕ). l ++ prefix) (before ∙ ap (λ (l : List Note). mailbox calendar site held l) (sym taken)),
         subst P (sym left) (record { rest = rest; whole = is }),
       )
 
   torn_later : (u w : Option (List ℕ)) (copies : List Note) (n settled : ℕ) → n ≤ length copies
-      → IfSome u (λ held. IfSome w (λ bytes. IsTornAt calendar host held copies n settled bytes))
-      → IfSome u (λ held. IfSome w (λ bytes. IsTornAt calendar host held (copies ++ note ∷ []) n settled bytes))
+      → IfSome u (λ held. IfSome w (λ bytes. IsTornAt calendar site held copies n settled bytes))
+      → IfSome u (λ held. IfSome w (λ bytes. IsTornAt calendar site held (copies ++ note ∷ []) n settled bytes))
   torn_later None w copies n settled within h = tt
   torn_later (Some held) None copies n settled within h = tt
   torn_later (Some held) (Some bytes) copies n settled within h = torn_at_more held copies n settled bytes within h
 
   covered_later : (u : Option (List ℕ)) (copies : List Note) (n synced now : ℕ) → n ≤ length copies → now ≡ synced
-      → IfSome u (λ held. synced ≡ length (mailbox calendar host held (take n copies)))
-      → IfSome u (λ held. now ≡ length (mailbox calendar host held (take n (copies ++ note ∷ []))))
+      → IfSome u (λ held. synced ≡ length (mailbox calendar site held (take n copies)))
+      → IfSome u (λ held. now ≡ length (mailbox calendar site held (take n (copies ++ note ∷ []))))
   covered_later None copies n synced now within e h = tt
   covered_later (Some held) copies n synced now within e h =
-      e ∙ h ∙ ap (λ (l : List Note). length (mailbox calendar host held l)) (sym (take-append-le n copies (note ∷ []) within))
+      e ∙ h ∙ ap (λ (l : List Note). length (mailbox calendar site held l)) (sym (take-append-le n copies (note ∷ []) within))
 
   module _ (old s t : SpoolState) (copies : List Note) (n over : ℕ) where
     -- the copy is stored
-    pub stored_more : HasStored calendar host copies old (mailbox_of s n over false) → HasKept s t text
-        → HasStored calendar host (copies ++ note ∷ []) old (mailbox_of t (n + 1) over false)
+    pub stored_more : HasStored calendar site copies old (mailbox_of s n over false) → HasKept s t text
+        → HasStored calendar site (copies ++ note ∷ []) old (mailbox_of t (n + 1) over false)
     stored_more x y =
         let all : n ≡ length copies = x.all refl in
         let now : n + 1 ≡ length (copies ++ note ∷ []) = omega (arith, one_more copies note) in
@@ -119,8 +120,8 @@ module _ (calendar : Calendar) (host : List ℕ) (note : Note) where
         }
 
     -- the spool failed at the copy
-    pub stored_not : HasStored calendar host copies old (mailbox_of s n over false) → HasNotKept s t text
-        → HasStored calendar host (copies ++ note ∷ []) old (mailbox_of t n over true)
+    pub stored_not : HasStored calendar site copies old (mailbox_of s n over false) → HasNotKept s t text
+        → HasStored calendar site (copies ++ note ∷ []) old (mailbox_of t n over true)
     stored_not x y =
         let all : n ≡ length copies = x.all refl in
         let more = one_more copies note in
@@ -139,12 +140,12 @@ module _ (calendar : Calendar) (host : List ℕ) (note : Note) where
         }
 
     -- the spool had failed before
-    pub stored_later : HasStored calendar host copies old (mailbox_of s n over true) → t ≡ s
-        → HasStored calendar host (copies ++ note ∷ []) old (mailbox_of t n over true)
+    pub stored_later : HasStored calendar site copies old (mailbox_of s n over true) → t ≡ s
+        → HasStored calendar site (copies ++ note ∷ []) old (mailbox_of t n over true)
     stored_later x same =
         let more = one_more copies note in
         let within : n ≤ length copies = x.within in
-        let P : SpoolState → Type 0 = λ u. HasStored calendar host (copies ++ note ∷ []) old (mailbox_of u n over true) in
+        let P : SpoolState → Type 0 = λ u. HasStored calendar site (copies ++ note ∷ []) old (mailbox_of u n over true) in
         subst P (sym same) (record {
           within = omega arith;
           all = λ e. absurd (true≢false e);
@@ -160,8 +161,8 @@ module _ (calendar : Calendar) (host : List ℕ) (note : Note) where
         })
 
     -- a copy over the quota leaves the spool alone
-    pub stored_over : (more : ℕ) → HasStored calendar host copies old (mailbox_of s n over false)
-        → HasStored calendar host copies old (mailbox_of s n more false)
+    pub stored_over : (more : ℕ) → HasStored calendar site copies old (mailbox_of s n over false)
+        → HasStored calendar site copies old (mailbox_of s n more false)
     stored_over more x = record {
       within = x.within;
       all = x.all;

@@ -30,10 +30,10 @@ use Rattle.box_worker.proofs.Counting.{starts_at, let_in, kept_out}
 
 -- one more copy
 pub turned_more : (at : Setting) (notes : List Note) (outcomes : List Outcome) (note : Note) (outcome : Outcome) (old now new : SharedMailbox)
-    → HaveTurned at notes outcomes old now → TakesTurn at.quota (record_of at.calendar at.host note) outcome now new
+    → HaveTurned at notes outcomes old now → TakesTurn at.quota (record_of at.calendar at.site note) outcome now new
     → HaveTurned at (notes ++ note ∷ []) (outcomes ++ outcome ∷ []) old new
 turned_more at [] [] note outcome old now new h t =
-    (new, (let P : SharedMailbox → Type 0 = λ m. TakesTurn at.quota (record_of at.calendar at.host note) outcome m new in subst P h t), refl)
+    (new, (let P : SharedMailbox → Type 0 = λ m. TakesTurn at.quota (record_of at.calendar at.site note) outcome m new in subst P h t), refl)
 turned_more at [] (o ∷ os) note outcome old now new h t = absurd h
 turned_more at (x ∷ xs) [] note outcome old now new h t = absurd h
 turned_more at (x ∷ xs) (o ∷ os) note outcome old now new h t = (h.0, h.1, turned_more at xs os note outcome h.0 now new h.2 t)
@@ -127,7 +127,7 @@ room_of (Some quota) locked held size fit e m =
 record IsToldOnce (at : Setting) (note : Note) (outcome : Outcome) (old new : SharedMailbox) : Type 0 where
   turn : Turn
   added : new.state.sharing.turns ≡ old.state.sharing.turns ++ turn ∷ []
-  is : IsTurn at.calendar at.host at.quota note outcome turn
+  is : IsTurn at.calendar at.site at.quota note outcome turn
   broke : breaks outcome turn ≡ new.faulty
   missed : new.in_use ≡ counted (old.in_use + count_by is_not_had (turn ∷ []))
   left : List ℕ
@@ -139,7 +139,7 @@ no_failure s t none same some = absurd (true≢false (sym some ∙ same ∙ none
 module _ (at : Setting) (note : Note) (old new : SharedMailbox) (held : List ℕ) (is_old : old.state.bytes ≡ Some held)
     (most : counted old.in_use ≡ old.in_use) where
   abbrev text : List ℕ
-  text = record_of at.calendar at.host note
+  text = record_of at.calendar at.site note
 
   stays_counted : new.in_use ≡ old.in_use → new.in_use ≡ counted (old.in_use + 0)
   stays_counted e = let z : counted old.in_use ≡ counted (old.in_use + 0) = omega arith in e ∙ sym most ∙ z
@@ -287,7 +287,7 @@ tells_next at note notes outcome outcomes old between new one h goes true e =
     let rest = given_up at notes outcomes between new e h in
     let none : List Turn = [] in
     let A : Type 0 = (new.faulty ≡ true) × (none ≡ []) × AllFailed notes outcomes in
-    let B : Type 0 = AreTurns at.calendar at.host at.quota notes outcomes [] new.faulty in
+    let B : Type 0 = AreTurns at.calendar at.site at.quota notes outcomes [] new.faulty in
     let P : Bool → Type 0 = λ b. MatchBool b A B in
     let last : A = (ap (λ (m : SharedMailbox). m.faulty) rest.1 ∙ e, refl, rest.0) in
     record {
@@ -299,7 +299,7 @@ tells_next at note notes outcome outcomes old between new one h goes true e =
 tells_next at note notes outcome outcomes old between new one h goes false e =
     let rest = goes e in
     let A : Type 0 = (new.faulty ≡ true) × (rest.turns ≡ []) × AllFailed notes outcomes in
-    let B : Type 0 = AreTurns at.calendar at.host at.quota notes outcomes rest.turns new.faulty in
+    let B : Type 0 = AreTurns at.calendar at.site at.quota notes outcomes rest.turns new.faulty in
     let P : Bool → Type 0 = λ b. MatchBool b A B in
     record {
       turns = one.turn ∷ rest.turns;

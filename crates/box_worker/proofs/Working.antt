@@ -118,9 +118,9 @@ pub working_more : (at : Setting) (copies : List Note) (before was inbox : Inbox
     → IsWorking at copies before was old now limit → IsTimed (clock_of now.slips was) was inbox → (outcome : Outcome) (after : CountedMailbox)
     → CountsOutcome outcome now.mailbox after.mailbox
     → after.mailbox.state.sharing.is_shared ≡ now.mailbox.state.sharing.is_shared
-    → (now.mailbox.state.sharing.is_shared ≡ false → TakesCopy (record_of at.calendar at.host note) outcome (counted_of now limit) after)
+    → (now.mailbox.state.sharing.is_shared ≡ false → TakesCopy (record_of at.calendar at.site note) outcome (counted_of now limit) after)
     → (now.mailbox.state.sharing.is_shared ≡ false → after.in_use ≡ now.in_use)
-    → (now.mailbox.state.sharing.is_shared ≡ true → TurnsCopy (record_of at.calendar at.host note) outcome (counted_of now limit) after)
+    → (now.mailbox.state.sharing.is_shared ≡ true → TurnsCopy (record_of at.calendar at.site note) outcome (counted_of now limit) after)
     → IsOffered (clock_of now.slips inbox) note.txn.lane (slip_by note.txn note.place outcome) accepted now.slips next
     → IsWorking at (copies ++ note ∷ []) before inbox old
     (record { slips = next; mailbox = after.mailbox; in_use = after.in_use; taken = counted (now.taken + 1); lost = any_gone next }) after.limit
@@ -137,7 +137,7 @@ working_more at copies before was inbox old now limit next note accepted x timed
 
 -- a worker that took nothing
 pub working_none : (at : Setting) (slips : List (Sender Slip)) (inbox : Inbox Note) (old : SpoolState) (new : CountedMailbox)
-    → HaveNumber at.worker slips → (old.sharing.is_shared ≡ false → HasStored at.calendar at.host [] old new.mailbox)
+    → HaveNumber at.worker slips → (old.sharing.is_shared ≡ false → HasStored at.calendar at.site [] old new.mailbox)
     → (old.sharing.is_shared ≡ false → new.mailbox.faulty ≡ true → HasNotMended old new.mailbox.state)
     → (old.sharing.is_shared ≡ true → new.mailbox ≡ mailbox_of old 0 0 false)
     → (new.mailbox.stored ≡ 0) × (new.mailbox.over ≡ 0) × (new.in_use ≡ 0)

@@ -11,22 +11,23 @@ use Rattle.mbox_record.specs.Spool.{SpoolState, Grows}
 use Rattle.mbox_record.specs.declared.tail.Tail.{Tail}
 use Rattle.mbox_record.specs.Tail.{ending_of}
 use Rattle.box_worker.specs.declared.limit.Limit.{Limit}
+use Rattle.mail_world.specs.Site.{Site}
 
--- what stays while a worker runs: the calendar and the host of its records, the limit of bytes for its mailbox, and its
+-- what stays while a worker runs: the calendar and the site of its records, the limit of bytes for its mailbox, and its
 -- number
 pub record Setting : Type 0 where
   pub calendar : Calendar
-  pub host : List ℕ
+  pub site : Site
   pub quota : Option ℕ
   pub worker : ℕ
 
--- that of a worker of a site with this host
-abbrev pub setting_by : List ℕ → Option ℕ → ℕ → Setting
-setting_by host quota worker = record { calendar = civil_at; host = host; quota = quota; worker = worker }
+-- that of a worker of this site
+abbrev pub setting_by : Site → Option ℕ → ℕ → Setting
+setting_by site quota worker = record { calendar = civil_at; site = site; quota = quota; worker = worker }
 
 -- for each copy whether it is kept, where that many bytes stand before the first record
 abbrev pub marks_after : Setting → ℕ → List Note → List Bool
-marks_after at start copies = are_kept_after at.calendar at.host at.quota start copies
+marks_after at start copies = are_kept_after at.calendar at.site at.quota start copies
 
 -- the copies that are kept
 abbrev pub kept_after : Setting → ℕ → List Note → List Note

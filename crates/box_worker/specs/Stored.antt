@@ -16,6 +16,7 @@ use Rattle.mbox_record.specs.Spool.{SpoolState, CoversAll, IsFull, FailsTurn}
 use Rattle.mbox_record.specs.Mending.{HasNotMended}
 use Rattle.box_worker.specs.declared.limit.Limit.{Limit}
 use Rattle.box_worker.specs.Limits.{Setting, kept_after, StartsAt, IsLetIn, IsKeptOut}
+use Rattle.mail_world.specs.Site.{Site}
 
 -- the spool took the text, and a sync covers all that it holds
 pub record HasKept (old new : SpoolState) (text : List ℕ) : Type 0 where
@@ -81,16 +82,16 @@ CountsOutcome _ old new = (new.stored ≡ old.stored) × (new.over ≡ old.over)
 
 -- What a spool that held these bytes holds once its worker failed: the first notes' records and a prefix of that of the
 -- next one, which is lost, or, where no copy was settled, a prefix of what mending adds.
-abbrev pub IsTornAt : Calendar → List ℕ → List ℕ → List Note → ℕ → ℕ → List ℕ → Type 0
-IsTornAt calendar host old notes stored settled bytes =
-    ((torn : List ℕ) × (stored < length notes) × (bytes ≡ mailbox calendar host old (take stored notes) ++ torn)
-    × IsTorn calendar host (drop stored notes) torn)
+abbrev pub IsTornAt : Calendar → Site → List ℕ → List Note → ℕ → ℕ → List ℕ → Type 0
+IsTornAt calendar site old notes stored settled bytes =
+    ((torn : List ℕ) × (stored < length notes) × (bytes ≡ mailbox calendar site old (take stored notes) ++ torn)
+    × IsTorn calendar site (drop stored notes) torn)
     ⊎ ((prefix : List ℕ) × (settled ≡ 0) × (bytes ≡ old ++ prefix) × IsPrefix prefix (mended old))
 
 -- A spool took the records of the first of these notes, as many as are stored: of all of them unless it failed, and one
 -- with a limit that failed is full. The last good sync covers them and nothing after them, and where none is stored
 -- there was none.
-pub record HasStored (calendar : Calendar) (host : List ℕ) (notes : List Note) (old : SpoolState)
+pub record HasStored (calendar : Calendar) (site : Site) (notes : List Note) (old : SpoolState)
     (new : MailboxState) : Type 0 where
   pub within : new.stored ≤ length notes
   pub all : new.faulty ≡ false → new.stored ≡ length notes
@@ -98,11 +99,11 @@ pub record HasStored (calendar : Calendar) (host : List ℕ) (notes : List Note)
   pub failed : new.faulty ≡ true → Rises old.failures new.state.failures
   pub limited : new.state.limit ≡ old.limit
   pub full : new.faulty ≡ true → IsFull new.state.limit new.state.bytes
-  pub whole : new.faulty ≡ false → IfSome old.bytes (λ held. new.state.bytes ≡ Some (mailbox calendar host held notes))
+  pub whole : new.faulty ≡ false → IfSome old.bytes (λ held. new.state.bytes ≡ Some (mailbox calendar site held notes))
   pub torn : new.faulty ≡ true → IfSome old.bytes (λ held. IfSome new.state.bytes
-      (λ bytes. IsTornAt calendar host held notes new.stored (new.stored + new.over) bytes))
+      (λ bytes. IsTornAt calendar site held notes new.stored (new.stored + new.over) bytes))
   pub covered : 0 < new.stored
-      → IfSome old.bytes (λ held. new.state.synced ≡ length (mailbox calendar host held (take new.stored notes)))
+      → IfSome old.bytes (λ held. new.state.synced ≡ length (mailbox calendar site held (take new.stored notes)))
   pub unsynced : new.stored ≡ 0 → new.state.synced ≡ old.synced
   -- no append stands after the last sync
   pub kept : new.faulty ≡ false → 0 < new.stored → new.state.sharing.is_unsynced ≡ false
@@ -127,4 +128,4 @@ pub record HasSettled (at : Setting) (start : ℕ) (copies : List Note) (old : S
   pub stored : new.stored ≡ length (kept_after at start (take (new.stored + new.over) copies))
   pub next : new.faulty ≡ true → HasFailedFirst old new.state (new.stored + new.over)
       ⊎ IsKeptNext at start copies (new.stored + new.over) new.stored
-  pub spool : HasStored at.calendar at.host (kept_after at start copies) old new
+  pub spool : HasStored at.calendar at.site (kept_after at start copies) old new

@@ -122,7 +122,7 @@ CountsInTurn Does old new = (quota : Option ℕ) (start : ℕ) → CountsTo quot
 abbrev pub HaveTurned : Setting → List Note → List Outcome → SharedMailbox → SharedMailbox → Type 0
 HaveTurned at [] [] old new = new ≡ old
 HaveTurned at (note ∷ notes) (outcome ∷ outcomes) old new = (between : SharedMailbox)
-    × TakesTurn at.quota (record_of at.calendar at.host note) outcome old between
+    × TakesTurn at.quota (record_of at.calendar at.site note) outcome old between
     × HaveTurned at notes outcomes between new
 HaveTurned at _ _ old new = ⊥
 
@@ -135,7 +135,7 @@ pub record TellsTurns (at : Setting) (copies : List Note) (outcomes : List Outco
     (old new : SharedMailbox) : Type 0 where
   pub turns : List Turn
   pub added : new.state.sharing.turns ≡ old.state.sharing.turns ++ turns
-  pub are : AreTurns at.calendar at.host at.quota copies outcomes turns new.faulty
+  pub are : AreTurns at.calendar at.site at.quota copies outcomes turns new.faulty
   pub missed : new.in_use ≡ counted (old.in_use + count_by is_not_had turns)
 
 -- What a worker came to at a shared spool.

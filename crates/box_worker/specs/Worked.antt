@@ -55,7 +55,7 @@ outcomes_after at start settled copies = outcomes_settled settled (marks_after a
 
 -- how many bytes stand after the records of these copies, where that many stand before the first
 abbrev pub bytes_after : Setting → ℕ → List Note → ℕ
-bytes_after at start copies = start + length (flat_map (record_of at.calendar at.host) (kept_after at start copies))
+bytes_after at start copies = start + length (flat_map (record_of at.calendar at.site) (kept_after at start copies))
 
 -- Of a private mailbox: the outcomes of these copies, the first that its worker took, are those of what was stored and
 -- of what was over the quota.

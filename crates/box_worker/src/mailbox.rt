@@ -47,7 +47,7 @@ impl<S: Spool> Mailbox<S> {
     /// turns alone.
     pub fn on(spool: S, quota: Option<u64>) -> Mailbox<S>
         ensures mended { (S.state spool).sharing.is_shared ≡ false
-            → (host : List ℕ) → HasStored civil_at host [] (S.state spool) result.mailbox }
+            → (site : Site) → HasStored civil_at site [] (S.state spool) result.mailbox }
         ensures broken { (S.state spool).sharing.is_shared ≡ false → result.mailbox.faulty ≡ true
             → HasNotMended (S.state spool) result.mailbox.state }
         ensures left_alone { (S.state spool).sharing.is_shared ≡ true
@@ -79,27 +79,27 @@ impl<S: Spool> Mailbox<S> {
         &mut self,
         rt: &R,
         depot: &Depot<N>,
-        host: &[u8],
+        site: &Site,
         envelope: &Envelope,
         hold: &mut Hold<N>,
     ) -> Outcome
         ensures tallied { CountsOutcome result self.old.mailbox self.new.mailbox }
         ensures whose { self.new.mailbox.state.sharing.is_shared ≡ self.old.mailbox.state.sharing.is_shared }
         ensures alone { self.old.mailbox.state.sharing.is_shared ≡ false
-            → TakesCopy (record_text civil_at host.now envelope.now hold.old.bytes) result self.old self.new }
+            → TakesCopy (record_text civil_at site.now envelope.now hold.old.bytes) result self.old self.new }
         ensures never_in_use { self.old.mailbox.state.sharing.is_shared ≡ false → self.new.in_use ≡ self.old.in_use }
         ensures shared { self.old.mailbox.state.sharing.is_shared ≡ true
-            → TurnsCopy (record_text civil_at host.now envelope.now hold.old.bytes) result self.old self.new }
+            → TurnsCopy (record_text civil_at site.now envelope.now hold.old.bytes) result self.old self.new }
         ensures hold { hold.new ≡ hold.old }
     {
         if self.faulty {
             return Outcome::Failed;
         }
         match self.spool.lock() {
-            Ok(None) => self.take_alone(rt, depot, host, envelope, hold),
+            Ok(None) => self.take_alone(rt, depot, site, envelope, hold),
             Ok(Some(held)) => {
                 self.measure(held);
-                self.take_in_turn(rt, depot, host, envelope, hold)
+                self.take_in_turn(rt, depot, site, envelope, hold)
             }
             Err(_) => {
                 self.in_use = self.in_use.saturating_add(1);
@@ -113,18 +113,18 @@ impl<S: Spool> Mailbox<S> {
         &mut self,
         rt: &R,
         depot: &Depot<N>,
-        host: &[u8],
+        site: &Site,
         envelope: &Envelope,
         hold: &mut Hold<N>,
     ) -> Outcome
         requires private { self.old.mailbox.state.sharing.is_shared ≡ false }
         requires sound { self.old.mailbox.faulty ≡ false }
         ensures tallied { CountsOutcome result self.old.mailbox self.new.mailbox }
-        ensures takes { TakesCopy (record_text civil_at host.now envelope.now hold.old.bytes) result self.old self.new }
+        ensures takes { TakesCopy (record_text civil_at site.now envelope.now hold.old.bytes) result self.old self.new }
         ensures in_use { self.new.in_use ≡ self.old.in_use }
         ensures hold { hold.new ≡ hold.old }
     {
-        let outcome = self.settle(rt, depot, host, envelope, hold);
+        let outcome = self.settle(rt, depot, site, envelope, hold);
         self.spool.unlock();
         outcome
     }
@@ -134,20 +134,20 @@ impl<S: Spool> Mailbox<S> {
         &mut self,
         rt: &R,
         depot: &Depot<N>,
-        host: &[u8],
+        site: &Site,
         envelope: &Envelope,
         hold: &mut Hold<N>,
     ) -> Outcome
         requires sound { self.old.mailbox.faulty ≡ false }
         ensures tallied { CountsOutcome result self.old.mailbox self.new.mailbox }
-        ensures takes { TakesCopy (record_text civil_at host.now envelope.now hold.old.bytes) result self.old self.new }
+        ensures takes { TakesCopy (record_text civil_at site.now envelope.now hold.old.bytes) result self.old self.new }
         ensures in_use { self.new.in_use ≡ self.old.in_use }
         ensures hold { hold.new ≡ hold.old }
     {
-        if !self.lets_in(rt, depot, host, envelope, hold) {
+        if !self.lets_in(rt, depot, site, envelope, hold) {
             return self.refuse();
         }
-        let kept = store(rt, &mut self.spool, depot, host, envelope, hold);
+        let kept = store(rt, &mut self.spool, depot, site, envelope, hold);
         self.count(kept)
     }
 
@@ -199,7 +199,7 @@ impl<S: Spool> Mailbox<S> {
         &mut self,
         rt: &R,
         depot: &Depot<N>,
-        host: &[u8],
+        site: &Site,
         envelope: &Envelope,
         hold: &mut Hold<N>,
     ) -> Outcome
@@ -208,12 +208,12 @@ impl<S: Spool> Mailbox<S> {
         ensures tallied { CountsOutcome result self.old.mailbox self.new.mailbox }
         ensures whose { self.new.mailbox.state.sharing.is_shared ≡ self.old.mailbox.state.sharing.is_shared }
         ensures ends { CountsInTurn (λ quota.
-            EndsInTurn quota (record_text civil_at host.now envelope.now hold.old.bytes) result
+            EndsInTurn quota (record_text civil_at site.now envelope.now hold.old.bytes) result
             self.old.mailbox self.new.mailbox) self.old self.new }
         ensures in_use { self.new.in_use ≡ self.old.in_use }
         ensures hold { hold.new ≡ hold.old }
     {
-        let taken = self.settle_in_turn(rt, depot, host, envelope, hold);
+        let taken = self.settle_in_turn(rt, depot, site, envelope, hold);
         self.spool.unlock();
         taken
     }
@@ -222,7 +222,7 @@ impl<S: Spool> Mailbox<S> {
         &mut self,
         rt: &R,
         depot: &Depot<N>,
-        host: &[u8],
+        site: &Site,
         envelope: &Envelope,
         hold: &mut Hold<N>,
     ) -> Outcome
@@ -231,16 +231,16 @@ impl<S: Spool> Mailbox<S> {
         ensures turn { (self.new.mailbox.state.sharing.is_shared ≡ self.old.mailbox.state.sharing.is_shared)
             × (self.new.mailbox.state.sharing.in_turn ≡ self.old.mailbox.state.sharing.in_turn) }
         ensures does { CountsInTurn (λ quota.
-            DoesInTurn quota (record_text civil_at host.now envelope.now hold.old.bytes) result
+            DoesInTurn quota (record_text civil_at site.now envelope.now hold.old.bytes) result
             self.old.mailbox self.new.mailbox) self.old self.new }
         ensures in_use { self.new.in_use ≡ self.old.in_use }
         ensures hold { hold.new ≡ hold.old }
     {
-        let fits = self.lets_in(rt, depot, host, envelope, hold);
+        let fits = self.lets_in(rt, depot, site, envelope, hold);
         if !fits {
             return self.refuse();
         }
-        let kept = mend_and_store(rt, &mut self.spool, depot, host, envelope, hold);
+        let kept = mend_and_store(rt, &mut self.spool, depot, site, envelope, hold);
         self.count(kept)
     }
 
@@ -249,18 +249,18 @@ impl<S: Spool> Mailbox<S> {
         &mut self,
         rt: &R,
         depot: &Depot<N>,
-        host: &[u8],
+        site: &Site,
         envelope: &Envelope,
         hold: &mut Hold<N>,
     ) -> bool
-        ensures measured { IsMeasured (length (record_text civil_at host.now envelope.now hold.old.bytes)) result
+        ensures measured { IsMeasured (length (record_text civil_at site.now envelope.now hold.old.bytes)) result
             self.old self.new }
         ensures hold { hold.new ≡ hold.old }
     {
         let Some(limit) = self.limit else {
             return true;
         };
-        let size = record_size(rt, depot, host, envelope, hold);
+        let size = record_size(rt, depot, site, envelope, hold);
         match limit.admit(size) {
             Some(next) => {
                 self.limit = Some(next);

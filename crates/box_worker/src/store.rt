@@ -19,17 +19,17 @@ pub(crate) fn store<N: DepotName, S: Spool, R: Wait>(
     rt: &R,
     spool: &mut S,
     depot: &Depot<N>,
-    host: &[u8],
+    site: &Site,
     envelope: &Envelope,
     hold: &mut Hold<N>,
 ) -> Result<(), SpoolFault>
     ensures ok { OnOk result (HasKept (S.state spool.old) (S.state spool.new)
-        (record_text civil_at host.now envelope.now hold.old.bytes)) }
+        (record_text civil_at site.now envelope.now hold.old.bytes)) }
     ensures err { OnErr result (HasNotKept (S.state spool.old) (S.state spool.new)
-        (record_text civil_at host.now envelope.now hold.old.bytes)) }
+        (record_text civil_at site.now envelope.now hold.old.bytes)) }
     ensures hold { hold.new ≡ hold.old }
 {
-    append_record(rt, spool, depot, host, envelope, hold)?;
+    append_record(rt, spool, depot, site, envelope, hold)?;
     spool.sync()
 }
 
@@ -39,18 +39,18 @@ pub(crate) fn mend_and_store<N: DepotName, S: Spool, R: Wait>(
     rt: &R,
     spool: &mut S,
     depot: &Depot<N>,
-    host: &[u8],
+    site: &Site,
     envelope: &Envelope,
     hold: &mut Hold<N>,
 ) -> Result<(), SpoolFault>
     ensures ok { OnOk result (HasKeptMended (S.state spool.old) (S.state spool.new)
-        (record_text civil_at host.now envelope.now hold.old.bytes)) }
+        (record_text civil_at site.now envelope.now hold.old.bytes)) }
     ensures err { OnErr result (HasNotKeptMended (S.state spool.old) (S.state spool.new)
-        (record_text civil_at host.now envelope.now hold.old.bytes)) }
+        (record_text civil_at site.now envelope.now hold.old.bytes)) }
     ensures hold { hold.new ≡ hold.old }
 {
     mend(spool)?;
-    store(rt, spool, depot, host, envelope, hold)
+    store(rt, spool, depot, site, envelope, hold)
 }
 
 /// How many bytes the record of the held message has, unless they are 2^64 or more. The head and the text are counted
@@ -58,16 +58,16 @@ pub(crate) fn mend_and_store<N: DepotName, S: Spool, R: Wait>(
 pub(crate) fn record_size<N: DepotName, R: Wait>(
     rt: &R,
     depot: &Depot<N>,
-    host: &[u8],
+    site: &Site,
     envelope: &Envelope,
     hold: &mut Hold<N>,
 ) -> Option<u64>
-    ensures size { let size = length (record_text civil_at host.now envelope.now hold.old.bytes) in
+    ensures size { let size = length (record_text civil_at site.now envelope.now hold.old.bytes) in
         SomeIff result (size < 2 ^ 64) size }
     ensures hold { hold.new ≡ hold.old }
 {
     let (mut head, mut text) = (CountSpool::new(), CountSpool::new());
-    let Ok(begun) = RecordWriter::begin(&mut head, host, envelope) else {
+    let Ok(begun) = RecordWriter::begin(&mut head, site, envelope) else {
         unreachable!()
     };
     let Ok(()) = append_text(rt, &mut text, depot, hold, begun) else {
@@ -81,17 +81,17 @@ fn append_record<N: DepotName, S: Spool, R: Wait>(
     rt: &R,
     spool: &mut S,
     depot: &Depot<N>,
-    host: &[u8],
+    site: &Site,
     envelope: &Envelope,
     hold: &mut Hold<N>,
 ) -> Result<(), SpoolFault>
     ensures ok { OnOk result (SpoolTook (S.state spool.old) (S.state spool.new)
-        (record_text civil_at host.now envelope.now hold.old.bytes)) }
+        (record_text civil_at site.now envelope.now hold.old.bytes)) }
     ensures err { OnErr result (SpoolFailed (S.state spool.old) (S.state spool.new)
-        (record_text civil_at host.now envelope.now hold.old.bytes)) }
+        (record_text civil_at site.now envelope.now hold.old.bytes)) }
     ensures hold { hold.new ≡ hold.old }
 {
-    let begun = RecordWriter::begin(spool, host, envelope)?;
+    let begun = RecordWriter::begin(spool, site, envelope)?;
     append_text(rt, spool, depot, hold, begun)
 }
 

@@ -31,13 +31,13 @@ pub fn worker_run<N: DepotName, S: Spool, G: Gate, R: Wait>(
     spool: S,
     depot: &Depot<N>,
     gate: G,
-    host: &[u8],
+    site: &Site,
     quota: Option<u64>,
 ) -> WorkerReport<N, S, G>
     requires fresh { taken receiver ≡ [] }
     requires lanes { length slips.items ≡ receiver.lanes }
     requires worker { HaveNumber (worker_of slips.items) slips.items }
-    ensures { HasWorked (setting_by host.now quota (worker_of slips.items)) receiver result.receiver
+    ensures { HasWorked (setting_by site.now quota (worker_of slips.items)) receiver result.receiver
         (idle slips.items (S.state spool)) result.worker }
 {
     let mut receiver = receiver;
@@ -49,7 +49,7 @@ pub fn worker_run<N: DepotName, S: Spool, G: Gate, R: Wait>(
     };
     for _ in rt.forever() {
         match worker.take_next::<Brand, N, R>(rt, &mut receiver) {
-            Ok(post) => worker.handle(rt, depot, host, post, &receiver),
+            Ok(post) => worker.handle(rt, depot, site, post, &receiver),
             Err(Gone::Closed) => return worker.report(receiver, false),
             Err(Gone::Lost) => return worker.report(receiver, true),
         }
@@ -91,16 +91,16 @@ impl<S: Spool, G: Gate> Worker<S, G> {
         &mut self,
         rt: &R,
         depot: &Depot<N>,
-        host: &[u8],
+        site: &Site,
         post: Post<N>,
         receiver: &Receiver<N>,
     )
         requires lane { post.txn.lane < length self.old.slips }
         ensures { (quota : Option ℕ) (worker : ℕ) (copies : List Note) (old : WorkerState) (before was : Inbox Note)
             → IsTimed (clock_of self.old.slips was) was receiver.now
-            → IsWorking (setting_by host.now quota worker) copies before was old
+            → IsWorking (setting_by site.now quota worker) copies before was old
             (worker_state self.old) self.old.mailbox.limit
-            → IsWorking (setting_by host.now quota worker) (copies ++ post ∷ []) before receiver.now old
+            → IsWorking (setting_by site.now quota worker) (copies ++ post ∷ []) before receiver.now old
             (worker_state self.new) self.new.mailbox.limit }
     {
         let Parts {
@@ -111,7 +111,7 @@ impl<S: Spool, G: Gate> Worker<S, G> {
             mut hold,
         } = post.parts();
         self.gate.before(txn, place);
-        let outcome = self.mailbox.take(rt, depot, host, &envelope, &mut hold);
+        let outcome = self.mailbox.take(rt, depot, site, &envelope, &mut hold);
         let released = release(rt, depot, txn, place, hold);
         self.gate.after(txn, place);
         self.slips

@@ -19,11 +19,11 @@ spooled bytes faulty = record { bytes = bytes; faulty = faulty }
 
 module _ (s : Server) where
   abbrev text : Note → List ℕ
-  text note = record_of s.calendar s.host note
+  text note = record_of s.calendar s.site note
 
   -- the marks of copies, before the first of which that many bytes stand, and the copies that are kept
   abbrev pub marks : ℕ → List Note → List Bool
-  marks len notes = are_kept_after s.calendar s.host s.quota len notes
+  marks len notes = are_kept_after s.calendar s.site s.quota len notes
 
   abbrev pub keeps : ℕ → List Note → List Note
   keeps len notes = marked (marks len notes) notes
@@ -66,13 +66,13 @@ module _ (s : Server) where
   abbrev TornAt : ℕ → List Note → Type 0
   TornAt n notes = (len : ℕ) (bytes : List ℕ) (stored : ℕ) (torn : List ℕ) → len ≡ length bytes
       → stored ≡ length (keeps len (take n notes)) → length (keeps len (take (suc n) notes)) ≡ stored + 1
-      → IsTorn s.calendar s.host (drop stored (keeps len notes)) torn
+      → IsTorn s.calendar s.site (drop stored (keeps len notes)) torn
       → TakesAll s notes (outcomes_settled n (marks len notes)) (spooled bytes false)
       (spooled (bytes ++ (flat_map text (take stored (keeps len notes)) ++ torn)) true)
 
   torn_first : (t : Bool) (note : Note) (notes : List Note) (len : ℕ) (bytes : List ℕ) (stored : ℕ) (torn : List ℕ) → len ≡ length bytes
       → fits s.quota (length bytes) (length (text note)) ≡ t → stored ≡ 0 → length (marked (t ∷ []) (note ∷ [])) ≡ stored + 1
-      → IsTorn s.calendar s.host (drop stored (marked (t ∷ marks (next_len t len note) notes) (note ∷ notes))) torn
+      → IsTorn s.calendar s.site (drop stored (marked (t ∷ marks (next_len t len note) notes) (note ∷ notes))) torn
       → TakesAll s (note ∷ notes) (outcomes_settled zero (t ∷ marks (next_len t len note) notes)) (spooled bytes false)
       (spooled (bytes ++ (flat_map text (take stored (marked (t ∷ marks (next_len t len note) notes) (note ∷ notes))) ++ torn)) true)
   torn_first true note notes len bytes zero torn e fit none one tears =
@@ -89,7 +89,7 @@ module _ (s : Server) where
       → fits s.quota (length bytes) (length (text note)) ≡ t
       → stored ≡ length (marked (t ∷ marks (next_len t len note) (take n notes)) (note ∷ take n notes))
       → length (marked (t ∷ marks (next_len t len note) (take (suc n) notes)) (note ∷ take (suc n) notes)) ≡ stored + 1
-      → IsTorn s.calendar s.host (drop stored (marked (t ∷ marks (next_len t len note) notes) (note ∷ notes))) torn
+      → IsTorn s.calendar s.site (drop stored (marked (t ∷ marks (next_len t len note) notes) (note ∷ notes))) torn
       → (between : Spooled) × TakesOne s note (if t then Stored else OverQuota) (spooled bytes false) between
       × TakesAll s notes (outcomes_settled n (marks (next_len t len note) notes)) between
       (spooled (bytes ++ (flat_map text (take stored (marked (t ∷ marks (next_len t len note) notes) (note ∷ notes))) ++ torn)) true)
@@ -117,7 +117,7 @@ module _ (s : Server) where
       torn_next (fits s.quota len size) n note notes (torn_at n notes) len bytes stored torn e (ap (λ l. fits s.quota l size) (sym e)) was one tears
 
   -- nothing of a record is a prefix of it
-  pub torn_none : (notes : List Note) → IsTorn s.calendar s.host notes []
+  pub torn_none : (notes : List Note) → IsTorn s.calendar s.site notes []
   torn_none [] = refl
   torn_none (note ∷ notes) = record { rest = text note; whole = refl }
 
@@ -146,7 +146,7 @@ module _ (s : Server) where
 
     -- all copies are settled
     pub ends_whole : (n : ℕ) → length copies ≤ n → outcomes ≡ outcomes_settled n (marks before_all copies)
-        → CourseTo (mailbox s.calendar s.host held (keeps before_all copies)) false
+        → CourseTo (mailbox s.calendar s.site held (keeps before_all copies)) false
     ends_whole n all told =
         let first : Spooled = spooled (held ++ mended held) false in
         let T : List Outcome → List ℕ → Type 0 = λ os l. TakesAll s copies os first (spooled l false) in
@@ -160,15 +160,15 @@ module _ (s : Server) where
     -- the spool failed at the record of the nth
     pub ends_torn : (n stored : ℕ) (torn : List ℕ) → stored ≡ length (keeps before_all (take n copies))
         → length (keeps before_all (take (n + 1) copies)) ≡ stored + 1
-        → IsTorn s.calendar s.host (drop stored (keeps before_all copies)) torn → outcomes ≡ outcomes_settled n (marks before_all copies)
-        → CourseTo (mailbox s.calendar s.host held (take stored (keeps before_all copies)) ++ torn) true
+        → IsTorn s.calendar s.site (drop stored (keeps before_all copies)) torn → outcomes ≡ outcomes_settled n (marks before_all copies)
+        → CourseTo (mailbox s.calendar s.site held (take stored (keeps before_all copies)) ++ torn) true
     ends_torn n stored torn was one tears told =
         let first : Spooled = spooled (held ++ mended held) false in
         let T : List Outcome → List ℕ → Type 0 = λ os l. TakesAll s copies os first (spooled l true) in
         let some : List ℕ = flat_map text (take stored (keeps before_all copies)) in
         let more : n + 1 ≡ suc n = omega arith in
         let next : length (keeps before_all (take (suc n) copies)) ≡ stored + 1 = ap (λ k. length (keeps before_all (take k copies))) (sym more) ∙ one in
-        let same : (held ++ mended held) ++ (some ++ torn) ≡ mailbox s.calendar s.host held (take stored (keeps before_all copies)) ++ torn =
+        let same : (held ++ mended held) ++ (some ++ torn) ≡ mailbox s.calendar s.site held (take stored (keeps before_all copies)) ++ torn =
         sym (append_assoc (held ++ mended held) some torn) in
         record {
           first = first;

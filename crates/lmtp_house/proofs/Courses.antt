@@ -22,18 +22,19 @@ use Rattle.lmtp_threads.specs.declared.tally.Tally.{Tally}
 use Rattle.lmtp_house.specs.RunOfModel.{IsToldAlone, IsModelled, IsCourseOf}
 use Rattle.lmtp_house.proofs.Copying.{marks, keeps, before_all, CourseTo, faulty_first, ends_whole, ends_torn, torn_none}
 use Rattle.lmtp_house.proofs.Turns.{turns_to}
+use Rattle.mail_world.specs.Site.{Site}
 
-module _ (calendar : Calendar) (host : List ℕ) where
+module _ (calendar : Calendar) (site : Site) where
   -- without a quota it makes no difference how many bytes stand before
-  pub unlimited : (a b : ℕ) (notes : List Note) → are_kept_after calendar host None a notes ≡ are_kept_after calendar host None b notes
+  pub unlimited : (a b : ℕ) (notes : List Note) → are_kept_after calendar site None a notes ≡ are_kept_after calendar site None b notes
   unlimited a b [] = refl
-  unlimited a b (x ∷ notes) = let size = length (record_of calendar host x) in ap (λ l. true ∷ l) (unlimited (a + size) (b + size) notes)
+  unlimited a b (x ∷ notes) = let size = length (record_of calendar site x) in ap (λ l. true ∷ l) (unlimited (a + size) (b + size) notes)
 
   -- and with one the same bytes
   pub same_start : (quota : Option ℕ) (start len : ℕ) (notes : List Note) → IfSome quota (λ _. start ≡ len)
-      → are_kept_after calendar host quota start notes ≡ are_kept_after calendar host quota len notes
+      → are_kept_after calendar site quota start notes ≡ are_kept_after calendar site quota len notes
   same_start None start len notes same = unlimited start len notes
-  same_start (Some quota) start len notes same = ap (λ n. are_kept_after calendar host (Some quota) n notes) same
+  same_start (Some quota) start len notes same = ap (λ n. are_kept_after calendar site (Some quota) n notes) same
 
 -- a spool that tells what it held has told how many bytes stand before the first record
 starts_known : (quota : Option ℕ) (old : SpoolState) (start : ℕ) (held : List ℕ) → old.bytes ≡ Some held → IfSome quota (λ _. StartsAt old start)
@@ -45,7 +46,7 @@ starts_known (Some quota) old start held e starts =
 
 module _ (at : Setting) (lanes boxes : ℕ) where
   abbrev pub server : Server
-  server = record { calendar = at.calendar; host = at.host; quota = at.quota; lanes = lanes; boxes = boxes }
+  server = record { calendar = at.calendar; site = at.site; quota = at.quota; lanes = lanes; boxes = boxes }
 
   -- a private mailbox whose worker settled some of these copies
   module _ (held : List ℕ) (copies : List Note) (outcomes : List Outcome) (old new : SpoolState) (start stored over : ℕ)
@@ -63,7 +64,7 @@ module _ (at : Setting) (lanes boxes : ℕ) where
     kept = keeps server len copies
 
     same_marks : (notes : List Note) → marks_after at start notes ≡ marks server len notes
-    same_marks notes = same_start at.calendar at.host at.quota start len notes known
+    same_marks notes = same_start at.calendar at.site at.quota start len notes known
 
     same_kept : (notes : List Note) → kept_after at start notes ≡ keeps server len notes
     same_kept notes = ap (λ ms. marked ms notes) (same_marks notes)
@@ -72,20 +73,20 @@ module _ (at : Setting) (lanes boxes : ℕ) where
     outcomes_are = told ∙ ap (outcomes_settled (stored + over)) (same_marks copies)
 
     -- all are settled
-    whole : Settled false → To (mailbox at.calendar at.host held kept) false
+    whole : Settled false → To (mailbox at.calendar at.site held kept) false
     whole h = let all = h.all refl in ends_whole server held copies outcomes (stored + over) (omega (arith, all)) outcomes_are
 
-    whole_told : Settled false → old.bytes ≡ Some held → IfSome new.bytes (λ bytes. mailbox at.calendar at.host held kept ≡ bytes)
+    whole_told : Settled false → old.bytes ≡ Some held → IfSome new.bytes (λ bytes. mailbox at.calendar at.site held kept ≡ bytes)
     whole_told h e =
-        let P : Option (List ℕ) → Type 0 = λ o. IfSome o (λ l. new.bytes ≡ Some (mailbox at.calendar at.host l (kept_after at start copies))) in
-        let now : new.bytes ≡ Some (mailbox at.calendar at.host held (kept_after at start copies)) = subst P e (h.spool.whole refl) in
-        let Q : Option (List ℕ) → Type 0 = λ o. IfSome o (λ bytes. mailbox at.calendar at.host held kept ≡ bytes) in
-        subst Q (sym now) (ap (mailbox at.calendar at.host held) (sym (same_kept copies)))
+        let P : Option (List ℕ) → Type 0 = λ o. IfSome o (λ l. new.bytes ≡ Some (mailbox at.calendar at.site l (kept_after at start copies))) in
+        let now : new.bytes ≡ Some (mailbox at.calendar at.site held (kept_after at start copies)) = subst P e (h.spool.whole refl) in
+        let Q : Option (List ℕ) → Type 0 = λ o. IfSome o (λ bytes. mailbox at.calendar at.site held kept ≡ bytes) in
+        subst Q (sym now) (ap (mailbox at.calendar at.site held) (sym (same_kept copies)))
 
     -- the spool failed at the record of the copy after those that are settled, of which these bytes are there
     torn_to : Settled true → (torn : List ℕ) → length (kept_after at start (take (stored + over + 1) copies)) ≡ stored + 1
-        → IsTorn at.calendar at.host (drop stored kept) torn
-        → To (mailbox at.calendar at.host held (take stored kept) ++ torn) true
+        → IsTorn at.calendar at.site (drop stored kept) torn
+        → To (mailbox at.calendar at.site held (take stored kept) ++ torn) true
     torn_to h torn one tears =
         let n : ℕ = stored + over in
         let was : stored ≡ length (keeps server len (take n copies)) = h.stored ∙ ap length (same_kept (take n copies)) in
@@ -100,7 +101,7 @@ module _ (at : Setting) (lanes boxes : ℕ) where
     untold : Settled true → (bytes : List ℕ) × To bytes true
     untold h = elim (h.next refl) [
       | inl none ↦ (held ++ [], first_to [] (record { rest = mended held; whole = refl }) none.0)
-      | inr one ↦ (mailbox at.calendar at.host held (take stored kept) ++ [], torn_to h [] one.1 (torn_none server (drop stored kept)))
+      | inr one ↦ (mailbox at.calendar at.site held (take stored kept) ++ [], torn_to h [] one.1 (torn_none server (drop stored kept)))
     ]
 
     -- or tells it
@@ -116,15 +117,15 @@ module _ (at : Setting) (lanes boxes : ℕ) where
           subst P (sym now) (first_to broken.prefix (record { rest = broken.rest; whole = sym mends ∙ broken.whole }) none.0)
           )
       | inr one ↦ (
-          let T : List ℕ → List ℕ → Type 0 = λ l b. IsTornAt at.calendar at.host l (kept_after at start copies) stored (stored + over) b in
+          let T : List ℕ → List ℕ → Type 0 = λ l b. IsTornAt at.calendar at.site l (kept_after at start copies) stored (stored + over) b in
           let P : List ℕ → Type 0 = λ l. To l true in
           let A : Option (List ℕ) → Option (List ℕ) → Type 0 = λ o p. IfSome o (λ l. IfSome p (T l)) in
           let torn : T held bytes = subst (A (Some held)) f (subst (λ o. A o new.bytes) e (h.spool.torn refl)) in
           elim torn [
             | inl some ↦ (
-                let now : bytes ≡ mailbox at.calendar at.host held (take stored kept) ++ some.0 =
-                some.2 ∙ ap (λ l. mailbox at.calendar at.host held (take stored l) ++ some.0) (same_kept copies) in
-                let Q : List Note → Type 0 = λ l. IsTorn at.calendar at.host (drop stored l) some.0 in
+                let now : bytes ≡ mailbox at.calendar at.site held (take stored kept) ++ some.0 =
+                some.2 ∙ ap (λ l. mailbox at.calendar at.site held (take stored l) ++ some.0) (same_kept copies) in
+                let Q : List Note → Type 0 = λ l. IsTorn at.calendar at.site (drop stored l) some.0 in
                 subst P (sym now) (torn_to h some.0 one.1 (subst Q (same_kept copies) some.3))
                 )
             | inr none ↦ subst P (sym none.2) (first_to none.0 none.3 none.1)
@@ -134,7 +135,7 @@ module _ (at : Setting) (lanes boxes : ℕ) where
 
     -- in each case
     pub comes_untold : (faulty : Bool) → Settled faulty → (bytes : List ℕ) × To bytes faulty
-    comes_untold false h = (mailbox at.calendar at.host held kept, whole h)
+    comes_untold false h = (mailbox at.calendar at.site held kept, whole h)
     comes_untold true h = untold h
 
     fails_told : old.bytes ≡ Some held → (o : Option (List ℕ)) → new.bytes ≡ o → Settled true → (bytes : List ℕ) × To bytes true × IfSome o (λ l. bytes ≡ l)
@@ -142,7 +143,7 @@ module _ (at : Setting) (lanes boxes : ℕ) where
     fails_told e (Some bytes) f h = (bytes, telling bytes e f h, refl)
 
     pub comes_told : old.bytes ≡ Some held → (faulty : Bool) → Settled faulty → (bytes : List ℕ) × To bytes faulty × IfSome new.bytes (λ l. bytes ≡ l)
-    comes_told e false h = (mailbox at.calendar at.host held kept, whole h, whole_told h e)
+    comes_told e false h = (mailbox at.calendar at.site held kept, whole h, whole_told h e)
     comes_told e true h = fails_told e new.bytes refl h
 
   -- what was taken and told of a mailbox, and what its spool holds
@@ -187,7 +188,7 @@ module _ (at : Setting) (lanes boxes : ℕ) where
         → HaveTurned at work.taken work.outcomes (shared_of old false 0) (shared_of new tally.faulty tally.in_use) → HasCourse work old new tally
     shared_course none never not h =
         let after : SharedMailbox = shared_of new tally.faulty tally.in_use in
-        let c = turns_to at.calendar at.host at.quota lanes boxes at.worker work.taken work.outcomes old after none never h in
+        let c = turns_to at.calendar at.site at.quota lanes boxes at.worker work.taken work.outcomes old after none never h in
         unsaid [] c.0 not c.1
 
     not_shared : old.sharing.is_shared ≡ true → IsToldAlone old → ⊥

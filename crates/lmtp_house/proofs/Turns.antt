@@ -10,6 +10,7 @@ use Rattle.mbox_record.specs.Spool.{SpoolState}
 use Rattle.box_worker.specs.Limits.{Setting}
 use Rattle.box_worker.specs.Turned.{SharedMailbox, shared_of, TakesTurn, HaveTurned}
 use Rattle.lmtp_house.proofs.Copying.{spooled}
+use Rattle.mail_world.specs.Site.{Site}
 
 -- the count of turns that were missed never falls to 0
 count_stays : (quota : Option ℕ) (text : List ℕ) (outcome : Outcome) (old new : SharedMailbox) → TakesTurn quota text outcome old new → new.in_use ≡ 0
@@ -31,24 +32,24 @@ counts_stay : (at : Setting) (notes : List Note) (outcomes : List Outcome) (old 
 counts_stay at [] [] old new h none = sym (ap (λ (m : SharedMailbox). m.in_use) h) ∙ none
 counts_stay at [] (o ∷ os) old new h none = absurd h
 counts_stay at (x ∷ xs) [] old new h none = absurd h
-counts_stay at (x ∷ xs) (o ∷ os) old new h none = count_stays at.quota (record_of at.calendar at.host x) o old h.0 h.1 (counts_stay at xs os h.0 new h.2 none)
+counts_stay at (x ∷ xs) (o ∷ os) old new h none = count_stays at.quota (record_of at.calendar at.site x) o old h.0 h.1 (counts_stay at xs os h.0 new h.2 none)
 
-module _ (calendar : Calendar) (host : List ℕ) (lanes boxes b : ℕ) where
+module _ (calendar : Calendar) (site : Site) (lanes boxes b : ℕ) where
   abbrev pub server : Server
-  server = record { calendar = calendar; host = host; quota = None; lanes = lanes; boxes = boxes }
+  server = record { calendar = calendar; site = site; quota = None; lanes = lanes; boxes = boxes }
 
   abbrev pub setting : Setting
-  setting = record { calendar = calendar; host = host; quota = None; worker = b }
+  setting = record { calendar = calendar; site = site; quota = None; worker = b }
 
   -- a worker whose spool holds these bytes takes it so
   abbrev Taking : Note → Outcome → SharedMailbox → SharedMailbox → List ℕ → Type 0
   Taking note outcome old new bytes = (after : List ℕ) × TakesOne server note outcome (spooled bytes old.faulty) (spooled after new.faulty)
 
-  taking : (note : Note) (outcome : Outcome) (old new : SharedMailbox) (bytes : List ℕ) → TakesTurn None (record_of calendar host note) outcome old new
+  taking : (note : Note) (outcome : Outcome) (old new : SharedMailbox) (bytes : List ℕ) → TakesTurn None (record_of calendar site note) outcome old new
       → new.in_use ≡ 0
       → Taking note outcome old new bytes
   taking note Stored old new bytes h none =
-      let after : List ℕ = bytes ++ record_of calendar host note in
+      let after : List ℕ = bytes ++ record_of calendar site note in
       (after, (h.0, refl, ap (λ (m : SharedMailbox). spooled after m.faulty) h.2))
   taking note OverQuota old new bytes h none = absurd (true≢false h.1.rest.does.measured.is)
   taking note Failed old new bytes h none = elim h [
@@ -62,7 +63,7 @@ module _ (calendar : Calendar) (host : List ℕ) (lanes boxes b : ℕ) where
               sound = fails.0;
               fit = refl;
               torn = [];
-              rest = record_of calendar host note;
+              rest = record_of calendar site note;
               parts = refl;
               after = ap (λ (m : SharedMailbox). spooled after m.faulty) broke.1;
             }),
@@ -86,12 +87,12 @@ module _ (calendar : Calendar) (host : List ℕ) (lanes boxes b : ℕ) where
       (more.0, (spooled one.0 between.faulty, one.1, more.1))
 
 -- the course of a mailbox that held nothing at first
-pub turns_to : (calendar : Calendar) (host : List ℕ) (quota : Option ℕ) (lanes boxes b : ℕ) (notes : List Note) (outcomes : List Outcome)
+pub turns_to : (calendar : Calendar) (site : Site) (quota : Option ℕ) (lanes boxes b : ℕ) (notes : List Note) (outcomes : List Outcome)
     (old : SpoolState) (new : SharedMailbox) → quota ≡ None → new.in_use ≡ 0
-    → HaveTurned (record { calendar = calendar; host = host; quota = quota; worker = b }) notes outcomes (shared_of old false 0) new
-    → (bytes : List ℕ) × IsCourse (record { calendar = calendar; host = host; quota = quota; lanes = lanes; boxes = boxes })
+    → HaveTurned (record { calendar = calendar; site = site; quota = quota; worker = b }) notes outcomes (shared_of old false 0) new
+    → (bytes : List ℕ) × IsCourse (record { calendar = calendar; site = site; quota = quota; lanes = lanes; boxes = boxes })
     (record { old = []; taken = notes; outcomes = outcomes; spool = bytes; faulty = new.faulty })
-turns_to calendar host None lanes boxes b notes outcomes old new none never h =
-    let all = taking_all calendar host lanes boxes b notes outcomes (shared_of old false 0) new [] h never in
+turns_to calendar site None lanes boxes b notes outcomes old new none never h =
+    let all = taking_all calendar site lanes boxes b notes outcomes (shared_of old false 0) new [] h never in
     (all.0, record { first = spooled [] false; begun = inl (refl, refl); takes = all.1 })
-turns_to calendar host (Some quota) lanes boxes b notes outcomes old new none never h = cc
+turns_to calendar site (Some quota) lanes boxes b notes outcomes old new none never h = cc

@@ -43,11 +43,11 @@ pub record IsCourseOf (work : BoxWork) (before after : SpoolState) (tally : Tall
   pub old : IsToldAlone before → IfSome before.bytes (λ held. course.old ≡ held)
   pub spool : IsToldAlone before → IfSome after.bytes (λ held. course.spool ≡ held)
 
--- the model's server: this site, its calendar and its host, this quota, as many lanes and mailboxes
+-- the model's server: this site, its calendar, this quota, as many lanes and mailboxes
 abbrev pub server_of : {V S : Type 0} → Site → HandedIn V S → Server
 server_of site old = record {
   calendar = civil_at;
-  host = site.host;
+  site = site;
   quota = old.quota;
   lanes = length old.visits;
   boxes = length old.spools;

@@ -35,15 +35,15 @@ pub record LaneWork : Type 0 where
 
 -- what all workers share
 pub record WorkerShare : Type 0 where
-  pub host : List ℕ
+  pub site : Site
   pub quota : Option ℕ
 
 abbrev pub share_of : Site → Option ℕ → WorkerShare
-share_of site quota = record { host = site.host; quota = quota }
+share_of site quota = record { site = site; quota = quota }
 
 -- what stays while worker b runs
 abbrev pub setting_of : WorkerShare → ℕ → Setting
-setting_of share b = record { calendar = civil_at; host = share.host; quota = share.quota; worker = b }
+setting_of share b = record { calendar = civil_at; site = share.site; quota = share.quota; worker = b }
 
 -- what a worker did: the copies that it took, and what it told of each
 pub record BoxWork : Type 0 where

@@ -94,7 +94,7 @@ where
             quota,
         } = self;
         let WorkerBase { site, depot } = base;
-        worker_run(rt, receiver, slips, spool, &depot, gate, site.host(), quota)
+        worker_run(rt, receiver, slips, spool, &depot, gate, &site, quota)
     }
 }
 

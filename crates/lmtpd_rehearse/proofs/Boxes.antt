@@ -105,10 +105,10 @@ no_prefix : (prefix rest : List ℕ) → [] ≡ prefix ++ rest → prefix ≡ []
 no_prefix [] rest e = refl
 no_prefix (x ∷ prefix) rest e = cc
 
-pub is_full : (site : Site) (calendar : Calendar) (host : List ℕ) (spool : MemorySpool) (notes : List Note) (stored over : ℕ) (faulty : Bool)
-    → HasStored calendar host notes (state_of (empty_spool site)) (mailbox_of (state_of spool) stored over faulty) → faulty ≡ true
+pub is_full : (site : Site) (calendar : Calendar) (site : Site) (spool : MemorySpool) (notes : List Note) (stored over : ℕ) (faulty : Bool)
+    → HasStored calendar site notes (state_of (empty_spool site)) (mailbox_of (state_of spool) stored over faulty) → faulty ≡ true
     → length spool.bytes ≡ mailbox_room site.message_limit
-is_full site calendar host spool notes stored over faulty h e =
+is_full site calendar site spool notes stored over faulty h e =
     let P : Option ℕ → Type 0 = λ limit. IsFull limit (Some spool.bytes) in
     let full : length spool.bytes ≡ 0 + mailbox_room site.message_limit = subst P h.limited (h.full e) in
     omega (arith, full)
@@ -120,50 +120,50 @@ module _ (site : Site) (quota : Option ℕ) (b start : ℕ) (notes : List Note) 
 
   -- the copies that are kept, those of them that were settled, and the others
   abbrev all : List Note
-  all = kept civil_at site.host quota [] notes
+  all = kept civil_at site quota [] notes
 
   abbrev first : List Note
-  first = kept civil_at site.host quota [] (take (stored + over) notes)
+  first = kept civil_at site quota [] (take (stored + over) notes)
 
   abbrev later : List Note
-  later = kept_later civil_at site.host quota (stored + over) notes
+  later = kept_later civil_at site quota (stored + over) notes
 
   abbrev pub HoldsSettled : Bool → Type 0
   HoldsSettled faulty = HasSettled at start notes (state_of (empty_spool site)) (mailbox_of (state_of spool) stored over faulty)
 
   abbrev pub Holds : Bool → Type 0
-  Holds faulty = HoldsCopies civil_at site.host quota notes (outcomes_settled (stored + over) (are_kept civil_at site.host quota [] notes)) spool.bytes faulty
+  Holds faulty = HoldsCopies civil_at site quota notes (outcomes_settled (stored + over) (are_kept civil_at site quota [] notes)) spool.bytes faulty
 
-  kept_as : (faulty : Bool) → HoldsSettled faulty → (xs : List Note) → kept_after at start xs ≡ kept civil_at site.host quota [] xs
-  kept_as faulty h xs = ap (λ marks. marked marks xs) (same_marks civil_at site.host quota (state_of (empty_spool site)) start xs refl h.starts)
+  kept_as : (faulty : Bool) → HoldsSettled faulty → (xs : List Note) → kept_after at start xs ≡ kept civil_at site quota [] xs
+  kept_as faulty h xs = ap (λ marks. marked marks xs) (same_marks civil_at site quota (state_of (empty_spool site)) start xs refl h.starts)
 
   pub spool_has : (faulty : Bool) → HoldsSettled faulty
-      → HasStored civil_at site.host all (state_of (empty_spool site)) (mailbox_of (state_of spool) stored over faulty)
+      → HasStored civil_at site all (state_of (empty_spool site)) (mailbox_of (state_of spool) stored over faulty)
   spool_has faulty h =
-      let P : List Note → Type 0 = λ l. HasStored civil_at site.host l (state_of (empty_spool site)) (mailbox_of (state_of spool) stored over faulty) in
+      let P : List Note → Type 0 = λ l. HasStored civil_at site l (state_of (empty_spool site)) (mailbox_of (state_of spool) stored over faulty) in
       subst P (kept_as faulty h notes) h.spool
 
   count_first : (faulty : Bool) → HoldsSettled faulty → stored ≡ length first
   count_first faulty h = h.stored ∙ ap length (kept_as faulty h (take (stored + over) notes))
 
   -- a spool that is mended where it is empty has nothing to fail at
-  next_kept : HoldsSettled true → slice_get (are_kept civil_at site.host quota [] notes) (stored + over) ≡ Some true
+  next_kept : HoldsSettled true → slice_get (are_kept civil_at site quota [] notes) (stored + over) ≡ Some true
   next_kept h = elim (h.next refl) [
     | inl none ↦ (
         let broken = none.1.failed in
-        let full = is_full site civil_at site.host spool all stored over true (spool_has true h) refl in
+        let full = is_full site civil_at site spool all stored over true (spool_has true h) refl in
         let nothing : broken.prefix ≡ [] = no_prefix broken.prefix broken.rest (sym none.1.is ∙ broken.whole) in
         let empty : length spool.bytes ≡ 0 = ap length (broken.appended ∙ nothing) in
         let some = le-max_left 2097152 (2 * site.message_limit) in absurd (omega (arith, full, empty, some))
         )
     | inr one ↦ (
-        let marks : List Bool = are_kept civil_at site.host quota [] notes in
+        let marks : List Bool = are_kept civil_at site quota [] notes in
         let n : ℕ = stored + over in
         let next : suc n ≡ n + 1 = omega arith in
         let now : length (marked (take (suc n) marks) (take (suc n) notes)) ≡ stored + 1 =
-        ap length (sym (kept_as true h (take (suc n) notes) ∙ kept_prefix civil_at site.host quota (suc n) notes))
+        ap length (sym (kept_as true h (take (suc n) notes) ∙ kept_prefix civil_at site quota (suc n) notes))
         ∙ ap (λ k. length (kept_after at start (take k notes))) next ∙ one.1 in
-        let was : stored ≡ length (marked (take n marks) (take n notes)) = count_first true h ∙ ap length (kept_prefix civil_at site.host quota n notes) in
+        let was : stored ≡ length (marked (take n marks) (take n notes)) = count_first true h ∙ ap length (kept_prefix civil_at site quota n notes) in
         marked_next n marks notes (omega (arith, now, was))
         )
   ]
@@ -171,19 +171,19 @@ module _ (site : Site) (quota : Option ℕ) (b start : ℕ) (notes : List Note) 
   holds_whole : HoldsSettled false → Holds false
   holds_whole h =
       let settled : stored + over ≡ length notes = h.all refl in
-      let whole : ◌≡◌ {A = Option (List ℕ)} (Some spool.bytes) (Some (mailbox civil_at site.host [] all)) = (spool_has false h).whole refl in
-      let held : spool.bytes ≡ mailbox civil_at site.host [] all = cc in
+      let whole : ◌≡◌ {A = Option (List ℕ)} (Some spool.bytes) (Some (mailbox civil_at site [] all)) = (spool_has false h).whole refl in
+      let held : spool.bytes ≡ mailbox civil_at site [] all = cc in
       let taken : take (stored + over) notes ≡ notes = take_all (stored + over) notes (omega (arith, settled)) in
       let none : drop (stored + over) notes ≡ [] = drop_all (stored + over) notes (omega (arith, settled)) in
-      let marks : List Bool = drop (stored + over) (are_kept civil_at site.host quota [] notes) in
-      let T : List Note → Type 0 = λ l. IsTorn civil_at site.host l [] in
+      let marks : List Bool = drop (stored + over) (are_kept civil_at site quota [] notes) in
+      let T : List Note → Type 0 = λ l. IsTorn civil_at site l [] in
       record {
         settled = stored + over;
         torn = [];
         within = h.within;
         told = refl;
-        held = held ∙ ap (λ l. mailbox civil_at site.host [] (kept civil_at site.host quota [] l)) (sym taken)
-            ∙ sym (append-nil (mailbox civil_at site.host [] first));
+        held = held ∙ ap (λ l. mailbox civil_at site [] (kept civil_at site quota [] l)) (sym taken)
+            ∙ sym (append-nil (mailbox civil_at site [] first));
         tears = subst T (sym (ap (marked marks) none ∙ marked_none marks)) refl;
         fails = sym (grind (arith, nat_tests, settled));
         next = λ e. cc;
@@ -193,29 +193,29 @@ module _ (site : Site) (quota : Option ℕ) (b start : ℕ) (notes : List Note) 
   holds_prefix h = elim ((spool_has true h).torn refl) [
     | inl some ↦ (
         let count : stored ≡ length first = count_first true h in
-        let parts : all ≡ first ++ later = kept_parts civil_at site.host quota (stored + over) notes in
+        let parts : all ≡ first ++ later = kept_parts civil_at site quota (stored + over) notes in
         let taken : take stored all ≡ first = ap (take stored) parts ∙ ap (λ n. take n (first ++ later)) count ∙ take-append_seam first later in
         let left : drop stored all ≡ later = ap (drop stored) parts ∙ ap (λ n. drop n (first ++ later)) count ∙ drop-append_seam first later in
         let long : length all ≡ length first + length later = ap length parts ∙ length-append first later in
         let few : length later ≤ length (drop (stored + over) notes) =
-        length-marked (drop (stored + over) (are_kept civil_at site.host quota [] notes)) (drop (stored + over) notes) in
+        length-marked (drop (stored + over) (are_kept civil_at site quota [] notes)) (drop (stored + over) notes) in
         let rest = length-drop (stored + over) notes in
         let more = some.1 in
         let low : stored + over < length notes = omega (arith, count, long, few, rest, more) in
-        let T : List Note → Type 0 = λ l. IsTorn civil_at site.host l some.0 in
+        let T : List Note → Type 0 = λ l. IsTorn civil_at site l some.0 in
         record {
           settled = stored + over;
           torn = some.0;
           within = h.within;
           told = refl;
-          held = some.2 ∙ ap (λ l. mailbox civil_at site.host [] l ++ some.0) taken;
+          held = some.2 ∙ ap (λ l. mailbox civil_at site [] l ++ some.0) taken;
           tears = subst T left some.3;
           fails = sym (grind (arith, nat_tests, low));
           next = λ e. next_kept h;
         }
         )
     | inr none ↦ (
-        let full = is_full site civil_at site.host spool all stored over true (spool_has true h) refl in
+        let full = is_full site civil_at site spool all stored over true (spool_has true h) refl in
         let nothing : none.0 ≡ [] = no_prefix none.0 none.3.rest none.3.whole in
         let empty : length spool.bytes ≡ 0 = ap length (none.2 ∙ nothing) in
         let some = le-max_left 2097152 (2 * site.message_limit) in absurd (omega (arith, full, empty, some))

@@ -14,6 +14,7 @@ use Rattle.box_worker.specs.Limits.{StartsAt}
 use Rattle.lmtp_house.proofs.Courses.{unlimited}
 use Rattle.lmtpd_rehearse.specs.Account.{IsSettledOutcome}
 use Rattle.lmtpd_rehearse.specs.Copies.{kept_later}
+use Rattle.mail_world.specs.Site.{Site}
 
 pub marked_none : {A : Type 0} (marks : List Bool) → marked {A = A} marks [] ≡ []
 marked_none [] = refl
@@ -52,37 +53,37 @@ marked_next (suc n) (false ∷ marks) [] e = absurd (omega (arith, e))
 marked_next (suc n) (true ∷ marks) (x ∷ xs) e = marked_next n marks xs (omega (arith, e))
 marked_next (suc n) (false ∷ marks) (x ∷ xs) e = marked_next n marks xs e
 
-module _ (calendar : Calendar) (host : List ℕ) where
+module _ (calendar : Calendar) (site : Site) where
   -- the marks of the first copies are the first marks
   marks_prefix : (quota : Option ℕ) (n len : ℕ) (notes : List Note)
-      → are_kept_after calendar host quota len (take n notes) ≡ take n (are_kept_after calendar host quota len notes)
+      → are_kept_after calendar site quota len (take n notes) ≡ take n (are_kept_after calendar site quota len notes)
   marks_prefix quota zero len notes = refl
   marks_prefix quota (suc n) len [] = refl
   marks_prefix quota (suc n) len (x ∷ notes) =
-      let size = length (record_of calendar host x) in
+      let size = length (record_of calendar site x) in
       let t = fits quota len size in
       ap (λ l. t ∷ l) (marks_prefix quota n (if t then len + size else len) notes)
 
   pub kept_prefix : (quota : Option ℕ) (n : ℕ) (notes : List Note)
-      → kept calendar host quota [] (take n notes) ≡ marked (take n (are_kept calendar host quota [] notes)) (take n notes)
+      → kept calendar site quota [] (take n notes) ≡ marked (take n (are_kept calendar site quota [] notes)) (take n notes)
   unfolding are_kept
   kept_prefix quota n notes = ap (λ marks. marked marks (take n notes)) (marks_prefix quota n 0 notes)
 
   -- what is kept of the first copies, and of the others
   pub kept_parts : (quota : Option ℕ) (n : ℕ) (notes : List Note)
-      → kept calendar host quota [] notes ≡ kept calendar host quota [] (take n notes) ++ kept_later calendar host quota n notes
-  kept_parts quota n notes = marked_parts n (are_kept calendar host quota [] notes) notes
-      ∙ ap (λ l. l ++ kept_later calendar host quota n notes) (sym (kept_prefix quota n notes))
+      → kept calendar site quota [] notes ≡ kept calendar site quota [] (take n notes) ++ kept_later calendar site quota n notes
+  kept_parts quota n notes = marked_parts n (are_kept calendar site quota [] notes) notes
+      ∙ ap (λ l. l ++ kept_later calendar site quota n notes) (sym (kept_prefix quota n notes))
 
   -- a worker whose spool is empty marks them so
   pub same_marks : (quota : Option ℕ) (spool : SpoolState) (start : ℕ) (notes : List Note) → spool.bytes ≡ Some [] → IfSome quota (λ q. StartsAt spool start)
-      → are_kept_after calendar host quota start notes ≡ are_kept calendar host quota [] notes
+      → are_kept_after calendar site quota start notes ≡ are_kept calendar site quota [] notes
   unfolding are_kept
-  same_marks None spool start notes empty starts = unlimited calendar host start 0 notes
+  same_marks None spool start notes empty starts = unlimited calendar site start 0 notes
   same_marks (Some quota) spool start notes empty starts =
       let P : Option (List ℕ) → Type 0 = λ bytes. IfSome bytes (λ held. start ≡ length (held ++ mended held)) in
       let nothing : start ≡ 0 = subst P empty starts.known in
-      ap (λ n. are_kept_after calendar host (Some quota) n notes) nothing
+      ap (λ n. are_kept_after calendar site (Some quota) n notes) nothing
 
   kept_or_over : (quota : ℕ) (t : Bool) → IsSettledOutcome (Some quota) (if t then Stored else OverQuota)
   kept_or_over quota true = inl refl
@@ -90,11 +91,11 @@ module _ (calendar : Calendar) (host : List ℕ) where
 
   -- where all copies are settled
   pub all_settled : (quota : Option ℕ) (len n : ℕ) (notes : List Note) → length notes ≤ n
-      → AllByRecursion (IsSettledOutcome quota) (outcomes_settled n (are_kept_after calendar host quota len notes))
+      → AllByRecursion (IsSettledOutcome quota) (outcomes_settled n (are_kept_after calendar site quota len notes))
   all_settled quota len n [] h = tt
   all_settled quota len zero (x ∷ notes) h = absurd (omega (arith, h))
-  all_settled None len (suc n) (x ∷ notes) h = (refl, all_settled None (len + length (record_of calendar host x)) n notes (omega (arith, h)))
+  all_settled None len (suc n) (x ∷ notes) h = (refl, all_settled None (len + length (record_of calendar site x)) n notes (omega (arith, h)))
   all_settled (Some quota) len (suc n) (x ∷ notes) h =
-      let size = length (record_of calendar host x) in
+      let size = length (record_of calendar site x) in
       let t = fits (Some quota) len size in
       (kept_or_over quota t, all_settled (Some quota) (if t then len + size else len) n notes (omega (arith, h)))

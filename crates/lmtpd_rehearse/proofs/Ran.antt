@@ -194,50 +194,50 @@ module _ (site : Site) (quota : Option ℕ) (b : ℕ) (work : BoxWork) (spool : 
   acc = (did.alone refl).accounted
 
   abbrev marks : List Bool
-  marks = are_kept_after civil_at site.host quota acc.start work.taken
+  marks = are_kept_after civil_at site quota acc.start work.taken
 
-  tells : work.outcomes ≡ outcomes_settled (acc.stored + acc.over) (are_kept civil_at site.host quota [] work.taken)
+  tells : work.outcomes ≡ outcomes_settled (acc.stored + acc.over) (are_kept civil_at site quota [] work.taken)
   tells = acc.told ∙ ap (outcomes_settled (acc.stored + acc.over))
-      (same_marks civil_at site.host quota (state_of (empty_spool site)) acc.start work.taken refl acc.settled.starts)
+      (same_marks civil_at site quota (state_of (empty_spool site)) acc.start work.taken refl acc.settled.starts)
 
   tells_settled : tally.faulty ≡ false → AllByRecursion (IsSettledOutcome quota) work.outcomes
   tells_settled sound =
       let all : acc.stored + acc.over ≡ length work.taken = acc.settled.all sound in
       let P : List Outcome → Type 0 = λ os. AllByRecursion (IsSettledOutcome quota) os in
-      subst P (sym acc.told) (all_settled civil_at site.host quota acc.start (acc.stored + acc.over) work.taken (omega (arith, all)))
+      subst P (sym acc.told) (all_settled civil_at site quota acc.start (acc.stored + acc.over) work.taken (omega (arith, all)))
 
-  holds : HoldsCopies civil_at site.host quota work.taken work.outcomes spool.bytes tally.faulty
+  holds : HoldsCopies civil_at site quota work.taken work.outcomes spool.bytes tally.faulty
   holds =
-      let P : List Outcome → Type 0 = λ os. HoldsCopies civil_at site.host quota work.taken os spool.bytes tally.faulty in
+      let P : List Outcome → Type 0 = λ os. HoldsCopies civil_at site quota work.taken os spool.bytes tally.faulty in
       subst P (sym tells) (holds_settled site quota b acc.start work.taken spool acc.stored acc.over tally.faulty acc.settled)
 
   fills : tally.faulty ≡ true → length spool.bytes ≡ mailbox_room site.message_limit
-  fills = is_full site civil_at site.host spool _ acc.stored acc.over tally.faulty
+  fills = is_full site civil_at site spool _ acc.stored acc.over tally.faulty
       (spool_has site quota b acc.start work.taken spool acc.stored acc.over tally.faulty acc.settled)
 
 -- a mailbox that hasn't failed
-record HoldsAll (host : List ℕ) (quota : Option ℕ) (notes : List Note) (outcomes : List Outcome) (bytes : List ℕ) : Type 0 where
-  told : outcomes ≡ outcomes_settled (length notes) (are_kept civil_at host quota [] notes)
-  held : bytes ≡ mailbox civil_at host [] (kept civil_at host quota [] notes)
+record HoldsAll (site : Site) (quota : Option ℕ) (notes : List Note) (outcomes : List Outcome) (bytes : List ℕ) : Type 0 where
+  told : outcomes ≡ outcomes_settled (length notes) (are_kept civil_at site quota [] notes)
+  held : bytes ≡ mailbox civil_at site [] (kept civil_at site quota [] notes)
 
 all_if_sound : (settled size : ℕ) → settled ≤ size → false ≡ nat_lt settled size → settled ≡ size
 all_if_sound settled size within fails = let high : size ≤ settled = grind (arith, nat_tests, fails) in omega (arith, within, high)
 
-none_torn : (host : List ℕ) (notes : List Note) (torn : List ℕ) → notes ≡ [] → IsTorn civil_at host notes torn → torn ≡ []
-none_torn host [] torn e h = h
-none_torn host (x ∷ notes) torn e h = cc
+none_torn : (site : Site) (notes : List Note) (torn : List ℕ) → notes ≡ [] → IsTorn civil_at site notes torn → torn ≡ []
+none_torn site [] torn e h = h
+none_torn site (x ∷ notes) torn e h = cc
 
-holds_all : (host : List ℕ) (quota : Option ℕ) (notes : List Note) (outcomes : List Outcome) (bytes : List ℕ)
-    → HoldsCopies civil_at host quota notes outcomes bytes false → HoldsAll host quota notes outcomes bytes
-holds_all host quota notes outcomes bytes h =
+holds_all : (site : Site) (quota : Option ℕ) (notes : List Note) (outcomes : List Outcome) (bytes : List ℕ)
+    → HoldsCopies civil_at site quota notes outcomes bytes false → HoldsAll site quota notes outcomes bytes
+holds_all site quota notes outcomes bytes h =
     let all : h.settled ≡ length notes = all_if_sound h.settled (length notes) h.within h.fails in
     let taken : take h.settled notes ≡ notes = take_all h.settled notes (omega (arith, all)) in
-    let marks : List Bool = drop h.settled (are_kept civil_at host quota [] notes) in
-    let none : kept_later civil_at host quota h.settled notes ≡ [] = ap (marked marks) (drop_all h.settled notes (omega (arith, all))) ∙ marked_none marks in
-    let whole : h.torn ≡ [] = none_torn host (kept_later civil_at host quota h.settled notes) h.torn none h.tears in
-    let held : List Note → List ℕ = λ l. mailbox civil_at host [] (kept civil_at host quota [] l) in
+    let marks : List Bool = drop h.settled (are_kept civil_at site quota [] notes) in
+    let none : kept_later civil_at site quota h.settled notes ≡ [] = ap (marked marks) (drop_all h.settled notes (omega (arith, all))) ∙ marked_none marks in
+    let whole : h.torn ≡ [] = none_torn site (kept_later civil_at site quota h.settled notes) h.torn none h.tears in
+    let held : List Note → List ℕ = λ l. mailbox civil_at site [] (kept civil_at site quota [] l) in
     record {
-      told = h.told ∙ ap (λ n. outcomes_settled n (are_kept civil_at host quota [] notes)) all;
+      told = h.told ∙ ap (λ n. outcomes_settled n (are_kept civil_at site quota [] notes)) all;
       held = h.held ∙ ap (λ l. held (take h.settled notes) ++ l) whole ∙ append-nil (held (take h.settled notes)) ∙ ap held taken;
     }
 
@@ -266,25 +266,25 @@ delivered site quota c work spools tallies faulty is accounted h size faulty_is 
     let calm : faulty ≡ false → IsCalm ks = λ f. none_failed spools tallies as_many (sym faulty_is ∙ f) in
     let many : length ks ≡ work.count = length-kept spools tallies as_many ∙ h.as_many.0 in
     let H : Conversation → ℕ → List ℕ → Bool → Type 0 =
-    λ x box bytes failed. HoldsCopies civil_at site.host quota (due site 0 box (x ∷ [])) (outcomes_told site box (x ∷ [])) bytes failed in
+    λ x box bytes failed. HoldsCopies civil_at site quota (due site 0 box (x ∷ [])) (outcomes_told site box (x ∷ [])) bytes failed in
     let each : (box : ℕ) → box < length site.boxes → H (conversation c.bytes c.dispositions) box (kept_at ks box).bytes (kept_at ks box).failed = λ box within.
     let low : box < work.count = omega (arith, size, within) in
     let at = h.each box low in
-    let P : List Note → Type 0 = λ notes. HoldsCopies civil_at site.host quota notes (told box) at.spool.bytes at.tally.faulty in
-    let Q : List Outcome → Type 0 = λ os. HoldsCopies civil_at site.host quota (copies_owed 0 box ts) os at.spool.bytes at.tally.faulty in
-    let D : List Note → Type 0 = λ notes. HoldsCopies civil_at site.host quota notes (told_all box ts) at.spool.bytes at.tally.faulty in
-    let T : List Outcome → Type 0 = λ os. HoldsCopies civil_at site.host quota (due site 0 box (c ∷ [])) os at.spool.bytes at.tally.faulty in
+    let P : List Note → Type 0 = λ notes. HoldsCopies civil_at site quota notes (told box) at.spool.bytes at.tally.faulty in
+    let Q : List Outcome → Type 0 = λ os. HoldsCopies civil_at site quota (copies_owed 0 box ts) os at.spool.bytes at.tally.faulty in
+    let D : List Note → Type 0 = λ notes. HoldsCopies civil_at site quota notes (told_all box ts) at.spool.bytes at.tally.faulty in
+    let T : List Outcome → Type 0 = λ os. HoldsCopies civil_at site quota (due site 0 box (c ∷ [])) os at.spool.bytes at.tally.faulty in
     let K : MailboxContent → Type 0 = λ k. H c box k.bytes k.failed in
     let C : Conversation → Type 0 = λ x. H x box (kept_at ks box).bytes (kept_at ks box).failed in
     let first : P (copies_owed 0 box ts) = subst P (h.taken box low) (holds site quota box (work.boxes box) at.spool at.tally at.did) in
     let told_so : Q (told_all box ts) = subst Q (sym (said_of_box site quota c work spools tallies h box low)) first in
     subst C is (subst K (sym at.is) (subst T (sym (told_is site box c)) (subst D (sym (due_is site box c)) told_so))) in
     let whole : faulty ≡ false → (box : ℕ) → box < length site.boxes
-    → HoldsAll site.host quota (copies_due site c.bytes c.dispositions box) (told_of_box site c.bytes c.dispositions box) (kept_at ks box).bytes =
+    → HoldsAll site quota (copies_due site c.bytes c.dispositions box) (told_of_box site c.bytes c.dispositions box) (kept_at ks box).bytes =
     λ f box within.
     let failed : (kept_at ks box).failed ≡ false = calm f box (omega (arith, within, many, size)) in
     let B : Bool → Type 0 = λ b. H (conversation c.bytes c.dispositions) box (kept_at ks box).bytes b in
-    holds_all site.host quota _ _ (kept_at ks box).bytes (subst B failed (each box within)) in
+    holds_all site quota _ _ (kept_at ks box).bytes (subst B failed (each box within)) in
     record {
       count = many ∙ size;
       each = each;
@@ -370,7 +370,7 @@ module _ (site : Site) (quota : Option ℕ) (moment : ℕ) {P : Type 0} (state :
       let threads : Threads = threads_of site h.lanes m.courses in
       let copies : ℕ → Conversation → List Note = λ b x. due site 0 b (x ∷ []) in
       let R : ℕ → Type 0 = λ n.
-      (run : IsOrderlyRunOf RECIPIENT_LIMIT DEFAULT_CAPACITY (record { calendar = civil_at; host = site.host; quota = quota; lanes = 1; boxes = n }) threads)
+      (run : IsOrderlyRunOf RECIPIENT_LIMIT DEFAULT_CAPACITY (record { calendar = civil_at; site = site; quota = quota; lanes = 1; boxes = n }) threads)
       × ((b : ℕ) → b < n → offers_by 0 b (events_of run.is.run) ≡ copies b (conversation c.bytes c.dispositions)) in
       let first : R (length handed.spools) =
       (m.is, λ b low. m.offered 0 b one low ∙ ap (λ l. due site 0 b l) are ∙ ap (copies b) is) in

@@ -47,7 +47,7 @@ pub record AreMailboxes (site : Site) (quota : Option ℕ) (read : List ℕ) (ac
   -- each took the copies that were due to it: the first were settled, kept or over the quota; once its spool failed,
   -- the others were told Failed
   pub each : (box : ℕ) → box < length site.boxes
-      → HoldsCopies civil_at site.host quota (copies_due site read account box) (told_of_box site read account box)
+      → HoldsCopies civil_at site quota (copies_due site read account box) (told_of_box site read account box)
       (kept_at mailboxes box).bytes (kept_at mailboxes box).failed
   -- a spool failed only once its room was used up
   pub full : (box : ℕ) → box < length site.boxes → (kept_at mailboxes box).failed ≡ true
@@ -59,10 +59,10 @@ pub record AreMailboxes (site : Site) (quota : Option ℕ) (read : List ℕ) (ac
   -- which of the two says the quota, and each mailbox has the records of its copies that are kept
   pub told : faulty ≡ false → (box : ℕ) → box < length site.boxes
       → told_of_box site read account box ≡ outcomes_settled (length (copies_due site read account box))
-      (are_kept civil_at site.host quota [] (copies_due site read account box))
+      (are_kept civil_at site quota [] (copies_due site read account box))
   pub held : faulty ≡ false → (box : ℕ) → box < length site.boxes
-      → (kept_at mailboxes box).bytes ≡ mailbox civil_at site.host []
-      (kept civil_at site.host quota [] (copies_due site read account box))
+      → (kept_at mailboxes box).bytes ≡ mailbox civil_at site []
+      (kept civil_at site quota [] (copies_due site read account box))
 
 -- A mailbox of the model came to what this one did: it was empty at first, took these copies, told this of each, holds
 -- these bytes, and failed where this one did.
@@ -74,11 +74,11 @@ pub record IsCourseTo (copies : List Note) (told : List Outcome) (mailbox : Mail
   pub spool : course.spool ≡ mailbox.bytes
   pub faulty : course.faulty ≡ mailbox.failed
 
--- the model's server: this site, its calendar and its host, this quota, one lane
+-- the model's server: this site, its calendar, this quota, one lane
 abbrev pub model_of : Site → Option ℕ → Server
 model_of site quota = record {
   calendar = civil_at;
-  host = site.host;
+  site = site;
   quota = quota;
   lanes = 1;
   boxes = length site.boxes;

@@ -18,6 +18,7 @@ use Rattle.mail_lives.proofs.Lists.{two_cuts, all_both}
 use Rattle.mail_lives.proofs.Mending.{mended_ends, mended_in_part, mended_after}
 use Rattle.mail_lives.proofs.Bodies.{whole_ends}
 use Rattle.mail_lives.proofs.Torn.{torn_letter}
+use Rattle.mail_world.specs.Site.{Site}
 
 -- letters of a mailbox, and others after it
 read_after : (old new more : List ℕ) (letters others : List Letter) → IsReadAs old letters → AreLetters others
@@ -35,26 +36,26 @@ goes_after old text more b same is =
     subst (λ (t : List ℕ). with_mended (with_mended old ++ t) ≡ with_mended old ++ with_mended t) (sym first)
     (mended_after (with_mended old) more (mended_ends old))
 
-module _ (calendar : Calendar) (host : List ℕ) (one : IsOneLine host) where
+module _ (calendar : Calendar) (site : Site) (one : IsOneLine site.host) where
   -- what is left of a torn record
   abbrev TornAfter : Note → List Letter → List ℕ → Type 0
   TornAfter note letters new =
-      (after : List Letter) × IsReadAs new after × StepComesTo calendar host (Tears note) letters after
+      (after : List Letter) × IsReadAs new after × StepComesTo calendar site (Tears note) letters after
 
   module _ (note : Note) (mailed : IsMailed note) where
     abbrev letter : Letter
-    letter = letter_of calendar host note
+    letter = letter_of calendar site note
 
     abbrev text : List ℕ
-    text = record_of calendar host note
+    text = record_of calendar site note
 
     text_is : text ≡ letter_text letter
-    text_is = record_of-letter calendar host note one mailed
+    text_is = record_of-letter calendar site note one mailed
 
     is : IsLetter letter
-    is = letter_of-is calendar host note mailed
+    is = letter_of-is calendar site note mailed
 
-    stored : (old new : List ℕ) (letters : List Letter) → IsReadAs old letters → new ≡ old ++ addition calendar host note old
+    stored : (old new : List ℕ) (letters : List Letter) → IsReadAs old letters → new ≡ old ++ addition calendar site note old
         → IsReadAs new (letters ++ letter ∷ [])
     stored old new letters was goes =
         let whole : new ≡ with_mended old ++ letter_text letter =
@@ -106,7 +107,7 @@ module _ (calendar : Calendar) (host : List ℕ) (one : IsOneLine host) where
     torn_by old new prefix rest letters was left (inr found) = by_text old new prefix rest found.0 letters was left found.1 found.2
 
   step_read : (step : Step) (old new : List ℕ) (letters : List Letter) → IsMailedStep step → IsReadAs old letters
-      → StepLeaves calendar host step old new → (after : List Letter) × IsReadAs new after × StepComesTo calendar host step letters after
+      → StepLeaves calendar site step old new → (after : List Letter) × IsReadAs new after × StepComesTo calendar site step letters after
   step_read (Others fates added) old new letters mailed was did =
       let same : did.letters ≡ letters = one_reading did.letters letters did.was.are was.are (did.was.whole ∙ sym was.whole) in (
         left_of fates letters ++ added,
@@ -114,15 +115,15 @@ module _ (calendar : Calendar) (host : List ℕ) (one : IsOneLine host) where
         (did.each ∙ ap length same, refl),
       )
   step_read (Stores note) old new letters mailed was did =
-      (letters ++ letter_of calendar host note ∷ [], stored note mailed old new letters was did, refl)
+      (letters ++ letter_of calendar site note ∷ [], stored note mailed old new letters was did, refl)
   step_read Rests old new letters mailed was did = (letters, subst (λ (b : List ℕ). IsReadAs b letters) (sym did) was, refl)
   step_read (Tears note) old new letters mailed was did =
       torn_by note mailed old new did.prefix did.part.rest letters was did.left
-      (two_cuts (mended old) (record_of calendar host note) did.prefix did.part.rest did.part.whole)
+      (two_cuts (mended old) (record_of calendar site note) did.prefix did.part.rest did.part.whole)
 
   pub steps_read : (steps : List Step) (old new : List ℕ) (letters : List Letter) → AllByRecursion IsMailedStep steps
-      → IsReadAs old letters → StepsLeave calendar host steps old new
-      → (after : List Letter) × IsReadAs new after × StepsComeTo calendar host steps letters after
+      → IsReadAs old letters → StepsLeave calendar site steps old new
+      → (after : List Letter) × IsReadAs new after × StepsComeTo calendar site steps letters after
   steps_read [] old new letters mailed was did = (letters, subst (λ (b : List ℕ). IsReadAs b letters) (sym did) was, refl)
   steps_read (step ∷ steps) old new letters mailed was did =
       let first = step_read step old did.0 letters mailed.0 was did.1 in

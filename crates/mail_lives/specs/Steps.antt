@@ -7,6 +7,7 @@ use Rattle.mail_world.specs.Turns.{addition}
 use Rattle.mail_world.specs.Reading.{Letter, IsMailed, letter_of}
 use Rattle.mail_lives.specs.ReadAs.{IsReadAs}
 use Rattle.mail_lives.specs.Fates.{Fate, left_of}
+use Rattle.mail_world.specs.Site.{Site}
 
 pub data Step : Type 0 where
   -- others have it between two turns: of its letters they make that, and add these after them
@@ -28,44 +29,44 @@ pub record HasLeft (fates : List Fate) (added : List Letter) (old new : List ℕ
   pub is : IsReadAs new (left_of fates letters ++ added)
 
 -- some of what was to be appended is there
-pub record HasTorn (calendar : Calendar) (host : List ℕ) (note : Note) (old new : List ℕ) : Type 0 where
+pub record HasTorn (calendar : Calendar) (site : Site) (note : Note) (old new : List ℕ) : Type 0 where
   pub prefix : List ℕ
-  pub part : IsPrefix prefix (addition calendar host note old)
+  pub part : IsPrefix prefix (addition calendar site note old)
   pub left : new ≡ old ++ prefix
 
-abbrev pub StepLeaves : Calendar → List ℕ → Step → List ℕ → List ℕ → Type 0
-StepLeaves calendar host (Others fates added) old new = HasLeft fates added old new
-StepLeaves calendar host (Stores note) old new = new ≡ old ++ addition calendar host note old
-StepLeaves calendar host Rests old new = new ≡ old
-StepLeaves calendar host (Tears note) old new = HasTorn calendar host note old new
+abbrev pub StepLeaves : Calendar → Site → Step → List ℕ → List ℕ → Type 0
+StepLeaves calendar site (Others fates added) old new = HasLeft fates added old new
+StepLeaves calendar site (Stores note) old new = new ≡ old ++ addition calendar site note old
+StepLeaves calendar site Rests old new = new ≡ old
+StepLeaves calendar site (Tears note) old new = HasTorn calendar site note old new
 
-abbrev pub StepsLeave : Calendar → List ℕ → List Step → List ℕ → List ℕ → Type 0
-StepsLeave calendar host [] old new = new ≡ old
-StepsLeave calendar host (step ∷ steps) old new =
-    (between : List ℕ) × StepLeaves calendar host step old between × StepsLeave calendar host steps between new
+abbrev pub StepsLeave : Calendar → Site → List Step → List ℕ → List ℕ → Type 0
+StepsLeave calendar site [] old new = new ≡ old
+StepsLeave calendar site (step ∷ steps) old new =
+    (between : List ℕ) × StepLeaves calendar site step old between × StepsLeave calendar site steps between new
 
 -- ---- its letters
 
 -- what a torn record is read as: a prefix of it by itself, which is no letter, or one, or one and a letter of nothing
-pub record IsTornOf (calendar : Calendar) (host : List ℕ) (note : Note) (torn : List Letter) : Type 0 where
+pub record IsTornOf (calendar : Calendar) (site : Site) (note : Note) (torn : List Letter) : Type 0 where
   pub prefix : List ℕ
-  pub part : IsPrefix prefix (record_of calendar host note)
+  pub part : IsPrefix prefix (record_of calendar site note)
   pub read : IsReadAs prefix torn
   pub few : length torn ≤ 2
 
-abbrev pub StepComesTo : Calendar → List ℕ → Step → List Letter → List Letter → Type 0
-StepComesTo calendar host (Others fates added) old new =
+abbrev pub StepComesTo : Calendar → Site → Step → List Letter → List Letter → Type 0
+StepComesTo calendar site (Others fates added) old new =
     (length fates ≡ length old) × (new ≡ left_of fates old ++ added)
-StepComesTo calendar host (Stores note) old new = new ≡ old ++ letter_of calendar host note ∷ []
-StepComesTo calendar host Rests old new = new ≡ old
-StepComesTo calendar host (Tears note) old new =
-    (torn : List Letter) × IsTornOf calendar host note torn × (new ≡ old ++ torn)
+StepComesTo calendar site (Stores note) old new = new ≡ old ++ letter_of calendar site note ∷ []
+StepComesTo calendar site Rests old new = new ≡ old
+StepComesTo calendar site (Tears note) old new =
+    (torn : List Letter) × IsTornOf calendar site note torn × (new ≡ old ++ torn)
 
-abbrev pub StepsComeTo : Calendar → List ℕ → List Step → List Letter → List Letter → Type 0
-StepsComeTo calendar host [] old new = new ≡ old
-StepsComeTo calendar host (step ∷ steps) old new =
-    (between : List Letter) × StepComesTo calendar host step old between
-    × StepsComeTo calendar host steps between new
+abbrev pub StepsComeTo : Calendar → Site → List Step → List Letter → List Letter → Type 0
+StepsComeTo calendar site [] old new = new ≡ old
+StepsComeTo calendar site (step ∷ steps) old new =
+    (between : List Letter) × StepComesTo calendar site step old between
+    × StepsComeTo calendar site steps between new
 
 -- notes as transactions make them
 abbrev pub IsMailedStep : Step → Type 0

@@ -12,8 +12,8 @@ ghost use Rattle.mail_lives.specs.Steps.{Step, StepsLeave, StepsComeTo, IsMailed
 /// and its letters are those that the steps come to. Each stored one is there once, whole, and after those before it;
 /// nothing but what others remove or change is gone; nothing of a torn one is in any other.
 pub fn steps_are_read()
-    ensures { (calendar : Calendar) (host : List ℕ) (steps : List Step) (old new : List ℕ) (letters : List Letter)
-        → IsOneLine host → AllByRecursion IsMailedStep steps
-        → IsReadAs old letters → StepsLeave calendar host steps old new
-        → (after : List Letter) × IsReadAs new after × StepsComeTo calendar host steps letters after }
+    ensures { (calendar : Calendar) (site : Site) (steps : List Step) (old new : List ℕ) (letters : List Letter)
+        → IsOneLine site.host → AllByRecursion IsMailedStep steps
+        → IsReadAs old letters → StepsLeave calendar site steps old new
+        → (after : List Letter) × IsReadAs new after × StepsComeTo calendar site steps letters after }
 {}

@@ -49,10 +49,10 @@ release_moves room blocks next h f w box copy at hand held may =
 
 unfoldable pub write_moves : (room blocks : ℕ) (next : ℕ → ℕ) (h : House) → IsReached room blocks h → (w : ℕ) (box : Box) (copy : Copy) → BoxIs h w box
     → box.hand ≡ Some copy → copy.released ≡ false → is_settled copy ≡ false → box.faulty ≡ false
-    → (rest : List ℕ) → drop copy.written (record_of h.calendar h.host copy.post.note) ≡ rest → IsMovedBy (TheWorker w) room next h
+    → (rest : List ℕ) → drop copy.written (record_of h.calendar h.site copy.post.note) ≡ rest → IsMovedBy (TheWorker w) room next h
 write_moves room blocks next h f w box copy at hand held unsettled sound [] e =
     let low = f.kept.written w box copy at hand in
-    let none : length (record_of h.calendar h.host copy.post.note) - copy.written ≡ 0 = sym (length-drop copy.written _) ∙ ap length e in
+    let none : length (record_of h.calendar h.site copy.post.note) - copy.written ≡ 0 = sym (length-drop copy.written _) ∙ ap length e in
     record {
       event = Sync w;
       by = refl;
@@ -74,7 +74,7 @@ write_moves room blocks next h f w box copy at hand held unsettled sound [] e =
       );
     }
 write_moves room blocks next h f w box copy at hand held unsettled sound (x ∷ xs) e =
-    let P : Copy → Type 0 = λ c. drop c.written (record_of h.calendar h.host c.post.note) ≡ x ∷ xs in
+    let P : Copy → Type 0 = λ c. drop c.written (record_of h.calendar h.site c.post.note) ≡ x ∷ xs in
     let in_hand : IfSome box.hand P = subst (λ o. IfSome o P) (sym hand) e in
     record {
       event = Write w (x ∷ xs);
@@ -105,7 +105,7 @@ held_moves : (room blocks : ℕ) (next : ℕ → ℕ) (h : House) → IsReached 
 held_moves room blocks next h f w box copy at hand held true e = release_moves room blocks next h f w box copy at hand held e
 held_moves room blocks next h f w box copy at hand held false e =
     let both = or_false (is_settled copy) box.faulty e in
-    write_moves room blocks next h f w box copy at hand held both.0 both.1 (drop copy.written (record_of h.calendar h.host copy.post.note)) refl
+    write_moves room blocks next h f w box copy at hand held both.0 both.1 (drop copy.written (record_of h.calendar h.site copy.post.note)) refl
 
 hand_by : (room blocks : ℕ) (next : ℕ → ℕ) (h : House) → IsReached room blocks h → (w : ℕ) (box : Box) (copy : Copy) → BoxIs h w box → box.hand ≡ Some copy
     → (t : Bool) → copy.released ≡ t → IsMovedBy (TheWorker w) room next h

@@ -28,7 +28,7 @@ abbrev post : ℕ → Post
 post place = record { note = note place; key = key }
 
 abbrev text : List ℕ
-text = record_of calendar site.host (note 0)
+text = record_of calendar site (note 0)
 
 abbrev one : Hold
 one = record { key = key; weight = 1 }

@@ -75,7 +75,7 @@ takes_decided room next h = by_boxes room next h 3 HasPrefix has_prefix (prefix_
 
 -- a copy of which more is to write, or none
 abbrev rest_of : House → Copy → List ℕ
-rest_of h copy = drop copy.written (record_of h.calendar h.host copy.post.note)
+rest_of h copy = drop copy.written (record_of h.calendar h.site copy.post.note)
 
 abbrev IsToWrite : Box → Copy → Type 0
 IsToWrite box copy = (copy.released ≡ false) × ((is_settled copy ≡ false) × (box.faulty ≡ false))
@@ -101,7 +101,7 @@ not_whole : (h : House) → NoBox h (IsWhole h) → (event : Event) → MayHappe
 not_whole h none (Sync w) happens e =
     let st = happens.1 in
     let whole = st.whole in
-    let rest : length (rest_of h st.copy) ≡ 0 = omega (arith, length-drop st.copy.written (record_of h.calendar h.host st.copy.post.note)) in
+    let rest : length (rest_of h st.copy) ≡ 0 = omega (arith, length-drop st.copy.written (record_of h.calendar h.site st.copy.post.note)) in
     none w st.box st.is (st.copy, st.in_hand, ((st.held, (st.unsettled, st.sound)), rest))
 not_whole h none event happens e = absurd (omega arith)
 

@@ -12,7 +12,7 @@ IsClosed h b = (box : Box) × BoxIs h b box × (box.closed ≡ true)
 
 -- what is still to be written of the copy's record
 abbrev rest_of : House → Copy → List ℕ
-rest_of h copy = drop copy.written (record_of h.calendar h.host copy.post.note)
+rest_of h copy = drop copy.written (record_of h.calendar h.site copy.post.note)
 
 -- The event does so, where each lane's next copy is for the mailbox in `next`. A lane hands back only what is for a
 -- closed channel, a worker writes all that

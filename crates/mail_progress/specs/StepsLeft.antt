@@ -13,7 +13,7 @@ use Rattle.mail_world.specs.Runs.{Happened, Run, last_house}
 use Rattle.mail_progress.specs.Orderly.{uncollected, IsInOrder, IsOrderly}
 
 abbrev pub size : House → Note → ℕ
-size h note = length (record_of h.calendar h.host note)
+size h note = length (record_of h.calendar h.site note)
 
 -- a copy that a channel accepted is taken, written at least one byte at a time, synced and released, and its
 -- slip is given and collected

@@ -15,7 +15,7 @@ ghost use Rattle.std.specs.Prelude.{take};
 pub fn an_orderly_run_delivers()
     ensures { (start : House) × (run : List Happened) × (note : Note) × IsStart 2 start × Run start run
         × IsOrderly 1 start run
-        × HasSpoolAndPlaces (last_house start run) (mailbox start.calendar start.host [] (note ∷ []))
+        × HasSpoolAndPlaces (last_house start run) (mailbox start.calendar start.site [] (note ∷ []))
         (Some Stored ∷ [])
         × HasDrained (last_house start run)
         × IsFinished 2 (events_of run) (last_house start run) }
@@ -25,7 +25,7 @@ pub fn an_orderly_run_delivers()
 pub fn an_orderly_run_fails()
     ensures { (start : House) × (run : List Happened) × (note : Note) × IsStart 2 start × Run start run
         × IsOrderly 2 start run
-        × HasSpoolAndPlaces (last_house start run) (take 5 (record_of start.calendar start.host note))
+        × HasSpoolAndPlaces (last_house start run) (take 5 (record_of start.calendar start.site note))
         (Some Failed ∷ Some Failed ∷ [])
         × IsFinished 2 (events_of run) (last_house start run) }
 {}

@@ -77,7 +77,7 @@ record IsClosing (m : Manner) (s : Server) (t : Threads) (capacity n : ℕ) : Ty
   house : House
   story : Story m house
   room : house.capacity ≡ capacity
-  setting : (house.calendar ≡ s.calendar) × (house.host ≡ s.host) × (house.quota ≡ s.quota)
+  setting : (house.calendar ≡ s.calendar) × (house.site ≡ s.site) × (house.quota ≡ s.quota)
   as_many : (length house.boxes ≡ s.boxes) × (length house.lanes ≡ s.lanes)
   shut : (b : ℕ) (box : Box) → BoxIs house b box → b < n → EndsAs (t.courses b) box
   open_yet : (b : ℕ) (box : Box) → BoxIs house b box → n ≤ b → BoxStands s capacity b (t.courses b) [] box
@@ -148,7 +148,7 @@ ends {m} s t next =
     let story = c.story in
     let last : last_house story.start story.run ≡ c.house = story.last in
     let frame : frame_of c.house ≡ frame_of story.start = sym (ap frame_of last) ∙ frame_run story.start story.run story.runs in
-    let host = sym (ap (λ (f : Frame). f.host) frame) ∙ c.setting.1 in
+    let site = sym (ap (λ (f : Frame). f.site) frame) ∙ c.setting.1 in
     let accepts = every_run_in_order story.blocks story.start story.run story.starts story.runs in
     let box_is : (b : ℕ) (box : Box) → BoxIs c.house b box → BoxIs (last_house story.start story.run) b box =
     λ b box is. ap (λ (x : House). slice_get x.boxes b) last ∙ is in
@@ -161,7 +161,7 @@ ends {m} s t next =
         run = story.run;
         starts = story.starts;
         runs = story.runs;
-        setting = (sym (ap (λ (f : Frame). f.calendar) frame) ∙ c.setting.0, host, sym (ap (λ (f : Frame). f.quota) frame) ∙ c.setting.2);
+        setting = (sym (ap (λ (f : Frame). f.calendar) frame) ∙ c.setting.0, site, sym (ap (λ (f : Frame). f.quota) frame) ∙ c.setting.2);
         as_many = (sym (ap (λ (f : Frame). f.boxes) frame) ∙ c.as_many.0, sym (ap (λ (f : Frame). f.lanes) frame) ∙ c.as_many.1);
         offered = λ k b low.
             let box = there_is c.house.boxes b (subst (λ n. b < n) (sym c.as_many.0) low) in

@@ -9,20 +9,21 @@ use Rattle.mail_world.specs.House.{House, Lane, Box}
 use Rattle.mail_world.specs.Events.{Step}
 use Rattle.mail_world.specs.Runs.{Happened, Run, last_house}
 use Rattle.mail_world.proofs.LastSeal.{length_set}
+use Rattle.mail_world.specs.Site.{Site}
 
 pub record Frame : Type 0 where
   pub calendar : Calendar
-  pub host : List ℕ
+  pub site : Site
   pub quota : Option ℕ
   pub lanes : ℕ
   pub boxes : ℕ
 
 abbrev pub frame_of : House → Frame
-frame_of h = record { calendar = h.calendar; host = h.host; quota = h.quota; lanes = length h.lanes; boxes = length h.boxes }
+frame_of h = record { calendar = h.calendar; site = h.site; quota = h.quota; lanes = length h.lanes; boxes = length h.boxes }
 
 -- the frame with other counts
 abbrev counted : House → ℕ → ℕ → Frame
-counted h lanes boxes = record { calendar = h.calendar; host = h.host; quota = h.quota; lanes = lanes; boxes = boxes }
+counted h lanes boxes = record { calendar = h.calendar; site = h.site; quota = h.quota; lanes = lanes; boxes = boxes }
 
 lane_set : (h : House) (k : ℕ) (lane : Lane) → counted h (length (slice_set h.lanes k lane)) (length h.boxes) ≡ frame_of h
 lane_set h k lane = ap (λ n. counted h n (length h.boxes)) (length_set h.lanes k lane)

@@ -107,7 +107,7 @@ pub record DepotStands (left : List Deed) (d : Depot) : Type 0 where
 
 -- the house
 pub record Stands (m : Manner) (s : Server) (t : Threads) (left : List Deed) (h : House) : Type 0 where
-  pub setting : (h.calendar ≡ s.calendar) × (h.host ≡ s.host) × (h.quota ≡ s.quota)
+  pub setting : (h.calendar ≡ s.calendar) × (h.site ≡ s.site) × (h.quota ≡ s.quota)
   pub as_many : (length h.boxes ≡ s.boxes) × (length h.lanes ≡ s.lanes)
   pub within : AllByRecursion (IsWithin s) left
   pub boxes : (b : ℕ) (box : Box) → BoxIs h b box → BoxStands s h.capacity b (t.courses b) left box

@@ -181,7 +181,7 @@ more_of copy bytes = record copy { written = copy.written + length bytes }
 write_story : {m : Manner} (h : House) (b : ℕ) (box old : Box) (settled : ℕ) (spool : Spooled) (copy : Copy) (bytes more : List ℕ) → BoxIs h b old
     → spool.faulty ≡ false
     → copy.released ≡ false → is_settled copy ≡ false
-    → drop copy.written (record_of h.calendar h.host copy.post.note) ≡ bytes ++ more → Story m (with_box h b (handed box settled spool copy))
+    → drop copy.written (record_of h.calendar h.site copy.post.note) ≡ bytes ++ more → Story m (with_box h b (handed box settled spool copy))
     → Story m (with_box h b (handed box settled (more_in spool bytes) (more_of copy bytes)))
 write_story h b box old settled spool copy bytes more is sound held unsettled next story =
     let mid : Box = handed box settled spool copy in
@@ -201,7 +201,7 @@ write_story h b box old settled spool copy bytes more is sound held unsettled ne
 sync_story : {m : Manner} (h : House) (b : ℕ) (box old : Box) (settled : ℕ) (spool : Spooled) (copy : Copy) → BoxIs h b old → spool.faulty ≡ false
     → copy.released ≡ false
     → is_settled copy ≡ false
-    → copy.written ≡ length (record_of h.calendar h.host copy.post.note) → Story m (with_box h b (handed box settled spool copy))
+    → copy.written ≡ length (record_of h.calendar h.site copy.post.note) → Story m (with_box h b (handed box settled spool copy))
     → Story m (with_box h b (handed box (settled + 1) spool (record copy { synced = true })))
 sync_story h b box old settled spool copy is sound held unsettled whole story =
     let mid : Box = handed box settled spool copy in
@@ -273,10 +273,10 @@ record IsWritten (m : Manner) (h : House) (b : ℕ) (box : Box) (note : Note) (o
   story : Story m (with_box h b (handed box settled spool copy))
 
 abbrev IsSetting : Server → House → Type 0
-IsSetting s h = (h.calendar ≡ s.calendar) × (h.host ≡ s.host) × (h.quota ≡ s.quota)
+IsSetting s h = (h.calendar ≡ s.calendar) × (h.site ≡ s.site) × (h.quota ≡ s.quota)
 
 record_is : (s : Server) (h : House) (post : Post) (note : Note) → IsSetting s h → post.note ≡ note
-    → record_of h.calendar h.host post.note ≡ record_of s.calendar s.host note
+    → record_of h.calendar h.site post.note ≡ record_of s.calendar s.site note
 record_is s h post note setting is = rw (setting.0, setting.1, is) refl
 
 over_is : (s : Server) (h : House) (box : Box) (post : Post) (note : Note) (faulty fit : Bool)
@@ -296,9 +296,9 @@ written : {m : Manner} (s : Server) (h : House) (b : ℕ) (box : Box) (note : No
     → Story m h
     → IsWritten m h b box note outcome between
 written s h b box note post Stored between setting is free_hand at same (sound, fit, after) story =
-    let whole : List ℕ = record_of s.calendar s.host note in
-    let e : record_of h.calendar h.host post.note ≡ whole = record_is s h post note setting same in
-    let size : length (record_of h.calendar h.host post.note) ≡ length whole = ap length e in
+    let whole : List ℕ = record_of s.calendar s.site note in
+    let e : record_of h.calendar h.site post.note ≡ whole = record_is s h post note setting same in
+    let size : length (record_of h.calendar h.site post.note) ≡ length whole = ap length e in
     let took = take_story h b box post false is free_hand at (over_is s h box post note false true setting same sound fit) story in
     let wrote = write_story h b box box box.settled (spooled box) (just_taken post false) whole [] is sound refl refl (e ∙ sym (append-nil whole)) took in
     let copy : Copy = more_of (just_taken post false) whole in
@@ -336,7 +336,7 @@ written s h b box note post Failed between setting is free_hand at same (inl (fa
       story = take_story h b box post false is free_hand at (over_is s h box post note true (fits_after s (spooled box) note) setting same faulty refl) story;
     }
 written s h b box note post Failed between setting is free_hand at same (inr tears) story =
-    let e : record_of h.calendar h.host post.note ≡ tears.torn ++ tears.rest = record_is s h post note setting same ∙ tears.parts in
+    let e : record_of h.calendar h.site post.note ≡ tears.torn ++ tears.rest = record_is s h post note setting same ∙ tears.parts in
     let took = take_story h b box post false is free_hand at (over_is s h box post note false true setting same tears.sound tears.fit) story in
     record {
       settled = box.settled;

@@ -6,12 +6,13 @@ use Rattle.mail_world.specs.declared.Outcome.TheVariants.{Stored, Failed, OverQu
 use Rattle.mail_world.specs.Records.{Calendar, record_of}
 use Rattle.mail_world.specs.Endings.{mended}
 use Rattle.mail_world.specs.Quotas.{fits}
+use Rattle.mail_world.specs.Site.{Site}
 
--- what stays while a server runs: the calendar and the host of its records, the limit of bytes for each mailbox, and
+-- what stays while a server runs: the calendar and the site of its records, the limit of bytes for each mailbox, and
 -- how many lanes and mailboxes there are
 pub record Server : Type 0 where
   pub calendar : Calendar
-  pub host : List ℕ
+  pub site : Site
   pub quota : Option ℕ
   pub lanes : ℕ
   pub boxes : ℕ
@@ -23,7 +24,7 @@ pub record Spooled : Type 0 where
 
 -- the copy's record may stand after what the spool holds
 abbrev pub fits_after : Server → Spooled → Note → Bool
-fits_after s old note = fits s.quota (length old.bytes) (length (record_of s.calendar s.host note))
+fits_after s old note = fits s.quota (length old.bytes) (length (record_of s.calendar s.site note))
 
 -- the spool failed within the record
 pub record Tears (s : Server) (note : Note) (old new : Spooled) : Type 0 where
@@ -31,13 +32,13 @@ pub record Tears (s : Server) (note : Note) (old new : Spooled) : Type 0 where
   pub fit : fits_after s old note ≡ true
   pub torn : List ℕ
   pub rest : List ℕ
-  pub parts : record_of s.calendar s.host note ≡ torn ++ rest
+  pub parts : record_of s.calendar s.site note ≡ torn ++ rest
   pub after : new ≡ record { bytes = old.bytes ++ torn; faulty = true }
 
 -- a copy, by what is told of it
 abbrev pub TakesOne : Server → Note → Outcome → Spooled → Spooled → Type 0
 TakesOne s note Stored old new = (old.faulty ≡ false) × (fits_after s old note ≡ true)
-    × (new ≡ record { bytes = old.bytes ++ record_of s.calendar s.host note; faulty = false })
+    × (new ≡ record { bytes = old.bytes ++ record_of s.calendar s.site note; faulty = false })
 TakesOne s note OverQuota old new = (old.faulty ≡ false) × (fits_after s old note ≡ false) × (new ≡ old)
 TakesOne s note Failed old new = ((old.faulty ≡ true) × (new ≡ old)) ⊎ Tears s note old new
 TakesOne s note _ old new = ⊥

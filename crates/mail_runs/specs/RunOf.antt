@@ -35,7 +35,7 @@ pub record IsRunOf (s : Server) (t : Threads) : Type 0 where
   pub run : List Happened
   pub starts : IsStart blocks start
   pub runs : Run start run
-  pub setting : (start.calendar ≡ s.calendar) × (start.host ≡ s.host) × (start.quota ≡ s.quota)
+  pub setting : (start.calendar ≡ s.calendar) × (start.site ≡ s.site) × (start.quota ≡ s.quota)
   pub as_many : (length start.boxes ≡ s.boxes) × (length start.lanes ≡ s.lanes)
   pub offered : (k b : ℕ) → b < s.boxes → offers_by k b (events_of run) ≡ of_lane k (t.courses b).taken
   pub mailboxes : (b : ℕ) (box : Box) → BoxIs (last_house start run) b box → EndsAs (t.courses b) box

@@ -84,7 +84,7 @@ abbrev pub Works : Box → Bool → Type 0
 Works box over = over ≡ true → box.faulty ≡ false
 
 pub works_over : (h : House) (box : Box) (note : Note) → is_over_quota h box note ≡ true → box.faulty ≡ false
-works_over h box note e = over_works box.faulty (fits h.quota (length box.spool) (length (record_of h.calendar h.host note))) e
+works_over h box note e = over_works box.faulty (fits h.quota (length box.spool) (length (record_of h.calendar h.site note))) e
 
 pub counted_take : (box : Box) (post : Post) (over : Bool) → box.hand ≡ None → Works box over → Counted box → Counted (with_taken box post over)
 counted_take box post over e works c = let k = counted_empty box e c in counts_take over box post works k.0 k.1
@@ -126,11 +126,11 @@ counted_release box copy e c =
       one = λ f y. k.one (or_parts box.faulty (not (is_settled copy)) f).0 y;
     }
 
-pub counted_give : (h : House) (box : Box) (copy : Copy) → box.hand ≡ Some copy → copy.released ≡ true → IsSound h.calendar h.host h.quota box → Counted box
+pub counted_give : (h : House) (box : Box) (copy : Copy) → box.hand ≡ Some copy → copy.released ≡ true → IsSound h.calendar h.site h.quota box → Counted box
     → Counted (record box { hand = None })
 counted_give h box copy e gone s c =
     let k = counted_hand box copy e c in
-    let in_hand = held h.calendar h.host h.quota box copy e s in (
+    let in_hand = held h.calendar h.site h.quota box copy e s in (
       (λ f. let now : box.settled ≡ suc k.before = k.one f (in_hand.sound gone f) in now ∙ sym k.last),
       (let bound = k.bound in let last = k.last in omega arith),
     )

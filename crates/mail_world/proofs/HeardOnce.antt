@@ -183,7 +183,7 @@ bounded_step h (Release w) new sound all st =
     box_alone h new w st.box _ (ap (λ (x : House). x.boxes) st.after) (ap (λ (x : House). x.lanes) st.after) st.is
     (ap (λ hand. drop (finished_by st.box.taken hand) st.box.accepted) (sym st.in_hand)) all
 bounded_step h (GiveSlip w o) new sound all st =
-    let hand = held h.calendar h.host h.quota st.box st.copy st.in_hand (sound w st.box st.is) in
+    let hand = held h.calendar h.site h.quota st.box st.copy st.in_hand (sound w st.box st.is) in
     let next : Lane = record st.lane { slips = st.lane.slips ++ slip_of w st.copy.post.note (outcome_of st.copy) ∷ [] } in
     let boxes : new.boxes ≡ slice_set h.boxes w (record st.box { hand = None }) = ap (λ (x : House). x.boxes) st.after in
     let way : (txn : Txn) (p : ℕ) → times_on_way txn p h.boxes ≡ times_on_way txn p new.boxes + cond (is_of txn p st.copy.post) 1 0 =
@@ -215,7 +215,7 @@ once_by false a b way old le h = omega arith
 
 pub every_run_hears_once : (blocks : ℕ) (start : House) (run : List Happened) → IsStart blocks start → Run start run → HearsOnce (last_house start run)
 every_run_hears_once blocks start run is r k lane at txn p =
-    let all = bounded_run start run (λ b box here. sound_fresh start.calendar start.host start.quota box (each_at IsFreshBox start.boxes b box is.boxes here))
+    let all = bounded_run start run (λ b box here. sound_fresh start.calendar start.site start.quota box (each_at IsFreshBox start.boxes b box is.boxes here))
     (bounded_start blocks start is) r in
     once_by (k == txn.lane) (times_named txn p lane.heard) (times_named txn p (drop lane.collected lane.slips)) _ _
     (given_once k (last_house start run) lane at (every_run_is_once blocks start run is r) txn.number p) (all k lane at txn p)

@@ -24,10 +24,10 @@ pub write_without_copy : (h new : House) (w : ℕ) (bytes : List ℕ) (box : Box
 write_without_copy h new w bytes box is none st = no_copy h w box st.box st.copy is st.is none st.in_hand
 
 pub write_of_other_bytes : (h new : House) (w : ℕ) (bytes : List ℕ) (box : Box) (copy : Copy) → BoxIs h w box → box.hand ≡ Some copy
-    → ((more : List ℕ) → drop copy.written (record_of h.calendar h.host copy.post.note) ≢ bytes ++ more) → WriteStep h w bytes new → ⊥
+    → ((more : List ℕ) → drop copy.written (record_of h.calendar h.site copy.post.note) ≢ bytes ++ more) → WriteStep h w bytes new → ⊥
 write_of_other_bytes h new w bytes box copy is hand other st =
     let same = same_copy h w box st.box copy st.copy is st.is hand st.in_hand in
-    other st.more (ap (λ (x : Copy). drop x.written (record_of h.calendar h.host x.post.note)) same ∙ st.next)
+    other st.more (ap (λ (x : Copy). drop x.written (record_of h.calendar h.site x.post.note)) same ∙ st.next)
 
 pub write_when_faulty : (h new : House) (w : ℕ) (bytes : List ℕ) (box : Box) → BoxIs h w box → box.faulty ≡ true → WriteStep h w bytes new → ⊥
 write_when_faulty h new w bytes box is faulty st =
@@ -43,10 +43,10 @@ pub sync_without_copy : (h new : House) (w : ℕ) (box : Box) → BoxIs h w box 
 sync_without_copy h new w box is none st = no_copy h w box st.box st.copy is st.is none st.in_hand
 
 pub sync_of_part : (h new : House) (w : ℕ) (box : Box) (copy : Copy) → BoxIs h w box → box.hand ≡ Some copy
-    → copy.written ≢ length (record_of h.calendar h.host copy.post.note) → SyncStep h w new → ⊥
+    → copy.written ≢ length (record_of h.calendar h.site copy.post.note) → SyncStep h w new → ⊥
 sync_of_part h new w box copy is hand part st =
     let same = same_copy h w box st.box copy st.copy is st.is hand st.in_hand in
-    part (subst (λ (x : Copy). x.written ≡ length (record_of h.calendar h.host x.post.note)) (sym same) st.whole)
+    part (subst (λ (x : Copy). x.written ≡ length (record_of h.calendar h.site x.post.note)) (sym same) st.whole)
 
 pub sync_when_faulty : (h new : House) (w : ℕ) (box : Box) → BoxIs h w box → box.faulty ≡ true → SyncStep h w new → ⊥
 sync_when_faulty h new w box is faulty st =

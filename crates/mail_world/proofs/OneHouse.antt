@@ -58,7 +58,7 @@ free_slot = record { generation = 0; held = Free }
 abbrev pub house₀ : ℕ → Option ℕ → List Slot → House
 house₀ capacity quota slots = record {
   calendar = calendar;
-  host = site.host;
+  site = site;
   quota = quota;
   capacity = capacity;
   depot = record { slots = slots; free = 0 ∷ 1 ∷ [] };

@@ -32,7 +32,7 @@ abbrev post₂ : Post
 post₂ = record { note = second; key = next }
 
 abbrev text : List ℕ
-text = record_of calendar site.host second
+text = record_of calendar site second
 
 abbrev pub start : House
 start = fresh 1 (Some (length text)) []
@@ -343,7 +343,7 @@ it_runs = (
   ),
 )
 
-pub it_shows : HasSpoolAndPlaces house₁₈ (mailbox calendar site.host [] (second ∷ [])) (Some Stored ∷ [])
+pub it_shows : HasSpoolAndPlaces house₁₈ (mailbox calendar site [] (second ∷ [])) (Some Stored ∷ [])
 unfolding everything
 it_shows = record { box = box₁₇; box_is = refl; spool_is = refl; lane = lane₁₈; lane_is = refl; places_are = refl }
 

@@ -75,13 +75,13 @@ take h w box is none more =
 
 pub write : (h : House) (w : ℕ) (bytes more : List ℕ) (box : Box) (copy : Copy) → BoxIs h w box → box.hand ≡ Some copy → copy.released ≡ false
     → is_settled copy ≡ false → box.faulty ≡ false
-    → drop copy.written (record_of h.calendar h.host copy.post.note) ≡ bytes ++ more → MayHappen h (Write w bytes)
+    → drop copy.written (record_of h.calendar h.site copy.post.note) ≡ bytes ++ more → MayHappen h (Write w bytes)
 write h w bytes more box copy is hand held unsettled sound next =
     (_, record { box = box; copy = copy; more = more; is = is; in_hand = hand; sound = sound; held = held; unsettled = unsettled; next = next; after = refl })
 
 pub sync : (h : House) (w : ℕ) (box : Box) (copy : Copy) → BoxIs h w box → box.hand ≡ Some copy → copy.released ≡ false → is_settled copy ≡ false
     → box.faulty ≡ false
-    → copy.written ≡ length (record_of h.calendar h.host copy.post.note) → MayHappen h (Sync w)
+    → copy.written ≡ length (record_of h.calendar h.site copy.post.note) → MayHappen h (Sync w)
 sync h w box copy is hand held unsettled sound whole =
     (_, record { box = box; copy = copy; is = is; in_hand = hand; sound = sound; held = held; unsettled = unsettled; whole = whole; after = refl })
 

@@ -8,6 +8,7 @@ use Rattle.mail_world.specs.declared.Note.{Note}
 use Rattle.mail_world.specs.Records.{Calendar, record_of, mailbox}
 use Rattle.mail_world.specs.Endings.{mended}
 use Rattle.mail_world.specs.Quotas.{fits, are_kept_after, are_kept, marked, kept}
+use Rattle.mail_world.specs.Site.{Site}
 
 -- what holds of all holds of those that are marked
 pub all_marked : {A : Type 0} (P : A → Type 0) (marks : List Bool) (xs : List A) → AllByRecursion P xs → AllByRecursion P (marked marks xs)
@@ -17,26 +18,26 @@ all_marked P (false ∷ marks) [] all = tt
 all_marked P (true ∷ marks) (x ∷ xs) all = (all.0, all_marked P marks xs all.1)
 all_marked P (false ∷ marks) (x ∷ xs) all = all_marked P marks xs all.1
 
-module _ (calendar : Calendar) (host : List ℕ) where
+module _ (calendar : Calendar) (site : Site) where
   abbrev size : Note → ℕ
-  size note = length (record_of calendar host note)
+  size note = length (record_of calendar site note)
 
   abbrev pub total : List Note → ℕ
-  total notes = length (flat_map (record_of calendar host) notes)
+  total notes = length (flat_map (record_of calendar site) notes)
 
   -- a note with its mark, and those after it
   pub grows_by : (t : Bool) (len : ℕ) (note : Note) (notes : List Note) (marks : List Bool)
       → (if t then len + size note else len) + total (marked marks notes) ≡ len + total (marked (t ∷ marks) (note ∷ notes))
   grows_by true len note notes marks =
-      let e = length-append (record_of calendar host note) (flat_map (record_of calendar host) (marked marks notes)) in omega (arith, e)
+      let e = length-append (record_of calendar site note) (flat_map (record_of calendar site) (marked marks notes)) in omega (arith, e)
   grows_by false len note notes marks = refl
 
   -- the bytes that stand there after these notes
   abbrev pub length_after : Option ℕ → ℕ → List Note → ℕ
-  length_after quota len notes = len + total (marked (are_kept_after calendar host quota len notes) notes)
+  length_after quota len notes = len + total (marked (are_kept_after calendar site quota len notes) notes)
 
   pub next_after : (quota : Option ℕ) (len : ℕ) (notes : List Note) (note : Note)
-      → are_kept_after calendar host quota len (notes ++ note ∷ []) ≡ are_kept_after calendar host quota len notes
+      → are_kept_after calendar site quota len (notes ++ note ∷ []) ≡ are_kept_after calendar site quota len notes
       ++ fits quota (length_after quota len notes) (size note) ∷ []
   next_after quota len [] note = let e : len ≡ len + 0 = omega arith in ap (λ n. fits quota n (size note) ∷ []) e
   next_after quota len (x ∷ notes) note =
@@ -44,11 +45,11 @@ module _ (calendar : Calendar) (host : List ℕ) where
       let after = if t then len + size x else len in
       ap (λ l. t ∷ l) (
       next_after quota after notes note
-      ∙ ap (λ n. are_kept_after calendar host quota after notes ++ fits quota n (size note) ∷ [])
-      (grows_by t len x notes (are_kept_after calendar host quota after notes))
+      ∙ ap (λ n. are_kept_after calendar site quota after notes ++ fits quota n (size note) ∷ [])
+      (grows_by t len x notes (are_kept_after calendar site quota after notes))
       )
 
-  pub all_after : (len : ℕ) (notes : List Note) → marked (are_kept_after calendar host None len notes) notes ≡ notes
+  pub all_after : (len : ℕ) (notes : List Note) → marked (are_kept_after calendar site None len notes) notes ≡ notes
   all_after len [] = refl
   all_after len (note ∷ notes) = ap (λ l. note ∷ l) (all_after (len + size note) notes)
 
@@ -62,26 +63,26 @@ module _ (calendar : Calendar) (host : List ℕ) where
       let t = nat_le (len + size note) quota in
       let after = if t then len + size note else len in
       let rest = within_after quota after notes (within_by t quota len (size note) refl h) in
-      subst (λ n. n ≤ quota) (grows_by t len note notes (are_kept_after calendar host (Some quota) after notes)) rest
+      subst (λ n. n ≤ quota) (grows_by t len note notes (are_kept_after calendar site (Some quota) after notes)) rest
 
-  long : (old : List ℕ) (notes : List Note) → length (old ++ mended old) + total notes ≡ length (mailbox calendar host old notes)
-  long old notes = sym (length-append (old ++ mended old) (flat_map (record_of calendar host) notes))
+  long : (old : List ℕ) (notes : List Note) → length (old ++ mended old) + total notes ≡ length (mailbox calendar site old notes)
+  long old notes = sym (length-append (old ++ mended old) (flat_map (record_of calendar site) notes))
 
-  pub all_kept : (old : List ℕ) (notes : List Note) → kept calendar host None old notes ≡ notes
+  pub all_kept : (old : List ℕ) (notes : List Note) → kept calendar site None old notes ≡ notes
   unfolding are_kept
   all_kept old notes = all_after (length (old ++ mended old)) notes
 
   pub kept_next : (quota : Option ℕ) (old : List ℕ) (notes : List Note) (note : Note)
-      → are_kept calendar host quota old (notes ++ note ∷ [])
-      ≡ are_kept calendar host quota old notes
-      ++ fits quota (length (mailbox calendar host old (kept calendar host quota old notes))) (length (record_of calendar host note)) ∷ []
+      → are_kept calendar site quota old (notes ++ note ∷ [])
+      ≡ are_kept calendar site quota old notes
+      ++ fits quota (length (mailbox calendar site old (kept calendar site quota old notes))) (length (record_of calendar site note)) ∷ []
   unfolding are_kept
   kept_next quota old notes note =
       next_after quota (length (old ++ mended old)) notes note
-      ∙ ap (λ n. are_kept calendar host quota old notes ++ fits quota n (size note) ∷ []) (long old (kept calendar host quota old notes))
+      ∙ ap (λ n. are_kept calendar site quota old notes ++ fits quota n (size note) ∷ []) (long old (kept calendar site quota old notes))
 
   pub kept_within : (quota : ℕ) (old : List ℕ) (notes : List Note) → length (old ++ mended old) ≤ quota
-      → length (mailbox calendar host old (kept calendar host (Some quota) old notes)) ≤ quota
+      → length (mailbox calendar site old (kept calendar site (Some quota) old notes)) ≤ quota
   unfolding are_kept
   kept_within quota old notes h =
-      subst (λ n. n ≤ quota) (long old (kept calendar host (Some quota) old notes)) (within_after quota (length (old ++ mended old)) notes h)
+      subst (λ n. n ≤ quota) (long old (kept calendar site (Some quota) old notes)) (within_after quota (length (old ++ mended old)) notes h)

@@ -9,6 +9,7 @@ use Rattle.mail_world.specs.Endings.{mended}
 use Rattle.mail_world.specs.Quotas.{fits, are_kept_after, are_kept, kept, marked, outcomes_settled}
 use Rattle.mail_world.specs.Slips.{slip_of, slips_from}
 use Rattle.mail_world.proofs.Quotas.{kept_next}
+use Rattle.mail_world.specs.Site.{Site}
 
 pub slips_from-append : (w : ℕ) (outcomes : List Outcome) (outcome : Outcome) (notes : List Note) (note : Note) → length outcomes ≡ length notes
     → slips_from w (outcomes ++ outcome ∷ []) (notes ++ note ∷ []) ≡ slips_from w outcomes notes ++ slip_of w note outcome ∷ []
@@ -51,52 +52,52 @@ marked-append (t ∷ marks) m [] x e = cc
 marked-append (true ∷ marks) m (y ∷ ys) x e = ap (λ l. y ∷ l) (marked-append marks m ys x (omega (arith, e)))
 marked-append (false ∷ marks) m (y ∷ ys) x e = marked-append marks m ys x (omega (arith, e))
 
-module _ (calendar : Calendar) (host : List ℕ) (quota : Option ℕ) where
-  pub length-kept_after : (notes : List Note) (len : ℕ) → length (are_kept_after calendar host quota len notes) ≡ length notes
+module _ (calendar : Calendar) (site : Site) (quota : Option ℕ) where
+  pub length-kept_after : (notes : List Note) (len : ℕ) → length (are_kept_after calendar site quota len notes) ≡ length notes
   length-kept_after [] len = refl
   length-kept_after (note ∷ notes) len =
-      let size = length (record_of calendar host note) in
+      let size = length (record_of calendar site note) in
       ap (λ k. suc k) (length-kept_after notes (if fits quota len size then len + size else len))
 
-  pub length-are_kept : (old : List ℕ) (notes : List Note) → length (are_kept calendar host quota old notes) ≡ length notes
+  pub length-are_kept : (old : List ℕ) (notes : List Note) → length (are_kept calendar site quota old notes) ≡ length notes
   unfolding are_kept
   length-are_kept old notes = length-kept_after notes (length (old ++ mended old))
 
   -- the record of the note may stand after those that the mailbox keeps of these
   abbrev pub fits_after : List ℕ → List Note → Note → Bool
-  fits_after old notes note = fits quota (length (mailbox calendar host old (kept calendar host quota old notes))) (length (record_of calendar host note))
+  fits_after old notes note = fits quota (length (mailbox calendar site old (kept calendar site quota old notes))) (length (record_of calendar site note))
 
   abbrev outcomes : ℕ → List ℕ → List Note → List Outcome
-  outcomes n old notes = outcomes_settled n (are_kept calendar host quota old notes)
+  outcomes n old notes = outcomes_settled n (are_kept calendar site quota old notes)
 
   pub slips_more : (w n : ℕ) (old : List ℕ) (notes : List Note) (note : Note) (outcome : Outcome)
       → outcomes n old (notes ++ note ∷ []) ≡ outcomes n old notes ++ outcome ∷ []
       → slips_from w (outcomes n old (notes ++ note ∷ [])) (notes ++ note ∷ []) ≡ slips_from w (outcomes n old notes) notes ++ slip_of w note outcome ∷ []
   slips_more w n old notes note outcome e =
       ap (λ os. slips_from w os (notes ++ note ∷ [])) e
-      ∙ slips_from-append w (outcomes n old notes) outcome notes note (length-outcomes n (are_kept calendar host quota old notes) ∙ length-are_kept old notes)
+      ∙ slips_from-append w (outcomes n old notes) outcome notes note (length-outcomes n (are_kept calendar site quota old notes) ∙ length-are_kept old notes)
 
   pub settled_next : (n : ℕ) (old : List ℕ) (notes : List Note) (note : Note) → length notes < n
       → outcomes n old (notes ++ note ∷ []) ≡ outcomes n old notes ++ (if fits_after old notes note then Stored else OverQuota) ∷ []
   settled_next n old notes note h =
-      ap (outcomes_settled n) (kept_next calendar host quota old notes note)
-      ∙ settled_more n (are_kept calendar host quota old notes) (fits_after old notes note) (omega (arith, h, length-are_kept old notes))
+      ap (outcomes_settled n) (kept_next calendar site quota old notes note)
+      ∙ settled_more n (are_kept calendar site quota old notes) (fits_after old notes note) (omega (arith, h, length-are_kept old notes))
 
   pub failed_next : (n : ℕ) (old : List ℕ) (notes : List Note) (note : Note) → n ≤ length notes
       → outcomes n old (notes ++ note ∷ []) ≡ outcomes n old notes ++ Failed ∷ []
   failed_next n old notes note h =
-      ap (outcomes_settled n) (kept_next calendar host quota old notes note)
-      ∙ failed_more n (are_kept calendar host quota old notes) (fits_after old notes note) (omega (arith, h, length-are_kept old notes))
+      ap (outcomes_settled n) (kept_next calendar site quota old notes note)
+      ∙ failed_more n (are_kept calendar site quota old notes) (fits_after old notes note) (omega (arith, h, length-are_kept old notes))
 
   pub slips_settled : (w n m : ℕ) (old : List ℕ) (notes : List Note) → length notes ≤ n → length notes ≤ m
       → slips_from w (outcomes n old notes) notes ≡ slips_from w (outcomes m old notes) notes
   slips_settled w n m old notes h i =
       let e = length-are_kept old notes in
-      ap (λ os. slips_from w os notes) (all_settled n m (are_kept calendar host quota old notes) (omega (arith, h, e)) (omega (arith, i, e)))
+      ap (λ os. slips_from w os notes) (all_settled n m (are_kept calendar site quota old notes) (omega (arith, h, e)) (omega (arith, i, e)))
 
   -- what the mailbox keeps of one more copy
   pub keeps_more : (old : List ℕ) (notes : List Note) (note : Note)
-      → kept calendar host quota old (notes ++ note ∷ []) ≡ kept calendar host quota old notes ++ (if fits_after old notes note then note ∷ [] else [])
+      → kept calendar site quota old (notes ++ note ∷ []) ≡ kept calendar site quota old notes ++ (if fits_after old notes note then note ∷ [] else [])
   keeps_more old notes note =
-      ap (λ marks. marked marks (notes ++ note ∷ [])) (kept_next calendar host quota old notes note)
-      ∙ marked-append (are_kept calendar host quota old notes) (fits_after old notes note) notes note (length-are_kept old notes)
+      ap (λ marks. marked marks (notes ++ note ∷ [])) (kept_next calendar site quota old notes note)
+      ∙ marked-append (are_kept calendar site quota old notes) (fits_after old notes note) notes note (length-are_kept old notes)

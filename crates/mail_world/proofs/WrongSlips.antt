@@ -13,7 +13,7 @@ use Rattle.mail_world.proofs.Spools.{AllSound, IsInHand, held}
 use Rattle.mail_world.proofs.Given.{told_run, told_start, failed_by}
 
 abbrev HandOf : House → Box → Copy → Type 0
-HandOf h box copy = IsInHand h.calendar h.host h.quota box.old box.faulty box.accepted box.taken copy
+HandOf h box copy = IsInHand h.calendar h.site h.quota box.old box.faulty box.accepted box.taken copy
 
 -- whether the copy in hand fits
 fits_in_hand : (h : House) (box : Box) (copy : Copy) → box.hand ≡ Some copy → HandOf h box copy → box.faulty ≡ false
@@ -21,12 +21,12 @@ fits_in_hand : (h : House) (box : Box) (copy : Copy) → box.hand ≡ Some copy 
 fits_in_hand h box copy hand k works =
     let one : k.before ≡ box.taken - 1 = let last = k.last in omega arith in
     k.measured works
-    ∙ ap (λ n. not (fits_after h.calendar h.host h.quota box.old (notes_of (take n box.accepted)) copy.post.note)) (one ∙ ap (finished_by box.taken) (sym hand))
+    ∙ ap (λ n. not (fits_after h.calendar h.site h.quota box.old (notes_of (take n box.accepted)) copy.post.note)) (one ∙ ap (finished_by box.taken) (sym hand))
 
 -- a copy that is settled is over the quota just where it doesn't fit
 module _ (h : House) (all : AllSound h) (new : House) (w : ℕ) (box : Box) (at : BoxIs h w box) where
   in_hand : (copy : Copy) → box.hand ≡ Some copy → HandOf h box copy
-  in_hand copy hand = held h.calendar h.host h.quota box copy hand (all w box at)
+  in_hand copy hand = held h.calendar h.site h.quota box copy hand (all w box at)
 
   -- the step's copy is the one in hand
   hand_of : (other : Box) (copy : Copy) → BoxIs h w other → other.hand ≡ Some copy → box.hand ≡ Some copy

@@ -1,6 +1,6 @@
--- What a command line means (RFC 5321, 4.1.1; RFC 2033, 4.1; RFC 1870, 3; RFC 6152, 2). The first rule that fits
--- decides.
-use Rattle.std.specs.Prelude.{ℕ, ◌-◌, Bool, false, not, ◌&&◌, ◌||◌, ◌==◌, nat_lt, List, [], ◌∷◌, length, take, drop}
+-- What a command line means (RFC 5321, 4.1.1; RFC 2033, 4.1; RFC 1870, 3; RFC 6152, 2; RFC 6531, 3). The first rule
+-- that fits decides.
+use Rattle.std.specs.Prelude.{ℕ, ◌-◌, Bool, true, false, not, ◌&&◌, ◌||◌, ◌==◌, nat_lt, List, [], ◌∷◌, length, take, drop}
 use Rattle.std.specs.Prelude.{filter, if◌then◌else◌, Option, Some, None, Result, Ok, Err, codes}
 use Rattle.std.specs.List.{list_any, list_all, prefix_len, suffix_len, before_first, after_first, slice_split}
 use Rattle.std.specs.List.{filter_map}
@@ -11,12 +11,14 @@ use Rattle.mail_world.specs.declared.BadCommand.{BadCommand}
 use Rattle.mail_world.specs.declared.BadCommand.TheVariants as bad
 use Rattle.mail_world.specs.declared.limits.TheConstants.{NAME_LIMIT, SIZE_DIGIT_LIMIT, MESSAGE_LIMIT}
 use Rattle.mail_world.specs.Text.{has_byte, space, tab, begins}
+use Rattle.mail_world.specs.Extensions.{Extensions}
 use Rattle.mail_world.specs.Grammar.{is_between, is_visible, Target}
 use Rattle.mail_world.specs.Paths.{Found, Path, reverse_path, forward_path}
 
+-- MAIL names the sender, and says whether it has the parameter SMTPUTF8
 pub data Command : Type 0 where
   Lhlo : (client : List ℕ) → Command
-  Mail : (sender : List ℕ) → Command
+  Mail : (sender : List ℕ) (utf8 : Bool) → Command
   Rcpt : (target : Target) → Command
   StartData : Command
   Rset : Command
@@ -79,11 +81,21 @@ abbrev pub is_body_value : Option (List ℕ) → Bool
 is_body_value None = false
 is_body_value (Some v) = is_word (codes "7BIT") v || is_word (codes "8BITMIME") v
 
-abbrev pub is_known : Parameter → Bool
-is_known p = has_keyword (codes "SIZE") p || has_keyword (codes "BODY") p
+-- a parameter that has no value, not even an empty one (RFC 6531, 3.4)
+abbrev pub has_no_value : Option (List ℕ) → Bool
+has_no_value None = true
+has_no_value (Some v) = false
+
+-- `utf8`: the site offers SMTPUTF8
+abbrev pub is_known : Bool → Parameter → Bool
+is_known utf8 p =
+    has_keyword (codes "SIZE") p || has_keyword (codes "BODY") p || utf8 && has_keyword (codes "SMTPUTF8") p
 
 abbrev pub is_well_valued : Parameter → Bool
-is_well_valued p = if has_keyword (codes "SIZE") p then is_size_value p.value else is_body_value p.value
+is_well_valued p =
+    if has_keyword (codes "SIZE") p then is_size_value p.value
+    else if has_keyword (codes "BODY") p then is_body_value p.value
+    else has_no_value p.value
 
 abbrev pub stands_twice : List ℕ → List Parameter → Bool
 stands_twice word ps = nat_lt 1 (length (filter (has_keyword word) ps))
@@ -95,14 +107,14 @@ is_above_limit limit (Some digits) = nat_lt limit (digits_value 10 digits)
 abbrev pub is_too_large : ℕ → Parameter → Bool
 is_too_large limit p = has_keyword (codes "SIZE") p && is_above_limit limit p.value
 
--- MAIL with a path and parameters under a limit of bytes, RCPT with a path and parameters
-abbrev pub mail_with : ℕ → List ℕ → List Parameter → Answer
-mail_with limit sender ps =
-    if not (list_all is_known ps) then Err bad.Parameter
+-- MAIL with a path and parameters at a site with these extensions, RCPT with a path and parameters
+abbrev pub mail_with : Extensions → List ℕ → List Parameter → Answer
+mail_with offered sender ps =
+    if not (list_all (is_known offered.utf8) ps) then Err bad.Parameter
     else if not (list_all is_well_valued ps) || stands_twice (codes "SIZE") ps
-    || stands_twice (codes "BODY") ps then Err bad.Arguments
-    else if list_any (is_too_large limit) ps then Err bad.TooLarge
-    else Ok (Mail sender)
+    || stands_twice (codes "BODY") ps || stands_twice (codes "SMTPUTF8") ps then Err bad.Arguments
+    else if list_any (is_too_large offered.message_limit) ps then Err bad.TooLarge
+    else Ok (Mail sender (list_any (has_keyword (codes "SMTPUTF8")) ps))
 
 abbrev pub rcpt_with : Target → List Parameter → Answer
 rcpt_with target [] = Ok (Rcpt target)
@@ -113,30 +125,30 @@ abbrev pub ends_path : List ℕ → Bool
 ends_path rest = is_empty rest || begins space rest
 
 -- what stands after `FROM:`, after `TO:`
-abbrev pub mail_path : ℕ → Option (Found (List ℕ)) → Answer
-mail_path limit None = Err bad.SenderSyntax
-mail_path limit (Some found) =
-    if ends_path found.rest then mail_with limit found.value (parameters found.rest) else Err bad.SenderSyntax
+abbrev pub mail_path : Extensions → Option (Found (List ℕ)) → Answer
+mail_path offered None = Err bad.SenderSyntax
+mail_path offered (Some found) =
+    if ends_path found.rest then mail_with offered found.value (parameters found.rest) else Err bad.SenderSyntax
 
 abbrev pub rcpt_path : Option (Found Path) → Answer
 rcpt_path None = Err bad.RecipientSyntax
 rcpt_path (Some found) =
     if ends_path found.rest then rcpt_with found.value.target (parameters found.rest) else Err bad.RecipientSyntax
 
-abbrev pub mail : ℕ → Option (List ℕ) → Answer
-mail limit None = Err bad.Arguments
-mail limit (Some text) = mail_path limit (reverse_path text)
+abbrev pub mail : Extensions → Option (List ℕ) → Answer
+mail offered None = Err bad.Arguments
+mail offered (Some text) = mail_path offered (reverse_path offered.utf8 text)
 
-abbrev pub rcpt : Option (List ℕ) → Answer
-rcpt None = Err bad.Arguments
-rcpt (Some text) = rcpt_path (forward_path text)
+abbrev pub rcpt : Extensions → Option (List ℕ) → Answer
+rcpt offered None = Err bad.Arguments
+rcpt offered (Some text) = rcpt_path (forward_path offered.utf8 text)
 
 -- a command that stands alone
 abbrev pub alone : Command → List ℕ → Answer
 alone c rest = if is_empty rest then Ok c else Err bad.Arguments
 
-abbrev pub by_verb : ℕ → List ℕ → List ℕ → Answer
-by_verb limit verb rest =
+abbrev pub by_verb : Extensions → List ℕ → List ℕ → Answer
+by_verb offered verb rest =
     if is_word (codes "HELO") verb || is_word (codes "EHLO") verb then Err bad.NotHere
     else if is_word (codes "EXPN") verb then Err bad.NotDone
     else if is_word (codes "NOOP") verb then Ok Noop
@@ -146,16 +158,19 @@ by_verb limit verb rest =
     else if is_word (codes "RSET") verb then alone Rset rest
     else if is_word (codes "QUIT") verb then alone Quit rest
     else if is_word (codes "LHLO") verb then (if is_client_name rest then Ok (Lhlo rest) else Err bad.ClientName)
-    else if is_word (codes "MAIL") verb then mail limit (after_label (codes "FROM:") rest)
-    else if is_word (codes "RCPT") verb then rcpt (after_label (codes "TO:") rest)
+    else if is_word (codes "MAIL") verb then mail offered (after_label (codes "FROM:") rest)
+    else if is_word (codes "RCPT") verb then rcpt offered (after_label (codes "TO:") rest)
     else Err bad.Unknown
 
--- The verb stands before the first space, the rest after it and after further spaces. The limit is that of a message.
-unfoldable pub command_at : ℕ → List ℕ → Answer
-command_at limit line =
+-- The verb stands before the first space, the rest after it and after further spaces.
+unfoldable pub command_at : Extensions → List ℕ → Answer
+command_at offered line =
     let w = trimmed line in
-    by_verb limit (before_first (λ b. b == space) w) (after_spaces (after_first (λ b. b == space) w))
+    by_verb offered (before_first (λ b. b == space) w) (after_spaces (after_first (λ b. b == space) w))
 
--- so it is where the site names no other limit
+-- so it is where the site names no other limit, and offers no UTF-8
+abbrev pub usual_extensions : Extensions
+usual_extensions = record { message_limit = MESSAGE_LIMIT; utf8 = false }
+
 abbrev pub command : List ℕ → Answer
-command line = command_at MESSAGE_LIMIT line
+command line = command_at usual_extensions line

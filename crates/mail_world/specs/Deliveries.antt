@@ -32,6 +32,6 @@ unfoldable pub outcomes_told : Site → ℕ → List Conversation → List Outco
 outcomes_told site box cs = told_all box (transactions site 0 cs)
 
 -- after the whole records there is nothing, or a prefix of the record of the first copy that is lost
-abbrev pub IsTorn : Calendar → List ℕ → List Note → List ℕ → Type 0
-IsTorn calendar host [] torn = torn ≡ []
-IsTorn calendar host (note ∷ lost) torn = IsPrefix torn (record_of calendar host note)
+abbrev pub IsTorn : Calendar → Site → List Note → List ℕ → Type 0
+IsTorn calendar site [] torn = torn ≡ []
+IsTorn calendar site (note ∷ lost) torn = IsPrefix torn (record_of calendar site note)

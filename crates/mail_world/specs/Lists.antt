@@ -65,6 +65,7 @@ copies_from lane t place (box ∷ boxes) =
       mailbox = box;
       sender = t.session.sender;
       client = t.session.client;
+      utf8 = t.session.utf8;
       moment = t.disposition.moment;
       message = t.message;
     } ∷ copies_from lane t (place + 1) boxes

@@ -13,16 +13,16 @@ fits None len size = true
 fits (Some quota) len size = nat_le (len + size) quota
 
 -- for each note whether it is kept after that many bytes, which grow by the record of a note that is
-abbrev pub are_kept_after : Calendar → List ℕ → Option ℕ → ℕ → List Note → List Bool
-are_kept_after calendar host quota len [] = []
-are_kept_after calendar host quota len (note ∷ notes) =
-    let size = length (record_of calendar host note) in
+abbrev pub are_kept_after : Calendar → Site → Option ℕ → ℕ → List Note → List Bool
+are_kept_after calendar site quota len [] = []
+are_kept_after calendar site quota len (note ∷ notes) =
+    let size = length (record_of calendar site note) in
     let is_kept = fits quota len size in
-    is_kept ∷ are_kept_after calendar host quota (if is_kept then len + size else len) notes
+    is_kept ∷ are_kept_after calendar site quota (if is_kept then len + size else len) notes
 
 -- the first stand after the old bytes and what mends them, which no quota refuses
-unfoldable pub are_kept : Calendar → List ℕ → Option ℕ → List ℕ → List Note → List Bool
-are_kept calendar host quota old notes = are_kept_after calendar host quota (length (old ++ mended old)) notes
+unfoldable pub are_kept : Calendar → Site → Option ℕ → List ℕ → List Note → List Bool
+are_kept calendar site quota old notes = are_kept_after calendar site quota (length (old ++ mended old)) notes
 
 -- the elements that are marked
 abbrev pub marked : {A : Type 0} → List Bool → List A → List A
@@ -31,8 +31,8 @@ marked (false ∷ marks) (x ∷ xs) = marked marks xs
 marked _ _ = []
 
 -- the notes that a mailbox keeps which held these bytes
-abbrev pub kept : Calendar → List ℕ → Option ℕ → List ℕ → List Note → List Note
-kept calendar host quota old notes = marked (are_kept calendar host quota old notes) notes
+abbrev pub kept : Calendar → Site → Option ℕ → List ℕ → List Note → List Note
+kept calendar site quota old notes = marked (are_kept calendar site quota old notes) notes
 
 -- what is told of notes, by whether each is kept: that many, the first ones, were settled, so that a kept one is
 -- Stored and any other OverQuota; those after them are Failed

@@ -1,6 +1,6 @@
 -- The session (RFC 5321, 4.1.4, for the order of commands; RFC 2033, 4.2, for a reply to each recipient after the
 -- data).
-use Rattle.std.specs.Prelude.{ℕ, nat_lt, List, [], ◌∷◌, ◌++◌, length, zip, map, if◌then◌else◌, Option, Some, None}
+use Rattle.std.specs.Prelude.{ℕ, Bool, false, nat_lt, List, [], ◌∷◌, ◌++◌, length, zip, map, if◌then◌else◌, Option, Some, None}
 use Rattle.std.specs.Prelude.{Result, Ok, Err}
 use Rattle.mail_world.specs.declared.Outcome.{Outcome}
 use Rattle.mail_world.specs.declared.Outcome.TheVariants as outcomes
@@ -12,19 +12,21 @@ use Rattle.mail_world.specs.declared.BadCommand.{BadCommand}
 use Rattle.mail_world.specs.declared.Reply.{Reply}
 use Rattle.mail_world.specs.declared.Reply.TheVariants as replies
 use Rattle.mail_world.specs.declared.limits.TheConstants.{RECIPIENT_LIMIT}
-use Rattle.mail_world.specs.Site.{Site}
+use Rattle.mail_world.specs.Site.{Site, extensions_of}
 use Rattle.mail_world.specs.Commands.{Command, Lhlo, Mail, Rcpt, StartData, Rset, Noop, Quit, Vrfy, Help, command_at}
 use Rattle.mail_world.specs.Targets.{box_of}
 
--- where the session stands, the client's name, the sender, and the mailbox of each accepted recipient in their order
+-- where the session stands, the client's name, the sender, whether MAIL had the parameter SMTPUTF8, and the mailbox of
+-- each accepted recipient in their order
 pub record Session : Type 0 where
   pub state : State
   pub client : List ℕ
   pub sender : List ℕ
+  pub utf8 : Bool
   pub recipients : List ℕ
 
 abbrev pub fresh : Session
-fresh = record { state = Fresh; client = []; sender = []; recipients = [] }
+fresh = record { state = Fresh; client = []; sender = []; utf8 = false; recipients = [] }
 
 -- what a session is given: a line without its CRLF, a line that is too long, what was found at the end of data, what
 -- became of the copies, the order to stop
@@ -45,24 +47,23 @@ says r s = record { replies = r ∷ []; next = s }
 
 -- the session in another state
 abbrev pub moved_to : State → Session → Session
-moved_to state s = record { state = state; client = s.client; sender = s.sender; recipients = s.recipients }
+moved_to state s = record s { state = state }
 
 -- sender and recipients are forgotten
 abbrev pub greeted : List ℕ → Session
-greeted client = record { state = Greeted; client = client; sender = []; recipients = [] }
+greeted client = record { state = Greeted; client = client; sender = []; utf8 = false; recipients = [] }
 
-abbrev pub on_mail : State → Session → List ℕ → Transition
-on_mail Greeted s sender =
-    says replies.SenderOk (record { state = Sender; client = s.client; sender = sender; recipients = [] })
-on_mail _ s sender = says replies.OutOfOrder s
+abbrev pub on_mail : State → Session → List ℕ → Bool → Transition
+on_mail Greeted s sender utf8 =
+    says replies.SenderOk (record { state = Sender; client = s.client; sender = sender; utf8 = utf8; recipients = [] })
+on_mail _ s sender utf8 = says replies.OutOfOrder s
 
 -- a recipient whose mailbox is known, or isn't
 abbrev pub add_recipient : Session → Option ℕ → Transition
 add_recipient s None = says replies.NoSuchBox s
 add_recipient s (Some box) =
     if nat_lt (length s.recipients) RECIPIENT_LIMIT
-    then says replies.RecipientOk
-    (record { state = Recipients; client = s.client; sender = s.sender; recipients = s.recipients ++ box ∷ [] })
+    then says replies.RecipientOk (record s { state = Recipients; recipients = s.recipients ++ box ∷ [] })
     else says replies.TooMany s
 
 abbrev pub on_rcpt : State → Session → Option ℕ → Transition
@@ -81,7 +82,7 @@ on_rset _ s = says replies.ResetOk (greeted s.client)
 abbrev pub on_command : Site → Session → Result Command BadCommand → Transition
 on_command site s (Err why) = says (replies.Refused why) s
 on_command site s (Ok (Lhlo client)) = says replies.Offer (greeted client)
-on_command site s (Ok (Mail sender)) = on_mail s.state s sender
+on_command site s (Ok (Mail sender utf8)) = on_mail s.state s sender utf8
 on_command site s (Ok (Rcpt target)) = on_rcpt s.state s (box_of site target)
 on_command site s (Ok StartData) = on_data s.state s
 on_command site s (Ok Rset) = on_rset s.state s
@@ -108,7 +109,7 @@ on_verdict s verdicts.NoRoom = record { replies = result_for_all outcomes.NoRoom
 -- The table. A line comes in the first four states, a verdict in Content, outcomes in Waiting, one for each recipient,
 -- and stop in any of the first five.
 abbrev pub step : Site → Session → Input → Transition
-step site s (Line text) = on_command site s (command_at site.message_limit text)
+step site s (Line text) = on_command site s (command_at (extensions_of site) text)
 step site s LongLine = says replies.LineTooLong s
 step site s (DataEnded verdict) = on_verdict s verdict
 step site s (Outcomes os) = record { replies = results os s.recipients; next = greeted s.client }

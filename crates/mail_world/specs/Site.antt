@@ -7,15 +7,23 @@ use Rattle.std.specs.Str.{byte, bytes_eq}
 use Rattle.mail_world.specs.declared.limits.TheConstants.{NAME_LIMIT, BOX_NAME_LIMIT, BOX_LIMIT, LEAST_MESSAGE_LIMIT}
 use Rattle.mail_world.specs.declared.limits.TheConstants.{LARGEST_MESSAGE_LIMIT}
 use Rattle.mail_world.specs.Text.{has_byte, begins}
+use Rattle.mail_world.specs.Extensions.{Extensions}
 
--- the host's name, the further domains, the names of the mailboxes, how many bytes a message may have, and the byte
--- that parts user and detail of a recipient's address, if one does (RFC 5233)
+-- the host's name, the further domains, the names of the mailboxes, how many bytes a message may have, the byte that
+-- parts user and detail of a recipient's address, if one does (RFC 5233), whether addresses may be in UTF-8 (RFC 6531),
+-- and whether records have the marks in a message's head renamed
 pub record Site : Type 0 where
   pub host : List ℕ
   pub domains : List (List ℕ)
   pub boxes : List (List ℕ)
   pub message_limit : ℕ
   pub recipient_delimiter : Option ℕ
+  pub utf8 : Bool
+  pub renames_marks : Bool
+
+-- what the site offers of the extensions that name something
+abbrev pub extensions_of : Site → Extensions
+extensions_of site = record { message_limit = site.message_limit; utf8 = site.utf8 }
 
 -- the name of the mailbox with the number
 abbrev pub box_name : Site → ℕ → List ℕ
@@ -26,6 +34,13 @@ abbrev pub is_host_name : List ℕ → Bool
 is_host_name text =
     nat_le 1 (length text) && nat_le (length text) NAME_LIMIT
     && list_all (λ b. is_ascii_alphanumeric b || has_byte (codes "-.") b) text
+
+-- in the place of a domain, each one
+abbrev pub any_domain : List ℕ
+any_domain = codes "*"
+
+abbrev pub is_domain_name : List ℕ → Bool
+is_domain_name text = bytes_eq any_domain text || is_host_name text
 
 -- a mailbox's name, which is a file's name too
 abbrev pub is_box_name : List ℕ → Bool
@@ -52,7 +67,7 @@ pub data Fault : Type 0 where
 abbrev pub fault_of : Site → Option Fault
 fault_of site =
     if not (is_host_name site.host) then Some BadHost
-    else if not (list_all is_host_name site.domains) then Some BadDomain
+    else if not (list_all is_domain_name site.domains) then Some BadDomain
     else if (length site.boxes == 0) || nat_lt BOX_LIMIT (length site.boxes) then Some BadCount
     else if not (list_all is_box_name site.boxes) then Some BadBox
     else if has_twice site.boxes then Some NamedTwice

@@ -23,45 +23,45 @@ pub data Turn : Type 0 where
   Had : Standing → Standing → Turn
 
 -- what a turn that stores appends: what mends the bytes at the lock, and the record
-abbrev pub addition : Calendar → List ℕ → Note → List ℕ → List ℕ
-addition calendar host note bytes = mended bytes ++ record_of calendar host note
+abbrev pub addition : Calendar → Site → Note → List ℕ → List ℕ
+addition calendar site note bytes = mended bytes ++ record_of calendar site note
 
 -- the bytes at the lock, what mends them and the record are together within the quota
-abbrev pub has_room : Calendar → List ℕ → Option ℕ → Note → List ℕ → Bool
-has_room calendar host quota note bytes =
-    fits quota (length (bytes ++ mended bytes)) (length (record_of calendar host note))
+abbrev pub has_room : Calendar → Site → Option ℕ → Note → List ℕ → Bool
+has_room calendar site quota note bytes =
+    fits quota (length (bytes ++ mended bytes)) (length (record_of calendar site note))
 
 -- the record stands after what was there, and a sync covers all of it
-pub record IsStoringTurn (calendar : Calendar) (host : List ℕ) (quota : Option ℕ) (note : Note)
+pub record IsStoringTurn (calendar : Calendar) (site : Site) (quota : Option ℕ) (note : Note)
     (lock unlock : Standing) : Type 0 where
-  pub room : has_room calendar host quota note lock.bytes ≡ true
-  pub whole : unlock.bytes ≡ lock.bytes ++ addition calendar host note lock.bytes
+  pub room : has_room calendar site quota note lock.bytes ≡ true
+  pub whole : unlock.bytes ≡ lock.bytes ++ addition calendar site note lock.bytes
   pub covered : unlock.synced ≡ length unlock.bytes
   pub sound : unlock.failures ≡ lock.failures
 
 -- the record would bring the mailbox above the quota, and nothing is appended
-pub record IsFullTurn (calendar : Calendar) (host : List ℕ) (quota : Option ℕ) (note : Note)
+pub record IsFullTurn (calendar : Calendar) (site : Site) (quota : Option ℕ) (note : Note)
     (lock unlock : Standing) : Type 0 where
-  pub room : has_room calendar host quota note lock.bytes ≡ false
+  pub room : has_room calendar site quota note lock.bytes ≡ false
   pub same : unlock.bytes ≡ lock.bytes
   pub sound : unlock.failures ≡ lock.failures
 
 -- the spool failed: a prefix of what was to be appended is there, or none where it was cut away again
-pub record IsBrokenTurn (calendar : Calendar) (host : List ℕ) (quota : Option ℕ) (note : Note)
+pub record IsBrokenTurn (calendar : Calendar) (site : Site) (quota : Option ℕ) (note : Note)
     (lock unlock : Standing) : Type 0 where
-  pub room : has_room calendar host quota note lock.bytes ≡ true
+  pub room : has_room calendar site quota note lock.bytes ≡ true
   pub failed : Rises lock.failures unlock.failures
   pub prefix : List ℕ
-  pub part : IsPrefix prefix (addition calendar host note lock.bytes)
+  pub part : IsPrefix prefix (addition calendar site note lock.bytes)
   pub left : unlock.bytes ≡ lock.bytes ++ prefix
 
 -- the turn of a copy, by what its lane is told
-abbrev pub IsTurn : Calendar → List ℕ → Option ℕ → Note → Outcome → Turn → Type 0
-IsTurn calendar host quota note Failed NotHad = ⊤
-IsTurn calendar host quota note Stored (Had lock unlock) = IsStoringTurn calendar host quota note lock unlock
-IsTurn calendar host quota note OverQuota (Had lock unlock) = IsFullTurn calendar host quota note lock unlock
-IsTurn calendar host quota note Failed (Had lock unlock) = IsBrokenTurn calendar host quota note lock unlock
-IsTurn calendar host quota note _ _ = ⊥
+abbrev pub IsTurn : Calendar → Site → Option ℕ → Note → Outcome → Turn → Type 0
+IsTurn calendar site quota note Failed NotHad = ⊤
+IsTurn calendar site quota note Stored (Had lock unlock) = IsStoringTurn calendar site quota note lock unlock
+IsTurn calendar site quota note OverQuota (Had lock unlock) = IsFullTurn calendar site quota note lock unlock
+IsTurn calendar site quota note Failed (Had lock unlock) = IsBrokenTurn calendar site quota note lock unlock
+IsTurn calendar site quota note _ _ = ⊥
 
 -- a turn that wasn't missed, and whose copy is told Failed, broke
 abbrev pub breaks : Outcome → Turn → Bool
@@ -76,10 +76,10 @@ AllFailed _ _ = ⊥
 
 -- The turns of these copies, one for each and in their order, up to and with the one that broke, if one did: each copy
 -- after that has no turn, and is told Failed.
-abbrev pub AreTurns : Calendar → List ℕ → Option ℕ → List Note → List Outcome → List Turn → Bool → Type 0
-AreTurns calendar host quota [] [] [] broken = broken ≡ false
-AreTurns calendar host quota (note ∷ notes) (outcome ∷ outcomes) (turn ∷ turns) broken =
-    IsTurn calendar host quota note outcome turn
+abbrev pub AreTurns : Calendar → Site → Option ℕ → List Note → List Outcome → List Turn → Bool → Type 0
+AreTurns calendar site quota [] [] [] broken = broken ≡ false
+AreTurns calendar site quota (note ∷ notes) (outcome ∷ outcomes) (turn ∷ turns) broken =
+    IsTurn calendar site quota note outcome turn
     × MatchBool (breaks outcome turn) ((broken ≡ true) × (turns ≡ []) × AllFailed notes outcomes)
-    (AreTurns calendar host quota notes outcomes turns broken)
-AreTurns calendar host quota _ _ _ broken = ⊥
+    (AreTurns calendar site quota notes outcomes turns broken)
+AreTurns calendar site quota _ _ _ broken = ⊥

@@ -49,6 +49,8 @@ pub struct Note {
     pub mailbox: u32,
     pub sender: LinkedList<u8>,
     pub client: LinkedList<u8>,
+    /// MAIL had the parameter SMTPUTF8 (RFC 6531).
+    pub utf8: bool,
     pub moment: u32,
     pub message: LinkedList<u8>,
 }

@@ -55,10 +55,10 @@ pub fn other_steps_may_happen()
         → MayHappen h (Take w) }
     ensures write { (h : House) (w : ℕ) (bytes more : List ℕ) (box : Box) (copy : Copy) → BoxIs h w box
         → box.hand ≡ Some copy → copy.released ≡ false → is_settled copy ≡ false → box.faulty ≡ false
-        → drop copy.written (record_of h.calendar h.host copy.post.note) ≡ bytes ++ more → MayHappen h (Write w bytes) }
+        → drop copy.written (record_of h.calendar h.site copy.post.note) ≡ bytes ++ more → MayHappen h (Write w bytes) }
     ensures sync { (h : House) (w : ℕ) (box : Box) (copy : Copy) → BoxIs h w box → box.hand ≡ Some copy
         → copy.released ≡ false → is_settled copy ≡ false → box.faulty ≡ false
-        → copy.written ≡ length (record_of h.calendar h.host copy.post.note) → MayHappen h (Sync w) }
+        → copy.written ≡ length (record_of h.calendar h.site copy.post.note) → MayHappen h (Sync w) }
     ensures reclaim { (h : House) (key : Key) (bytes blocks : List ℕ) → held_under h.depot key ≡ spent bytes blocks
         → MayHappen h (Reclaim key.slot key.generation) }
     ensures close { (h : House) (b : ℕ) (box : Box) → BoxIs h b box → box.closed ≡ false → MayHappen h (Close b) }
@@ -122,7 +122,7 @@ pub fn wrong_steps_of_workers_have_no_result()
         → Step h (Write w bytes) new → ⊥ }
     ensures write_of_other_bytes { (h new : House) (w : ℕ) (bytes : List ℕ) (box : Box) (copy : Copy) → BoxIs h w box
         → box.hand ≡ Some copy →
-        ((more : List ℕ) → drop copy.written (record_of h.calendar h.host copy.post.note) ≢ bytes ++ more)
+        ((more : List ℕ) → drop copy.written (record_of h.calendar h.site copy.post.note) ≢ bytes ++ more)
         → Step h (Write w bytes) new → ⊥ }
     ensures write_when_faulty { (h new : House) (w : ℕ) (bytes : List ℕ) (box : Box) → BoxIs h w box → box.faulty ≡ true
         → Step h (Write w bytes) new → ⊥ }
@@ -135,7 +135,7 @@ pub fn wrong_steps_of_workers_have_no_result()
     ensures sync_without_copy { (h new : House) (w : ℕ) (box : Box) → BoxIs h w box → box.hand ≡ None
         → Step h (Sync w) new → ⊥ }
     ensures sync_of_part { (h new : House) (w : ℕ) (box : Box) (copy : Copy) → BoxIs h w box → box.hand ≡ Some copy
-        → copy.written ≢ length (record_of h.calendar h.host copy.post.note) → Step h (Sync w) new → ⊥ }
+        → copy.written ≢ length (record_of h.calendar h.site copy.post.note) → Step h (Sync w) new → ⊥ }
     ensures sync_when_faulty { (h new : House) (w : ℕ) (box : Box) → BoxIs h w box → box.faulty ≡ true
         → Step h (Sync w) new → ⊥ }
     ensures sync_after_release { (h new : House) (w : ℕ) (box : Box) (copy : Copy) → BoxIs h w box

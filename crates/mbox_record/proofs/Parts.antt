@@ -9,29 +9,29 @@ use Rattle.mbox_record.specs.Envelope.{Envelope, record_text, from_line, trace_l
 use Rattle.mbox_record.specs.Parts.{origin, date_line}
 
 -- a record is what `begin`, the pieces and `end` write
-pub record_split : (calendar : Calendar) (host : List ℕ) (e : Envelope) (message : List ℕ)
-    → record_text calendar host e message ≡ head_text calendar host e ++ quoted_text (unix message) ++ lf ∷ []
+pub record_split : (calendar : Calendar) (site : Site) (e : Envelope) (message : List ℕ)
+    → record_text calendar site e message ≡ head_text calendar site e ++ quoted_text (unix message) ++ lf ∷ []
 unfolding record_of
-record_split calendar host e message = refl
+record_split calendar site e message = refl
 
-pub head_split : (host sender : List ℕ) (civil : Civil) (e : Envelope) → sender ≡ e.sender → civil ≡ civil_at e.moment
-    → head_text civil_at host e ≡ from_line sender civil ++ trace_lines host civil e
-head_split host sender civil e p q = rw (p, q) refl
+pub head_split : (site sender : List ℕ) (civil : Civil) (e : Envelope) → sender ≡ e.sender → civil ≡ civil_at e.moment
+    → head_text civil_at site e ≡ from_line sender civil ++ trace_lines site civil e
+head_split site sender civil e p q = rw (p, q) refl
 
-lines_split : (a b c d e f sender client host lane dash number date : List ℕ)
-    → with_lf ((a ++ sender ++ b) ∷ (c ++ client) ∷ (tab ∷ (d ++ host ++ e ++ (lane ++ dash ++ number) ++ f)) ∷ (tab ∷ date) ∷ [])
-    ≡ (a ++ (sender ++ (b ++ (lf ∷ (c ++ (client ++ (lf ∷ tab ∷ (d ++ (host ++ (e ++ (lane ++ (dash ++ (number ++ (f ++ lf ∷ []))))))))))))))
+lines_split : (a b c d e f sender client site lane dash number date : List ℕ)
+    → with_lf ((a ++ sender ++ b) ∷ (c ++ client) ∷ (tab ∷ (d ++ site ++ e ++ (lane ++ dash ++ number) ++ f)) ∷ (tab ∷ date) ∷ [])
+    ≡ (a ++ (sender ++ (b ++ (lf ∷ (c ++ (client ++ (lf ∷ tab ∷ (d ++ (site ++ (e ++ (lane ++ (dash ++ (number ++ (f ++ lf ∷ []))))))))))))))
     ++ (tab ∷ (date ++ lf ∷ []))
-lines_split a b c d e f sender client host lane dash number date = simp (append_assoc, append-nil)
+lines_split a b c d e f sender client site lane dash number date = simp (append_assoc, append-nil)
 
-pub trace_split : (host : List ℕ) (civil : Civil) (e : Envelope) → trace_lines host civil e ≡ origin host e ++ date_line civil
-trace_split host civil e =
+pub trace_split : (site : Site) (civil : Civil) (e : Envelope) → trace_lines site civil e ≡ origin site e ++ date_line civil
+trace_split site civil e =
     lines_split (codes "Return-Path: <") (codes ">") (codes "Received: from ") (codes "by ") (codes " with LMTP id ") (codes ";")
-    e.sender e.client host (decimal e.txn.lane) (codes "-") (decimal e.txn.number) (date_time civil)
+    e.sender e.client site (decimal e.txn.lane) (codes "-") (decimal e.txn.number) (date_time civil)
 
-pub origin_pieces : (host sender client lane number : List ℕ) (e : Envelope)
+pub origin_pieces : (site sender client lane number : List ℕ) (e : Envelope)
     → sender ≡ e.sender → client ≡ e.client → lane ≡ decimal e.txn.lane → number ≡ decimal e.txn.number
-    → origin host e
-    ≡ codes "Return-Path: <" ++ (sender ++ (codes ">\nReceived: from " ++ (client ++ (codes "\n\tby " ++ (host ++ (codes " with LMTP id "
+    → origin site e
+    ≡ codes "Return-Path: <" ++ (sender ++ (codes ">\nReceived: from " ++ (client ++ (codes "\n\tby " ++ (site ++ (codes " with LMTP id "
     ++ (lane ++ (codes "-" ++ (number ++ (codes ";\n" ++ []))))))))))
-origin_pieces host sender client lane number e p q r s = rw (p, q, r, s) refl
+origin_pieces site sender client lane number e p q r s = rw (p, q, r, s) refl

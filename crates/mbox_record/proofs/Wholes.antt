@@ -31,18 +31,18 @@ FailsPiece-then s t u a b p q x y = record {
 abbrev pub BeginsRecord : Pending → Type 0
 BeginsRecord first = (text : List ℕ) → bytes_owed first text ≡ quoted_text (unix text)
 
-module _ (calendar : Calendar) (host : List ℕ) (e : Envelope) (message : List ℕ) where
+module _ (calendar : Calendar) (site : Site) (e : Envelope) (message : List ℕ) where
   abbrev head : List ℕ
-  head = head_text calendar host e
+  head = head_text calendar site e
 
   abbrev text : List ℕ
-  text = record_text calendar host e message
+  text = record_text calendar site e message
 
   abbrev content : List ℕ
   content = quoted_text (unix message)
 
   whole : text ≡ head ++ (content ++ lf ∷ [])
-  whole = record_split calendar host e message ∙ append_assoc head content (lf ∷ [])
+  whole = record_split calendar site e message ∙ append_assoc head content (lf ∷ [])
 
   -- what the writer wrote, and still writes at the end
   parts : (t u : SpoolState) (first last : Pending) → BeginsRecord first → (x : WritesPiece t u first last message) → content ≡ x.text ++ bytes_owed last []
@@ -72,14 +72,14 @@ module _ (calendar : Calendar) (host : List ℕ) (e : Envelope) (message : List 
       (SpoolFailed-later s u v (head ++ x.text) (bytes_owed last [] ++ lf ∷ []) (SpoolTook-then s t u head x.text h x.taken) y)
 
 -- whatever message the piece was a prefix of
-pub piece_failed : (calendar : Calendar) (host : List ℕ) (e : Envelope) (piece rest : List ℕ) (s t u : SpoolState) (first : Pending)
-    → SpoolTook s t (head_text calendar host e) → BeginsRecord first → FailsPiece t u first piece
-    → SpoolFailed s u (record_text calendar host e (piece ++ rest))
-piece_failed calendar host e piece rest s t u first h begins x =
+pub piece_failed : (calendar : Calendar) (site : Site) (e : Envelope) (piece rest : List ℕ) (s t u : SpoolState) (first : Pending)
+    → SpoolTook s t (head_text calendar site e) → BeginsRecord first → FailsPiece t u first piece
+    → SpoolFailed s u (record_text calendar site e (piece ++ rest))
+piece_failed calendar site e piece rest s t u first h begins x =
     let prefix = x.sure rest in
-    let head = head_text calendar host e in
+    let head = head_text calendar site e in
     let content : quoted_text (unix (piece ++ rest)) ++ lf ∷ [] ≡ x.text ++ (prefix.rest ++ lf ∷ []) =
     ap (λ (l : List ℕ). l ++ lf ∷ []) (sym (begins (piece ++ rest)) ∙ prefix.whole) ∙ append_assoc x.text prefix.rest (lf ∷ []) in
     SpoolFailed-as s u _ _
-    (record_split calendar host e (piece ++ rest) ∙ append_assoc head _ (lf ∷ []) ∙ ap (λ (l : List ℕ). head ++ l) content)
+    (record_split calendar site e (piece ++ rest) ∙ append_assoc head _ (lf ∷ []) ∙ ap (λ (l : List ℕ). head ++ l) content)
     (SpoolFailed-later s t u head _ h (SpoolFailed-first t u x.text (prefix.rest ++ lf ∷ []) x.failed))

@@ -24,17 +24,17 @@ note_of envelope message = record {
   message = message;
 }
 
--- the record of the message, at the host of that name
-abbrev pub record_text : Calendar → List ℕ → Envelope → List ℕ → List ℕ
-record_text calendar host envelope message = record_of calendar host (note_of envelope message)
+-- the record of the message at the site
+abbrev pub record_text : Calendar → Site → Envelope → List ℕ → List ℕ
+record_text calendar site envelope message = record_of calendar site (note_of envelope message)
 
 -- the prefix of it that stands before the message: the From line and the trace lines
 abbrev pub from_line : List ℕ → Civil → List ℕ
 from_line sender civil = codes "From " ++ from_head sender civil ++ lf ∷ []
 
 abbrev pub trace_lines : List ℕ → Civil → Envelope → List ℕ
-trace_lines host civil envelope = with_lf (trace host civil (note_of envelope []))
+trace_lines site civil envelope = with_lf (trace site civil (note_of envelope []))
 
-abbrev pub head_text : Calendar → List ℕ → Envelope → List ℕ
-head_text calendar host envelope =
-    from_line envelope.sender (calendar envelope.moment) ++ trace_lines host (calendar envelope.moment) envelope
+abbrev pub head_text : Calendar → Site → Envelope → List ℕ
+head_text calendar site envelope =
+    from_line envelope.sender (calendar envelope.moment) ++ trace_lines site (calendar envelope.moment) envelope

@@ -6,9 +6,9 @@ use Rattle.mbox_record.specs.Envelope.{Envelope}
 
 -- where the message comes from, up to its date
 abbrev pub origin : List ℕ → Envelope → List ℕ
-origin host envelope =
+origin site envelope =
     codes "Return-Path: <" ++ (envelope.sender ++ (codes ">\nReceived: from " ++ (envelope.client
-    ++ (codes "\n\tby " ++ (host ++ (codes " with LMTP id " ++ (decimal envelope.txn.lane
+    ++ (codes "\n\tby " ++ (site ++ (codes " with LMTP id " ++ (decimal envelope.txn.lane
     ++ (codes "-" ++ (decimal envelope.txn.number ++ codes ";\n")))))))))
 
 abbrev pub date_line : Civil → List ℕ

@@ -15,17 +15,17 @@ use lmtp_text::{Stamp, stamp_5322, stamp_ctime};
 // Appends the From line and the trace lines (RFC 4155, Appendix A; RFC 5321, 4.4).
 pub(crate) fn write_head<S: Spool>(
     spool: &mut S,
-    host: &[u8],
+    site: &Site,
     envelope: &Envelope,
 ) -> Result<(), SpoolFault>
     ensures ok { OnOk result
-        (SpoolTook (S.state spool.old) (S.state spool.new) (head_text civil_at host.now envelope.now)) }
+        (SpoolTook (S.state spool.old) (S.state spool.new) (head_text civil_at site.now envelope.now)) }
     ensures err { OnErr result
-        (SpoolFailed (S.state spool.old) (S.state spool.new) (head_text civil_at host.now envelope.now)) }
+        (SpoolFailed (S.state spool.old) (S.state spool.new) (head_text civil_at site.now envelope.now)) }
 {
     let stamp = Stamp::of_unix(envelope.moment());
     write_from_line(spool, envelope.sender(), &stamp)?;
-    write_trace(spool, host, envelope, &stamp)
+    write_trace(spool, site, envelope, &stamp)
 }
 
 fn write_from_line<S: Spool>(spool: &mut S, sender: &[u8], stamp: &Stamp) -> Result<(), SpoolFault>
@@ -52,22 +52,22 @@ fn from_address(sender: &[u8]) -> &[u8]
 
 fn write_trace<S: Spool>(
     spool: &mut S,
-    host: &[u8],
+    site: &Site,
     envelope: &Envelope,
     stamp: &Stamp,
 ) -> Result<(), SpoolFault>
     ensures ok { OnOk result
-        (SpoolTook (S.state spool.old) (S.state spool.new) (trace_lines host.now stamp.now envelope.now)) }
+        (SpoolTook (S.state spool.old) (S.state spool.new) (trace_lines site.now stamp.now envelope.now)) }
     ensures err { OnErr result
-        (SpoolFailed (S.state spool.old) (S.state spool.new) (trace_lines host.now stamp.now envelope.now)) }
+        (SpoolFailed (S.state spool.old) (S.state spool.new) (trace_lines site.now stamp.now envelope.now)) }
 {
-    write_origin(spool, host, envelope)?;
+    write_origin(spool, site, envelope)?;
     write_date(spool, stamp)
 }
 
-fn write_origin<S: Spool>(spool: &mut S, host: &[u8], envelope: &Envelope) -> Result<(), SpoolFault>
-    ensures ok { OnOk result (SpoolTook (S.state spool.old) (S.state spool.new) (origin host.now envelope.now)) }
-    ensures err { OnErr result (SpoolFailed (S.state spool.old) (S.state spool.new) (origin host.now envelope.now)) }
+fn write_origin<S: Spool>(spool: &mut S, site: &Site, envelope: &Envelope) -> Result<(), SpoolFault>
+    ensures ok { OnOk result (SpoolTook (S.state spool.old) (S.state spool.new) (origin site.now envelope.now)) }
+    ensures err { OnErr result (SpoolFailed (S.state spool.old) (S.state spool.new) (origin site.now envelope.now)) }
 {
     let txn = envelope.txn();
     let (mut lane, mut number) = (Buffer::new(), Buffer::new());
@@ -79,7 +79,7 @@ fn write_origin<S: Spool>(spool: &mut S, host: &[u8], envelope: &Envelope) -> Re
             b">\nReceived: from ",
             envelope.client(),
             b"\n\tby ",
-            host,
+            site,
             b" with LMTP id ",
             lane.format(txn.lane).as_bytes(),
             b"-",

@@ -37,16 +37,16 @@ impl RecordWriter {
     /// Writes the From line and the trace lines (RFC 4155, Appendix A; RFC 5321, 4.4).
     pub fn begin<S: Spool>(
         spool: &mut S,
-        host: &[u8],
+        site: &Site,
         envelope: &Envelope,
     ) -> Result<RecordWriter, SpoolFault>
         ensures ok { OnOk result
-            (SpoolTook (S.state spool.old) (S.state spool.new) (head_text civil_at host.now envelope.now)) }
+            (SpoolTook (S.state spool.old) (S.state spool.new) (head_text civil_at site.now envelope.now)) }
         ensures new { IfOk result (λ writer. (text : List ℕ) → bytes_owed writer text ≡ quoted_text (unix text)) }
         ensures err { OnErr result
-            (SpoolFailed (S.state spool.old) (S.state spool.new) (head_text civil_at host.now envelope.now)) }
+            (SpoolFailed (S.state spool.old) (S.state spool.new) (head_text civil_at site.now envelope.now)) }
     {
-        write_head(spool, host, envelope)?;
+        write_head(spool, site, envelope)?;
         Ok(RecordWriter {
             pending: Pending::Start,
         })

@@ -14,7 +14,7 @@ use Rattle.box_worker.proofs.worker.worker_run.Goals as goal
 
 pub loop-init : goal.loop-init
 loop-init g c =
-    let at : Setting = setting_by c.args.host.now c.args.quota (worker_of c.args.slips.items) in
+    let at : Setting = setting_by c.args.site.now c.args.quota (worker_of c.args.slips.items) in
     let start : WorkerState = idle c.args.slips.items (g.S.Spool.state c.args.spool) in
     let State : List (Sender Slip) → WorkerState =
     λ slips. record { slips = slips; mailbox = c.on.result.mailbox; in_use = c.on.result.in_use; taken = 0; lost = any_gone slips } in
@@ -26,12 +26,12 @@ loop-init g c =
       capacity = refl;
       working = subst P (sym c.requires.fresh) (subst R (sym c.new.ensures)
           (working_none at c.args.slips.items c.args.receiver (g.S.Spool.state c.args.spool) c.on.result c.requires.worker
-          (λ e. c.on.ensures.mended e c.args.host.now) c.on.ensures.broken c.on.ensures.left_alone c.on.ensures.none c.on.ensures.counts c.on.ensures.whose));
+          (λ e. c.on.ensures.mended e c.args.site.now) c.on.ensures.broken c.on.ensures.left_alone c.on.ensures.none c.on.ensures.counts c.on.ensures.whose));
     }
 
 pub loop-preserved : goal.loop-preserved
 loop-preserved g c =
-    let at : Setting = setting_by c.args.host.now c.args.quota (worker_of c.args.slips.items) in
+    let at : Setting = setting_by c.args.site.now c.args.quota (worker_of c.args.slips.items) in
     let start : WorkerState = idle c.args.slips.items (g.S.Spool.state c.args.spool) in
     let now = c.handle.new.self in
     let P : List Note → Type 0 = λ copies. IsWorking at copies c.args.receiver c.take_next.new.receiver start (worker_state now) now.mailbox.limit in
@@ -48,7 +48,7 @@ pub returns-in-Err-Lost : goal.returns-in-Err-Lost
 returns-in-Err-Lost g c =
     let worker = c.loop.worker in
     let after = c.take_next.new.receiver in
-    let at : Setting = setting_by c.args.host.now c.args.quota (worker_of c.args.slips.items) in
+    let at : Setting = setting_by c.args.site.now c.args.quota (worker_of c.args.slips.items) in
     let start : WorkerState = idle c.args.slips.items (g.S.Spool.state c.args.spool) in
     let gone : after.gone ≡ Some Lost = search rules in
     let P : WorkerBack _ → Type 0 = λ back. HasWorked at c.args.receiver back.receiver start back.worker in
@@ -61,7 +61,7 @@ pub returns-in-Err-Closed : goal.returns-in-Err-Closed
 returns-in-Err-Closed g c =
     let worker = c.loop.worker in
     let after = c.take_next.new.receiver in
-    let at : Setting = setting_by c.args.host.now c.args.quota (worker_of c.args.slips.items) in
+    let at : Setting = setting_by c.args.site.now c.args.quota (worker_of c.args.slips.items) in
     let start : WorkerState = idle c.args.slips.items (g.S.Spool.state c.args.spool) in
     let gone : after.gone ≡ Some Closed = search rules in
     let P : WorkerBack _ → Type 0 = λ back. HasWorked at c.args.receiver back.receiver start back.worker in

@@ -17,6 +17,6 @@ invariant-loop g l = record {
   channel : l.receiver.channel ≡ l.fn.receiver.channel;
   lanes : l.receiver.lanes ≡ l.fn.receiver.lanes;
   capacity : l.receiver.capacity ≡ l.fn.receiver.capacity;
-  working : IsWorking (setting_by l.host l.fn.quota (worker_of l.fn.slips.items)) (taken l.receiver) l.fn.receiver l.receiver
+  working : IsWorking (setting_by l.site l.fn.quota (worker_of l.fn.slips.items)) (taken l.receiver) l.fn.receiver l.receiver
       (idle l.fn.slips.items (g.S.Spool.state l.fn.spool)) (worker_state l.worker) l.worker.mailbox.limit;
 }

@@ -18,16 +18,16 @@ use Rattle.box_worker.proofs.worker.Worker.handle.Goals as goal
 
 pub returns : goal.returns
 returns g c quota worker copies old before was timed x =
-    let host : List ℕ = c.args.host.now in
+    let site : List ℕ = c.args.site.now in
     let self = c.args.self.now in
     let took = c.take-outcome in
     let told = c.tell in
-    let at : Setting = setting_by host quota worker in
+    let at : Setting = setting_by site quota worker in
     let now : WorkerState = worker_state self in
     let parts = c.parts-place in
-    let text : record_text civil_at host parts.result.envelope parts.result.hold.bytes ≡ record_of civil_at host c.args.post =
-    ap (λ (e : Envelope). record_text civil_at host e parts.result.hold.bytes) parts.ensures.envelope
-    ∙ ap (λ (m : List ℕ). record_text civil_at host (envelope_of c.args.post) m) parts.ensures.hold.0 ∙ text_of civil_at host c.args.post in
+    let text : record_text civil_at site parts.result.envelope parts.result.hold.bytes ≡ record_of civil_at site c.args.post =
+    ap (λ (e : Envelope). record_text civil_at site e parts.result.hold.bytes) parts.ensures.envelope
+    ∙ ap (λ (m : List ℕ). record_text civil_at site (envelope_of c.args.post) m) parts.ensures.hold.0 ∙ text_of civil_at site c.args.post in
     let P : List ℕ → Type 0 = λ t. TakesCopy t took.result self.mailbox took.new.self in
     let K : List ℕ → Type 0 = λ t. TurnsCopy t took.result self.mailbox took.new.self in
     let gone = c.release-released.ensures in
