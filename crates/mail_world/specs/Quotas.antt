@@ -6,6 +6,7 @@ use Rattle.mail_world.specs.declared.Outcome.{Outcome}
 use Rattle.mail_world.specs.declared.Outcome.TheVariants.{Stored, Failed, OverQuota}
 use Rattle.mail_world.specs.Records.{Calendar, record_of}
 use Rattle.mail_world.specs.Endings.{mended}
+use Rattle.mail_world.specs.Site.{Site}
 
 -- a record of that size may stand after that many bytes
 abbrev pub fits : Option ℕ → ℕ → ℕ → Bool

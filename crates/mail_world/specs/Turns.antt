@@ -9,6 +9,7 @@ use Rattle.mail_world.specs.Prefixes.{IsPrefix}
 use Rattle.mail_world.specs.Records.{Calendar, record_of}
 use Rattle.mail_world.specs.Endings.{mended}
 use Rattle.mail_world.specs.Quotas.{fits}
+use Rattle.mail_world.specs.Site.{Site}
 
 -- a mailbox at a lock or at an unlock: its bytes, how many of the first of them a sync covered, and how often its spool
 -- has failed

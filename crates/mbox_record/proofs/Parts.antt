@@ -7,6 +7,7 @@ use Rattle.mail_world.specs.Records.{Calendar, record_of, quoted_text}
 use Rattle.lmtp_text.specs.Calendar.{civil_at}
 use Rattle.mbox_record.specs.Envelope.{Envelope, record_text, from_line, trace_lines, head_text}
 use Rattle.mbox_record.specs.Parts.{origin, date_line}
+use Rattle.mail_world.specs.Site.{Site}
 
 -- a record is what `begin`, the pieces and `end` write
 pub record_split : (calendar : Calendar) (site : Site) (e : Envelope) (message : List ℕ)

@@ -7,6 +7,7 @@ use Rattle.mbox_record.specs.Spool.{SpoolState, SpoolTook, SpoolFailed}
 use Rattle.mbox_record.specs.Writing.{Pending, bytes_owed, WritesPiece, FailsPiece}
 use Rattle.mbox_record.proofs.Parts.{record_split}
 use Rattle.mbox_record.proofs.Taken.{SpoolTook-then, SpoolTook-as, SpoolFailed-first, SpoolFailed-later, SpoolFailed-as}
+use Rattle.mail_world.specs.Site.{Site}
 
 pub WritesPiece-then : (s t u : SpoolState) (a b c : Pending) (p q : List ℕ) → WritesPiece s t a b p → WritesPiece t u b c q → WritesPiece s u a c (p ++ q)
 WritesPiece-then s t u a b c p q x y = record {

@@ -5,6 +5,7 @@ use Rattle.mail_world.specs.declared.Note.{Note}
 use Rattle.mail_world.specs.Text.{lf, with_lf}
 use Rattle.mail_world.specs.Stamps.{Civil}
 use Rattle.mail_world.specs.Records.{Calendar, record_of, from_head, trace}
+use Rattle.mail_world.specs.Site.{Site}
 
 pub record Envelope : Type 0 where
   pub sender : List ℕ
