@@ -391,8 +391,8 @@ lines_by f l (b ∷ prefix) =
     by false before b prefix rest more e = (before ++ (b ∷ more), ap (λ t. before ++ (b ∷ t)) e ∙ sym (append_assoc before (b ∷ more) (lf ∷ [])))
 
 -- lines stay lines
-pub marked_lines : (text : List ℕ) → EmptyOrEndsIn (lf ∷ []) text → EmptyOrEndsIn (lf ∷ []) (marked text)
-marked_lines text h = elim h [
+pub marked-lines : (text : List ℕ) → EmptyOrEndsIn (lf ∷ []) text → EmptyOrEndsIn (lf ∷ []) (marked text)
+marked-lines text h = elim h [
   | inl none ↦ inl (ap marked none ∙ marked_bytes [])
   | inr ends ↦ inr (
       let more = lines_by true true ends.0 in

@@ -29,6 +29,7 @@ only_copy number message = record {
   mailbox = 0;
   sender = [];
   client = codes "c";
+  utf8 = false;
   moment = 0;
   message = message;
 }
