@@ -3,7 +3,7 @@ use Rattle.mbox_record.specs.declared.pending.Pending.TheVariants.{Inside}
 use Rattle.mbox_record.specs.Steps.{step_text}
 use Rattle.mbox_record.proofs.Pieces.{TakesPiece-more, FailsPiece-more}
 use Rattle.mbox_record.proofs.Taken.{OnErr-any}
-use Rattle.mbox_record.proofs.record.RecordWriter.piece.Goals as goal
+use Rattle.mbox_record.proofs.quoted.QuotedText.piece.Goals as goal
 
 pub returns-in_err-append_all-clause-err : goal.returns-in_err-append_all-clause-err
 returns-in_err-append_all-clause-err g c =
