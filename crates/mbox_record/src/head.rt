@@ -5,7 +5,7 @@ ghost use Rattle.mail_world.specs.Marks.{plain_address};
 ghost use Rattle.mail_world.specs.Records.{from_address, protocol};
 ghost use Rattle.lmtp_text.specs.Calendar.{civil_at};
 ghost use Rattle.mbox_record.specs.Envelope.{address_line, from_line, trace_lines, head_text};
-ghost use Rattle.mbox_record.specs.Parts.{origin, date_line};
+ghost use Rattle.mbox_record.specs.Parts.{origin, id_text, date_line};
 ghost use Rattle.mbox_record.specs.Spool.{SpoolTook, SpoolFailed};
 
 use crate::append::append_each;
@@ -13,6 +13,7 @@ use crate::envelope::Envelope;
 use crate::spool::{Spool, SpoolFault};
 use itoa::Buffer;
 use lmtp_text::{Site, Stamp, stamp_5322, stamp_ctime};
+use mail_world::Txn;
 use mail_world::limits::PATH_LIMIT;
 
 // Appends the From line and the trace lines (RFC 4155, Appendix A; RFC 5321, 4.4).
@@ -114,23 +115,15 @@ fn write_trace<S: Spool>(
     ensures err { OnErr result
         (SpoolFailed (S.state spool.old) (S.state spool.new) (trace_lines site.now stamp.now envelope.now)) }
 {
-    write_origin(spool, site.host(), protocol(envelope.utf8()), envelope)?;
+    write_origin(spool, site.host(), envelope)?;
+    write_id(spool, protocol(envelope.utf8()), envelope.txn())?;
     write_date(spool, stamp)
 }
 
-fn write_origin<S: Spool>(
-    spool: &mut S,
-    host: &[u8],
-    protocol: &[u8],
-    envelope: &Envelope,
-) -> Result<(), SpoolFault>
-    ensures ok { OnOk result
-        (SpoolTook (S.state spool.old) (S.state spool.new) (origin host.now protocol.now envelope.now)) }
-    ensures err { OnErr result
-        (SpoolFailed (S.state spool.old) (S.state spool.new) (origin host.now protocol.now envelope.now)) }
+fn write_origin<S: Spool>(spool: &mut S, host: &[u8], envelope: &Envelope) -> Result<(), SpoolFault>
+    ensures ok { OnOk result (SpoolTook (S.state spool.old) (S.state spool.new) (origin host.now envelope.now)) }
+    ensures err { OnErr result (SpoolFailed (S.state spool.old) (S.state spool.new) (origin host.now envelope.now)) }
 {
-    let txn = envelope.txn();
-    let (mut lane, mut number) = (Buffer::new(), Buffer::new());
     append_each(
         spool,
         &[
@@ -140,6 +133,18 @@ fn write_origin<S: Spool>(
             envelope.client(),
             b"\n\tby ",
             host,
+        ],
+    )
+}
+
+fn write_id<S: Spool>(spool: &mut S, protocol: &[u8], txn: Txn) -> Result<(), SpoolFault>
+    ensures ok { OnOk result (SpoolTook (S.state spool.old) (S.state spool.new) (id_text protocol.now txn)) }
+    ensures err { OnErr result (SpoolFailed (S.state spool.old) (S.state spool.new) (id_text protocol.now txn)) }
+{
+    let (mut lane, mut number) = (Buffer::new(), Buffer::new());
+    append_each(
+        spool,
+        &[
             b" with ",
             protocol,
             b" id ",

@@ -70,15 +70,15 @@ impl RecordWriter {
     {
         let mut writer = self;
         let mut rest = piece;
-        while !writer.held.is_empty() && !rest.is_empty() {
+        while !rest.is_empty() {
+            if writer.held.is_empty() {
+                return write_bytes(writer.quoted, writer.place, spool, rest);
+            }
             let held = writer.held.with(rest[0]);
             writer = write_bytes(writer.quoted, writer.place, spool, held.as_slice())?;
             rest = &rest[1..];
         }
-        if rest.is_empty() {
-            return Ok(writer);
-        }
-        write_bytes(writer.quoted, writer.place, spool, rest)
+        Ok(writer)
     }
 
     /// Writes what is left of the message, with LF after a last line that has none, and the empty line that ends a
