@@ -64,6 +64,12 @@ recipient_delimiter_rule = text_rule (codes "recipient-delimiter")
 abbrev pub message_limit_rule : Rule
 message_limit_rule = number_rule (codes "message-limit") LEAST_MESSAGE_LIMIT LARGEST_MESSAGE_LIMIT
 
+abbrev pub rename_marks_rule : Rule
+rename_marks_rule = flag_rule (codes "rename-marks")
+
+abbrev pub smtputf8_rule : Rule
+smtputf8_rule = flag_rule (codes "smtputf8")
+
 abbrev pub blocks_rule : Rule
 blocks_rule = number_rule (codes "blocks") 0 4294967295
 
@@ -106,6 +112,9 @@ quota_rule = bytes_rule (codes "quota")
 abbrev pub lock_wait_rule : Rule
 lock_wait_rule = number_rule (codes "lock-wait") 0 LOCK_WAIT_LIMIT
 
+abbrev pub mailbox_suffix_rule : Rule
+mailbox_suffix_rule = text_rule (codes "mailbox-suffix")
+
 abbrev pub mailbox_mode_rule : Rule
 mailbox_mode_rule = text_rule (codes "mailbox-mode")
 
@@ -129,9 +138,9 @@ check_words_rule = flag_rule (codes "check-words")
 
 abbrev pub rehearse_app : App
 rehearse_app =
-    with_rule (with_rule (with_rule (with_rule (with_rule (with_rule (with_rule (with_rule (with_rule
+    with_rule (with_rule (with_rule (with_rule (with_rule (with_rule (with_rule (with_rule (with_rule (with_rule (with_rule
     (new_app (codes "rehearse")) host_rule) time_rule) domains_rule) recipient_delimiter_rule) message_limit_rule)
-    blocks_rule) quota_rule) boxes_rule) box_rule
+    rename_marks_rule) smtputf8_rule) blocks_rule) quota_rule) boxes_rule) box_rule
 
 -- what must be given, then what may be, then what ends the server
 abbrev pub required_app : App
@@ -139,14 +148,15 @@ required_app = with_rule (with_rule (with_rule (new_app (codes "serve")) host_ru
 
 abbrev pub limited_app : App
 limited_app =
-    with_rule (with_rule (with_rule (with_rule (with_rule (with_rule (with_rule (with_rule (with_rule
-    required_app domains_rule) recipient_delimiter_rule) message_limit_rule) lanes_rule) blocks_rule) capacity_rule)
-    reads_rule) timeout_rule) session_time_rule
+    with_rule (with_rule (with_rule (with_rule (with_rule (with_rule (with_rule (with_rule (with_rule (with_rule (with_rule
+    required_app domains_rule) recipient_delimiter_rule) message_limit_rule) rename_marks_rule) smtputf8_rule) lanes_rule)
+    blocks_rule) capacity_rule) reads_rule) timeout_rule) session_time_rule
 
 abbrev pub kept_app : App
 kept_app =
-    with_rule (with_rule (with_rule (with_rule (with_rule (with_rule
-    limited_app log_rule) log_addresses_rule) quota_rule) lock_wait_rule) mailbox_mode_rule) socket_mode_rule
+    with_rule (with_rule (with_rule (with_rule (with_rule (with_rule (with_rule
+    limited_app log_rule) log_addresses_rule) quota_rule) lock_wait_rule) mailbox_suffix_rule) mailbox_mode_rule)
+    socket_mode_rule
 
 abbrev pub serve_app : App
 serve_app =

@@ -61,12 +61,14 @@ impl Argument {
 }
 
 /// What a rehearsal takes.
-pub const REHEARSE: [Argument; 9] = [
+pub const REHEARSE: [Argument; 11] = [
     HOST,
     TIME,
     DOMAINS,
     RECIPIENT_DELIMITER,
     MESSAGE_LIMIT,
+    RENAME_MARKS,
+    SMTPUTF8,
     BLOCKS,
     QUOTA,
     BOXES_FILE,
@@ -74,13 +76,15 @@ pub const REHEARSE: [Argument; 9] = [
 ];
 
 /// What a server takes: what must be given, what may be, what ends it, and the mailboxes.
-pub const SERVE: [Argument; 25] = [
+pub const SERVE: [Argument; 28] = [
     HOST,
     LISTEN,
     DIR,
     DOMAINS,
     RECIPIENT_DELIMITER,
     MESSAGE_LIMIT,
+    RENAME_MARKS,
+    SMTPUTF8,
     LANES,
     BLOCKS,
     CAPACITY,
@@ -91,6 +95,7 @@ pub const SERVE: [Argument; 25] = [
     LOG_ADDRESSES,
     QUOTA,
     LOCK_WAIT,
+    MAILBOX_SUFFIX,
     MAILBOX_MODE,
     SOCKET_MODE,
     CONNECTIONS,
@@ -129,7 +134,7 @@ const LISTEN: Argument = Argument {
 const DIR: Argument = Argument {
     name: "dir",
     value: "FOLDER",
-    help: "The folder of the mailboxes, which must be there; each is a file BOX.mbox in it",
+    help: "The folder of the mailboxes, which must be there; each is a file of its own in it",
     is_required: true,
     kind: ValueKind::Text,
 };
@@ -148,7 +153,7 @@ const TIME: Argument = Argument {
 const DOMAINS: Argument = Argument {
     name: "domains",
     value: "DOMAIN,..",
-    help: "Further domains that are served here, joined by commas, each as HOST [default: none]",
+    help: "Further domains that are served here, joined by commas, each as HOST, or * for any [default: none]",
     is_required: false,
     kind: ValueKind::Text,
 };
@@ -170,6 +175,22 @@ const MESSAGE_LIMIT: Argument = Argument {
         least: LEAST_MESSAGE_LIMIT,
         most: LARGEST_MESSAGE_LIMIT,
     },
+};
+
+const RENAME_MARKS: Argument = Argument {
+    name: "rename-marks",
+    value: "",
+    help: "Renames the fields of a message's head that readers of mailboxes take for their own, as Status, to X-Was-Status",
+    is_required: false,
+    kind: ValueKind::Flag,
+};
+
+const SMTPUTF8: Argument = Argument {
+    name: "smtputf8",
+    value: "",
+    help: "Offers SMTPUTF8: addresses may have characters beyond ASCII, in UTF-8",
+    is_required: false,
+    kind: ValueKind::Flag,
 };
 
 const LANES: Argument = Argument {
@@ -271,6 +292,14 @@ const LOCK_WAIT: Argument = Argument {
         least: 0,
         most: LOCK_WAIT_LIMIT,
     },
+};
+
+const MAILBOX_SUFFIX: Argument = Argument {
+    name: "mailbox-suffix",
+    value: "SUFFIX",
+    help: "What a mailbox's file has after its name: at most 32 letters, digits, ., _ and -, or none [default: .mbox]",
+    is_required: false,
+    kind: ValueKind::Text,
 };
 
 const MAILBOX_MODE: Argument = Argument {

@@ -7,6 +7,7 @@ ghost use Rattle.mail_world.specs.Records.{Calendar};
 ghost use Rattle.mail_world.specs.Reading.{Letter};
 ghost use Rattle.mail_lives.specs.ReadAs.{IsReadAs};
 ghost use Rattle.mail_lives.specs.Steps.{Step, StepsLeave, StepsComeTo, IsMailedStep};
+ghost use Rattle.mail_world.specs.Site.{Site};
 
 /// Whatever is stored, torn, or left by others, in whatever order: a mailbox that is read as letters is so afterwards,
 /// and its letters are those that the steps come to. Each stored one is there once, whole, and after those before it;

@@ -59,6 +59,7 @@ offer_moves room blocks next h f c k lane hold box at there one channel opened l
       mailbox = next k;
       sender = [];
       client = [];
+      utf8 = false;
       moment = 0;
       message = m.message;
     } in

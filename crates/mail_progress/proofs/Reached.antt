@@ -1,7 +1,7 @@
 -- What is known of a house in an orderly run.
 use Rattle.std.proofs.Common.{◌≡◌, ℕ, ◌+◌, ◌≤◌, List, length, false, Some, arith}
 use Rattle.std.specs.Prelude.{slice_get}
-use Rattle.mail_world.specs.Slips.{txn_of, answers}
+use Rattle.mail_world.specs.Slips.{txn_of}
 use Rattle.mail_world.proofs.Heard.{every_run_answers}
 use Rattle.mail_world.proofs.LastSeal.{every_run_for_last}
 use Rattle.mail_progress.proofs.Tracked.{AllTracked, every_orderly_tracked}

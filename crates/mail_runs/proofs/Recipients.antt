@@ -10,7 +10,7 @@ use Rattle.mail_world.specs.declared.State.{State}
 use Rattle.mail_world.specs.declared.State.TheVariants.{Fresh, Greeted, Sender, Recipients, Content, Waiting, Ended}
 use Rattle.mail_world.specs.declared.BadCommand.{BadCommand}
 use Rattle.mail_world.specs.declared.limits.TheConstants.{RECIPIENT_LIMIT}
-use Rattle.mail_world.specs.Site.{Site}
+use Rattle.mail_world.specs.Site.{Site, extensions_of}
 use Rattle.mail_world.specs.Grammar.{Target}
 use Rattle.mail_world.specs.Commands.{Command, Lhlo, Mail, Rcpt, StartData, Rset, Noop, Quit, Vrfy, Help, is_word, command_at}
 use Rattle.mail_world.specs.Targets.{local_name, is_here, box_or, box_named, user_of, found_or, box_for, box_of}
@@ -81,14 +81,14 @@ module _ (site : Site) (some : 0 < length site.boxes) where
   after_rcpt Waiting s o h k = h
   after_rcpt Ended s o h k = h
 
-  after_mail : (state : State) (s : Session) (sender : List ℕ) → Knows s → Knows (on_mail state s sender).next
-  after_mail Greeted s sender h = tt
-  after_mail Fresh s sender h = h
-  after_mail Sender s sender h = h
-  after_mail Recipients s sender h = h
-  after_mail Content s sender h = h
-  after_mail Waiting s sender h = h
-  after_mail Ended s sender h = h
+  after_mail : (state : State) (s : Session) (sender : List ℕ) (utf8 : Bool) → Knows s → Knows (on_mail state s sender utf8).next
+  after_mail Greeted s sender utf8 h = tt
+  after_mail Fresh s sender utf8 h = h
+  after_mail Sender s sender utf8 h = h
+  after_mail Recipients s sender utf8 h = h
+  after_mail Content s sender utf8 h = h
+  after_mail Waiting s sender utf8 h = h
+  after_mail Ended s sender utf8 h = h
 
   after_data : (state : State) (s : Session) → Knows s → Knows (on_data state s).next
   after_data Recipients s h = h
@@ -111,7 +111,7 @@ module _ (site : Site) (some : 0 < length site.boxes) where
   after_command : (s : Session) (r : Result Command BadCommand) → Knows s → Knows (on_command site s r).next
   after_command s (Err why) h = h
   after_command s (Ok (Lhlo client)) h = tt
-  after_command s (Ok (Mail sender)) h = after_mail s.state s sender h
+  after_command s (Ok (Mail sender utf8)) h = after_mail s.state s sender utf8 h
   after_command s (Ok (Rcpt target)) h = after_rcpt s.state s (box_of site target) h (target_known target)
   after_command s (Ok StartData) h = after_data s.state s h
   after_command s (Ok Rset) h = after_rset s.state s h
@@ -126,7 +126,7 @@ module _ (site : Site) (some : 0 < length site.boxes) where
   after_verdict s verdicts.NoRoom h = tt
 
   after_input : (s : Session) (x : Input) → Knows s → Knows (step site s x).next
-  after_input s (Line text) h = after_command s (command_at site.message_limit text) h
+  after_input s (Line text) h = after_command s (command_at (extensions_of site) text) h
   after_input s LongLine h = h
   after_input s (DataEnded v) h = after_verdict s v h
   after_input s (Outcomes os) h = tt
