@@ -1,5 +1,5 @@
 -- Sites as they are passed, owned and refused.
-use Rattle.std.specs.Prelude.{ℕ, Bool, ◌||◌, List, map, None, Vec, codes}
+use Rattle.std.specs.Prelude.{ℕ, Bool, false, ◌||◌, List, map, None, Vec, codes}
 use Rattle.std.specs.declared.alloc.Global.{Global}
 use Rattle.std.specs.Borrow.{Bor}
 use Rattle.std.specs.Char.{is_ascii_alphanumeric, is_ascii_lowercase, is_ascii_digit}
@@ -17,7 +17,7 @@ abbrev pub owned : List (Vec ℕ Global) → List (List ℕ)
 owned names = map (λ name. name.items) names
 
 -- the site of that host, with those further domains and those mailboxes, that names no limit of its own and no
--- delimiter
+-- delimiter, and has no extension
 abbrev pub site_of : List ℕ → List (Bor (List ℕ)) → List (Bor (List ℕ)) → Site
 site_of host domains boxes =
     record {
@@ -26,6 +26,8 @@ site_of host domains boxes =
       boxes = texts boxes;
       message_limit = MESSAGE_LIMIT;
       recipient_delimiter = None;
+      utf8 = false;
+      renames_marks = false;
     }
 
 -- a byte that may stand in the name of a host, of a mailbox

@@ -1,7 +1,7 @@
 //! What a server is named and serves.
 
 ghost use Rattle.std.specs.Prelude.{◌≡◌, ◌≤◌, ◌<◌, [], Some, None, length, slice_get, unwrap_or, option_map, IfOk};
-ghost use Rattle.std.specs.Prelude.{IfErr, IfSome};
+ghost use Rattle.std.specs.Prelude.{IfErr, IfSome, true};
 ghost use Rattle.mail_world.specs.Site.{Fault, IsSite, IsDelimiter, IsMessageLimit, fault_of, box_name, is_delimiter};
 ghost use Rattle.mail_world.specs.Targets.{is_here, box_named, box_of, local_name, user_of};
 ghost use Rattle.lmtp_text.specs.Seen.{seen_target};
@@ -42,8 +42,9 @@ impl From<AllocError> for SiteFault {
     }
 }
 
-/// A host, the further domains that it serves, its mailboxes in their order, how many bytes a message may have, and the
-/// byte that parts user and detail of a recipient's address, if one does.
+/// A host, the further domains that it serves, its mailboxes in their order, how many bytes a message may have, the byte
+/// that parts user and detail of a recipient's address, if one does, whether addresses may be in UTF-8, and whether
+/// records have the marks in a message's head renamed.
 #[derive(Debug, Drop)]
 pub struct Site {
     host: Vec<u8>,
@@ -51,6 +52,8 @@ pub struct Site {
     boxes: Vec<Vec<u8>>,
     message_limit: u32,
     recipient_delimiter: Option<u8>,
+    utf8: bool,
+    renames_marks: bool,
 }
 
 /// Whether user and detail of a recipient's address may be parted by this byte.
@@ -73,6 +76,8 @@ impl Model for Site {
       boxes = owned s.boxes.items;
       message_limit = s.message_limit;
       recipient_delimiter = s.recipient_delimiter;
+      utf8 = s.utf8;
+      renames_marks = s.renames_marks;
     } };
 
     ghost invariant = { λ s. m.IsSite
@@ -82,6 +87,8 @@ impl Model for Site {
           boxes = owned s.boxes.items;
           message_limit = s.message_limit;
           recipient_delimiter = s.recipient_delimiter;
+          utf8 = s.utf8;
+          renames_marks = s.renames_marks;
         }) };
 }
 
@@ -132,6 +139,8 @@ impl Site {
             boxes,
             message_limit: MESSAGE_LIMIT,
             recipient_delimiter: None,
+            utf8: false,
+            renames_marks: false,
         })
     }
 
@@ -172,6 +181,23 @@ impl Site {
         ensures known { IfSome result IsDelimiter }
     {
         self.recipient_delimiter
+    }
+
+    /// The same site, whose records have the marks in a message's head renamed.
+    pub fn with_renamed_marks(self) -> Site
+        ensures { result ≡ record self { renames_marks = true } }
+    {
+        Site {
+            renames_marks: true,
+            ..self
+        }
+    }
+
+    /// Whether records have the marks in a message's head renamed.
+    pub fn renames_marks(&self) -> bool
+        ensures { result ≡ self.now.renames_marks }
+    {
+        self.renames_marks
     }
 
     /// The host's name.
