@@ -37,6 +37,22 @@ pub check_words_left_out : of_rows (one_of (codes "check-words")) (served (codes
 unfolding clap_on_literals
 check_words_left_out = refl
 
+pub rename_marks_given : of_rows (one_of (codes "rename-marks")) (served (codes "--rename-marks" ∷ codes "anna" ∷ [])) ≡ Some (Some (codes "true"))
+unfolding clap_on_literals
+rename_marks_given = refl
+
+pub rename_marks_left_out : of_rows (one_of (codes "rename-marks")) (served (codes "anna" ∷ [])) ≡ Some (Some (codes "false"))
+unfolding clap_on_literals
+rename_marks_left_out = refl
+
+pub smtputf8_given : of_rows (one_of (codes "smtputf8")) (served (codes "--smtputf8" ∷ codes "anna" ∷ [])) ≡ Some (Some (codes "true"))
+unfolding clap_on_literals
+smtputf8_given = refl
+
+pub smtputf8_left_out : of_rows (one_of (codes "smtputf8")) (served (codes "anna" ∷ [])) ≡ Some (Some (codes "false"))
+unfolding clap_on_literals
+smtputf8_left_out = refl
+
 pub log_addresses_given : of_rows (one_of (codes "log-addresses")) (served (codes "--log-addresses" ∷ codes "anna" ∷ [])) ≡ Some (Some (codes "true"))
 unfolding clap_on_literals
 log_addresses_given = refl

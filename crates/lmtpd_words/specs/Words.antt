@@ -1,25 +1,22 @@
 -- What the program's words ask for.
 use Rattle.std.specs.Prelude.{◌≡◌, ◌∷◌, ◌++◌, ◌⊎◌, ◌↔◌, IsTrue, ◌<◌, ◌≤◌, ◌^◌, ◌==◌, ◌+◌, ◌-◌, ◌*◌, ◌/◌, min, max, ℕ}
-use Rattle.std.specs.Prelude.{Bool, true, false, ◌||◌, List, [], Option, Some, None, option_map, map, codes, length, String}
+use Rattle.std.specs.Prelude.{Bool, true, false, List, [], Option, Some, None, option_map, map, codes, length, String}
 use Rattle.std.specs.Prelude.{string_bytes}
 use Rattle.std.specs.declared.alloc.Global.{Global}
 use Rattle.std.specs.Option.{option_map_or}
-use Rattle.std.specs.List.{list_all, slice_split}
-use Rattle.std.specs.Char.{is_ascii_alphanumeric}
+use Rattle.std.specs.List.{slice_split}
 use Rattle.std.specs.Str.Parse.{IsNumeral, digits_value, without_leading_plus}
 use Rattle.clap.specs.Words.{Row, Text, all_of, first_of, one_of}
 use Rattle.log.specs.Level.{parse_filter}
 use Rattle.log.specs.declared.level.LevelFilter.{LevelFilter}
 use Rattle.log.specs.declared.level.LevelFilter.TheVariants as filter
 use Rattle.mail_world.specs.Site.{Site, IsMessageLimit, is_delimiter}
-use Rattle.mail_world.specs.Text.{has_byte}
 use Rattle.lmtp_text.specs.Sites.{site_of, texts}
 use Rattle.lmtpd_words.specs.Boxes.{listed_boxes}
 use Rattle.lmtpd_words.specs.declared.words.TheConstants.{DEFAULT_BLOCKS, DEFAULT_CAPACITY, DEFAULT_LANES}
 use Rattle.lmtpd_words.specs.declared.words.TheConstants.{DEFAULT_LOCK_WAIT, DEFAULT_LOG, DEFAULT_MAILBOX_MODE}
 use Rattle.lmtpd_words.specs.declared.words.TheConstants.{DEFAULT_READS, DEFAULT_SESSION_TIME, DEFAULT_SOCKET_MODE}
-use Rattle.lmtpd_words.specs.declared.words.TheConstants.{DEFAULT_SUFFIX, DEFAULT_TIMEOUT, MODE_DIGIT_LIMIT}
-use Rattle.lmtpd_words.specs.declared.words.TheConstants.{SUFFIX_LIMIT}
+use Rattle.lmtpd_words.specs.declared.words.TheConstants.{DEFAULT_TIMEOUT, MODE_DIGIT_LIMIT}
 use Rattle.mail_world.specs.declared.limits.TheConstants.{MODE_LIMIT, MESSAGE_LIMIT, BLOCK_SIZE, BLOCK_LIMIT}
 use Rattle.lmtpd_words.specs.declared.words.SiteWords.{SiteWords}
 use Rattle.lmtpd_words.specs.declared.words.RehearseWords.{RehearseWords}
@@ -119,20 +116,6 @@ IsModeOr usual (Some text) mode = WritesMode text × (mode ≡ octal text)
 abbrev pub IsNoMode : Option Text → Type 0
 IsNoMode given = (text : Text) × (given ≡ Some text) × (WritesMode text → ⊥)
 
--- what the files of mailboxes may have after a name
-pub record IsSuffix (text : Text) : Type 0 where
-  pub short : length text ≤ SUFFIX_LIMIT
-  pub bytes : list_all (λ b. is_ascii_alphanumeric b || has_byte (codes "._-") b) text ≡ true
-
--- the suffix that a text is, and else the usual one
-abbrev pub IsSuffixOr : Option Text → Text → Type 0
-IsSuffixOr None suffix = suffix ≡ DEFAULT_SUFFIX.now
-IsSuffixOr (Some text) suffix = IsSuffix text × (suffix ≡ text)
-
--- a text is given that is none
-abbrev pub IsNoSuffix : Option Text → Type 0
-IsNoSuffix given = (text : Text) × (given ≡ Some text) × (IsSuffix text → ⊥)
-
 -- the path that a text is: an empty text is none
 abbrev pub NamesPath : Option Text → Text → Type 0
 NamesPath given path = (given ≡ Some path) × (0 < length path)
@@ -169,7 +152,6 @@ pub record IsSiteRead (rows : List Row) (words : SiteWords) : Type 0 where
 -- what the values of a rehearsal's arguments ask for
 pub record IsRehearseRead (rows : List Row) (words : RehearseWords) : Type 0 where
   pub site : IsSiteRead rows words.site
-  pub suffix : words.site.mailbox_suffix.now ≡ DEFAULT_SUFFIX.now
   pub time : option_map number (one_of (codes "time") rows) ≡ Some words.time
   pub blocks : IsNumberOr (usual_blocks 1 words.site.message_limit) (one_of (codes "blocks") rows) words.blocks
   pub quota : IsLimit (one_of (codes "quota") rows) words.quota
@@ -177,7 +159,6 @@ pub record IsRehearseRead (rows : List Row) (words : RehearseWords) : Type 0 whe
 -- what the values of a server's arguments ask for
 pub record IsServeRead (rows : List Row) (words : ServeWords) : Type 0 where
   pub site : IsSiteRead rows words.site
-  pub suffix : IsSuffixOr (first_of (codes "mailbox-suffix") rows) words.site.mailbox_suffix.now
   pub listen : first_of (codes "listen") rows ≡ Some words.listen.now
   pub dir : NamesPath (first_of (codes "dir") rows) words.dir.now
   pub lanes : IsNumberOr DEFAULT_LANES (one_of (codes "lanes") rows) words.lanes
@@ -229,9 +210,8 @@ LacksServe rows =
     LacksText (codes "listen") rows
     ⊎ (IsNoPath (first_of (codes "dir") rows) ⊎ (IsNoNumber (one_of (codes "connections") rows)
     ⊎ (IsEmpty (first_of (codes "stop-file") rows) ⊎ (IsNoLevel (first_of (codes "log") rows)
-    ⊎ (IsNoSuffix (first_of (codes "mailbox-suffix") rows)
     ⊎ (IsNoMode (first_of (codes "mailbox-mode") rows)
-    ⊎ (IsNoMode (first_of (codes "socket-mode") rows) ⊎ LacksSite rows)))))))
+    ⊎ (IsNoMode (first_of (codes "socket-mode") rows) ⊎ LacksSite rows))))))
 
 abbrev pub LacksCheck : List Row → Type 0
 LacksCheck rows = all_of (codes "file") rows ≡ None
@@ -268,7 +248,6 @@ pub record HasListed (text : Text) (words filled : SiteWords) : Type 0 where
   pub recipient_delimiter : filled.recipient_delimiter ≡ words.recipient_delimiter
   pub rename_marks : filled.rename_marks ≡ words.rename_marks
   pub smtputf8 : filled.smtputf8 ≡ words.smtputf8
-  pub suffix : filled.mailbox_suffix ≡ words.mailbox_suffix
 
 -- the site that they name
 abbrev pub named_site : SiteWords → Site
