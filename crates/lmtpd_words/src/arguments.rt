@@ -74,7 +74,7 @@ pub const REHEARSE: [Argument; 9] = [
 ];
 
 /// What a server takes: what must be given, what may be, what ends it, and the mailboxes.
-pub const SERVE: [Argument; 25] = [
+pub const SERVE: [Argument; 26] = [
     HOST,
     LISTEN,
     DIR,
@@ -91,6 +91,7 @@ pub const SERVE: [Argument; 25] = [
     LOG_ADDRESSES,
     QUOTA,
     LOCK_WAIT,
+    MAILBOX_SUFFIX,
     MAILBOX_MODE,
     SOCKET_MODE,
     CONNECTIONS,
@@ -129,7 +130,7 @@ const LISTEN: Argument = Argument {
 const DIR: Argument = Argument {
     name: "dir",
     value: "FOLDER",
-    help: "The folder of the mailboxes, which must be there; each is a file BOX.mbox in it",
+    help: "The folder of the mailboxes, which must be there; each is a file of its own in it",
     is_required: true,
     kind: ValueKind::Text,
 };
@@ -271,6 +272,14 @@ const LOCK_WAIT: Argument = Argument {
         least: 0,
         most: LOCK_WAIT_LIMIT,
     },
+};
+
+const MAILBOX_SUFFIX: Argument = Argument {
+    name: "mailbox-suffix",
+    value: "SUFFIX",
+    help: "What a mailbox's file has after its name: at most 32 letters, digits, ., _ and -, or none [default: .mbox]",
+    is_required: false,
+    kind: ValueKind::Text,
 };
 
 const MAILBOX_MODE: Argument = Argument {

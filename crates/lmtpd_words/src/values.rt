@@ -12,8 +12,10 @@ ghost use Rattle.lmtpd_words.specs.Words.{IsMessageLimitOr, IsNoMessageLimit, us
 ghost use Rattle.lmtpd_words.specs.Words.{IsLacking, LacksCheck, LacksCopied, LacksCopy, LacksNumber, LacksRehearse, LacksServe, LacksSite};
 ghost use Rattle.lmtpd_words.specs.Words.{is_log_level, number, listed};
 
+use crate::suffix::suffix_of;
 use crate::texts::{
     BAD_DELIMITER, BAD_FOLDER, BAD_LEVEL, BAD_MAILBOX_MODE, BAD_SOCKET_MODE, BAD_STOP_FILE,
+    BAD_SUFFIX,
 };
 use crate::words::{
     CheckWords, CopyWords, DEFAULT_BLOCKS, DEFAULT_CAPACITY, DEFAULT_LANES, DEFAULT_LOCK_WAIT,
@@ -71,12 +73,13 @@ fn copied_words_of<'a>(matches: &ArgMatches<'a>) -> Option<Words<'a>>
 }
 
 /// What is said where a value is refused that `clap` leaves to us: the folder comes first, then the stop file, then the
-/// level, then the two modes, and last the delimiter, which a rehearsal has too.
+/// level, then the suffix, then the two modes, and last the delimiter, which a rehearsal has too.
 pub fn refused_text(matches: &ArgMatches<'_>) -> &'static str {
     match matches.subcommand_matches("serve") {
         Some(serve) if folder_of(serve).is_none() => BAD_FOLDER,
         Some(serve) if stop_file_of(serve).is_none() => BAD_STOP_FILE,
         Some(serve) if log_of(serve).is_none() => BAD_LEVEL,
+        Some(serve) if suffix_of(serve).is_none() => BAD_SUFFIX,
         Some(serve) if mailbox_mode_of(serve).is_none() => BAD_MAILBOX_MODE,
         Some(serve) if socket_mode_of(serve).is_none() => BAD_SOCKET_MODE,
         _ => BAD_DELIMITER,
@@ -126,6 +129,9 @@ fn serve_words<'a>(
     ) else {
         return Ok(None);
     };
+    let Some(mailbox_suffix) = suffix_of(matches) else {
+        return Ok(None);
+    };
     let Some(site) = site_words(alloc, matches)? else {
         return Ok(None);
     };
@@ -145,6 +151,7 @@ fn serve_words<'a>(
         log_addresses: is_given(matches, "log-addresses"),
         quota: quota_of(matches),
         lock_wait: number_or(matches, "lock-wait", DEFAULT_LOCK_WAIT),
+        mailbox_suffix,
         mailbox_mode,
         socket_mode,
         stop_file,

@@ -36,6 +36,12 @@ pub const DEFAULT_MAILBOX_MODE: u32 = 0o600;
 /// The permission bits of a Unix socket that is made: its owner and its group connect, and nobody else.
 pub const DEFAULT_SOCKET_MODE: u32 = 0o660;
 
+/// What a mailbox's file has after its name.
+pub const DEFAULT_SUFFIX: &str = ".mbox";
+
+/// The bytes that a mailbox's file may have after its name.
+pub const SUFFIX_LIMIT: usize = 32;
+
 /// The octal digits that write permission bits.
 pub const MODE_DIGIT_LIMIT: usize = 4;
 
@@ -103,6 +109,8 @@ pub struct ServeWords<'a> {
     pub quota: Option<u64>,
     /// The seconds that a turn at a mailbox is waited for.
     pub lock_wait: u32,
+    /// What a mailbox's file has after its name.
+    pub mailbox_suffix: &'a str,
     /// The permission bits of a mailbox's file that is made.
     pub mailbox_mode: u32,
     /// The permission bits of the Unix socket that is made.
