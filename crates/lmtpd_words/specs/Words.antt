@@ -165,6 +165,8 @@ pub record IsSiteRead (rows : List Row) (words : SiteWords) : Type 0 where
   pub boxes : texts words.boxes.items ≡ option_map_or (λ names. names) (all_of (codes "box") rows) []
   pub message_limit : IsMessageLimitOr (one_of (codes "message-limit") rows) words.message_limit
   pub recipient_delimiter : IsDelimiterIfGiven (first_of (codes "recipient-delimiter") rows) words.recipient_delimiter
+  -- a rehearsal has no such argument, and so the usual one
+  pub mailbox_suffix : IsSuffixOr (first_of (codes "mailbox-suffix") rows) words.mailbox_suffix.now
 
 -- what the values of a rehearsal's arguments ask for
 pub record IsRehearseRead (rows : List Row) (words : RehearseWords) : Type 0 where
@@ -189,7 +191,6 @@ pub record IsServeRead (rows : List Row) (words : ServeWords) : Type 0 where
   pub log_addresses : IsFlag (one_of (codes "log-addresses") rows) words.log_addresses
   pub quota : IsLimit (one_of (codes "quota") rows) words.quota
   pub lock_wait : IsNumberOr DEFAULT_LOCK_WAIT (one_of (codes "lock-wait") rows) words.lock_wait
-  pub mailbox_suffix : IsSuffixOr (first_of (codes "mailbox-suffix") rows) words.mailbox_suffix.now
   pub mailbox_mode : IsModeOr DEFAULT_MAILBOX_MODE (first_of (codes "mailbox-mode") rows) words.mailbox_mode
   pub socket_mode : IsModeOr DEFAULT_SOCKET_MODE (first_of (codes "socket-mode") rows) words.socket_mode
   -- a number exactly where a text is given
@@ -218,7 +219,8 @@ LacksNumber name rows = (text : Text) → one_of name rows ≡ Some text → IsN
 abbrev pub LacksSite : List Row → Type 0
 LacksSite rows = LacksText (codes "host") rows
     ⊎ (IsNoMessageLimit (one_of (codes "message-limit") rows)
-    ⊎ IsNoDelimiter (first_of (codes "recipient-delimiter") rows))
+    ⊎ (IsNoDelimiter (first_of (codes "recipient-delimiter") rows)
+    ⊎ IsNoSuffix (first_of (codes "mailbox-suffix") rows)))
 
 abbrev pub LacksRehearse : List Row → Type 0
 LacksRehearse rows = LacksNumber (codes "time") rows ⊎ LacksSite rows
@@ -228,9 +230,8 @@ LacksServe rows =
     LacksText (codes "listen") rows
     ⊎ (IsNoPath (first_of (codes "dir") rows) ⊎ (IsNoNumber (one_of (codes "connections") rows)
     ⊎ (IsEmpty (first_of (codes "stop-file") rows) ⊎ (IsNoLevel (first_of (codes "log") rows)
-    ⊎ (IsNoSuffix (first_of (codes "mailbox-suffix") rows)
     ⊎ (IsNoMode (first_of (codes "mailbox-mode") rows)
-    ⊎ (IsNoMode (first_of (codes "socket-mode") rows) ⊎ LacksSite rows)))))))
+    ⊎ (IsNoMode (first_of (codes "socket-mode") rows) ⊎ LacksSite rows))))))
 
 abbrev pub LacksCheck : List Row → Type 0
 LacksCheck rows = all_of (codes "file") rows ≡ None
@@ -265,6 +266,7 @@ pub record HasListed (text : Text) (words filled : SiteWords) : Type 0 where
   pub boxes : texts filled.boxes.items ≡ texts words.boxes.items ++ listed_boxes text
   pub message_limit : filled.message_limit ≡ words.message_limit
   pub recipient_delimiter : filled.recipient_delimiter ≡ words.recipient_delimiter
+  pub mailbox_suffix : filled.mailbox_suffix ≡ words.mailbox_suffix
 
 -- the site that they name
 abbrev pub named_site : SiteWords → Site

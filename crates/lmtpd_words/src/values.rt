@@ -73,15 +73,15 @@ fn copied_words_of<'a>(matches: &ArgMatches<'a>) -> Option<Words<'a>>
 }
 
 /// What is said where a value is refused that `clap` leaves to us: the folder comes first, then the stop file, then the
-/// level, then the suffix, then the two modes, and last the delimiter, which a rehearsal has too.
+/// level, then the two modes, then the suffix, and last the delimiter, which a rehearsal has too.
 pub fn refused_text(matches: &ArgMatches<'_>) -> &'static str {
     match matches.subcommand_matches("serve") {
         Some(serve) if folder_of(serve).is_none() => BAD_FOLDER,
         Some(serve) if stop_file_of(serve).is_none() => BAD_STOP_FILE,
         Some(serve) if log_of(serve).is_none() => BAD_LEVEL,
-        Some(serve) if suffix_of(serve).is_none() => BAD_SUFFIX,
         Some(serve) if mailbox_mode_of(serve).is_none() => BAD_MAILBOX_MODE,
         Some(serve) if socket_mode_of(serve).is_none() => BAD_SOCKET_MODE,
+        Some(serve) if suffix_of(serve).is_none() => BAD_SUFFIX,
         _ => BAD_DELIMITER,
     }
 }
@@ -129,9 +129,6 @@ fn serve_words<'a>(
     ) else {
         return Ok(None);
     };
-    let Some(mailbox_suffix) = suffix_of(matches) else {
-        return Ok(None);
-    };
     let Some(site) = site_words(alloc, matches)? else {
         return Ok(None);
     };
@@ -151,7 +148,6 @@ fn serve_words<'a>(
         log_addresses: is_given(matches, "log-addresses"),
         quota: quota_of(matches),
         lock_wait: number_or(matches, "lock-wait", DEFAULT_LOCK_WAIT),
-        mailbox_suffix,
         mailbox_mode,
         socket_mode,
         stop_file,
@@ -203,6 +199,9 @@ fn site_words<'a>(
     let Some(recipient_delimiter) = delimiter_of(matches) else {
         return Ok(None);
     };
+    let Some(mailbox_suffix) = suffix_of(matches) else {
+        return Ok(None);
+    };
     let domains = domains_of(alloc, matches)?;
     let boxes = boxes_of(alloc, matches)?;
     Ok(Some(SiteWords {
@@ -213,6 +212,7 @@ fn site_words<'a>(
         boxes,
         message_limit,
         recipient_delimiter,
+        mailbox_suffix,
     }))
 }
 

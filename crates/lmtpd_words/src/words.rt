@@ -65,6 +65,8 @@ pub struct SiteWords<'a> {
     /// The byte that parts user and detail of a recipient's address, if one does.
     pub recipient_delimiter: Option<u8>,
     ghost parted: { option_map_or is_delimiter recipient_delimiter true ≡ true },
+    /// What a mailbox's file has after its name; a rehearsal has no files, and the usual suffix.
+    pub mailbox_suffix: &'a str,
 }
 
 /// What a rehearsal is asked to do.
@@ -109,8 +111,6 @@ pub struct ServeWords<'a> {
     pub quota: Option<u64>,
     /// The seconds that a turn at a mailbox is waited for.
     pub lock_wait: u32,
-    /// What a mailbox's file has after its name.
-    pub mailbox_suffix: &'a str,
     /// The permission bits of a mailbox's file that is made.
     pub mailbox_mode: u32,
     /// The permission bits of the Unix socket that is made.

@@ -24,7 +24,6 @@ returns c =
       log_addresses = c.is_given.ensures;
       quota = c.quota_of.ensures;
       lock_wait = c.number_or-5.ensures;
-      mailbox_suffix = c.in-Some-suffix_of.ensures;
       mailbox_mode = c.in-Some-Some-3.ensures;
       socket_mode = c.in-Some-Some-3.ensures';
       connections = c.in-Some-Some.ensures';

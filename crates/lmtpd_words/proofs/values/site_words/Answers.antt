@@ -16,4 +16,5 @@ returns c =
       boxes = c.in_ok-boxes.ensures;
       message_limit = c.in-Some-message_limit_of.ensures;
       recipient_delimiter = c.in-Some-delimiter_of.ensures;
+      mailbox_suffix = c.in-Some-suffix_of.ensures;
     }
