@@ -9,6 +9,7 @@
 #   quota      the same with a quota that every letter fits, so that each record is measured before it is written;
 #              only where it is named
 #   logged     the same as ours with a line of the log for each copy (--log info); only where it is named
+#   renamed    the same as ours with the marks of each head renamed (--rename-marks); only where it is named
 #   before     an older program of ours, which LMTPD_BEFORE names; only where it is named
 # The works, by bench/serve/load.rs, which checks each reply:
 #   a, a1      4 connections, 2 KiB, one recipient: a mailbox each, and one for all

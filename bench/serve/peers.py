@@ -11,6 +11,9 @@ import time
 # The folders in which Debian has the servers, which an ordinary user's PATH lacks.
 SEARCHED = os.environ.get("PATH", "") + ":/usr/sbin:/usr/lib/postfix/sbin"
 
+# They are programs of ours, which choose a port themselves.
+OF_OURS = ("ours", "quota", "logged", "renamed", "before")
+
 DOVECOT = """
 base_dir = {folder}/run
 state_dir = {folder}/state
@@ -76,11 +79,12 @@ class Server:
         self.store = folder / "store"
         self.store.mkdir(parents=True)
         self.log = folder / "output"
-        self.port = 0 if name in ("ours", "quota", "logged", "before") else free_port()
+        self.port = 0 if name in OF_OURS else free_port()
         words_of = {
             "ours": self.ours,
             "quota": self.quota,
             "logged": self.logged,
+            "renamed": self.renamed,
             "before": self.before,
             "plain": self.plain,
             "smtp-sink": self.smtp_sink,
@@ -120,6 +124,9 @@ class Server:
 
     def logged(self, folder, preload):
         return [*self.ours(folder, preload), "--log", "info"]
+
+    def renamed(self, folder, preload):
+        return [*self.ours(folder, preload), "--rename-marks"]
 
     def plain(self, folder, _preload):
         return [str(folder.parent / "plain"), str(self.store), self.address]

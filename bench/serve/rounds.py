@@ -42,8 +42,8 @@ WORKS = {
     "c": Work(1, 20, 1, 1048576, 1, 5, {"dovecot": 2.5, "plain": 0.6}),
     "c4": Work(4, 10, 1, 1048576, 4, 3),
 }
-# The least ratio of ours with a log to ours without one.
-NEEDED_LOGGED = {"a": 0.9}
+# The least ratio of ours with a word to ours without it: with a log, with marks renamed.
+NEEDED_WITH = {"logged": {"a": 0.9}, "renamed": {"b": 0.95, "c": 0.95}}
 NEEDED_SLOW = {"a": {"floor": 0.9}}
 
 
@@ -196,13 +196,14 @@ def print_tables(works, names, given, runs):
     missed = 0
     for work in works:
         needed = NEEDED_SLOW.get(work, {}) if given.slow_sync else WORKS[work].needed
-        for name, other in [("logged", "ours"), *((name, other) for name in ("ours", "plain") for other in names)]:
-            if not {name, other} <= {*names} or other == name or other == "logged":
+        with_word = [(name, "ours") for name in NEEDED_WITH]
+        for name, other in [*with_word, *((name, other) for name in ("ours", "plain") for other in names)]:
+            if not {name, other} <= {*names} or other == name or other in NEEDED_WITH:
                 continue
             if name == "plain" and other in ("ours", "before"):
                 continue
             ratios = [runs[work, name, n].rate / runs[work, other, n].rate for n in range(given.rounds)]
-            least = {"ours": needed.get(other), "logged": NEEDED_LOGGED.get(work)}.get(name)
+            least = needed.get(other) if name == "ours" else NEEDED_WITH.get(name, {}).get(work)
             missed += print_ratio(work, name, other, ratios, least)
     return 1 if missed else 0
 

@@ -16,6 +16,7 @@ import log_keeps_lines  # noqa: F401
 import mailbox_of_user  # noqa: F401
 import many_clients_one_mailbox  # noqa: F401
 import many_mailboxes  # noqa: F401
+import marks_of_senders  # noqa: F401
 import moved_users  # noqa: F401
 import odd_clients  # noqa: F401
 import opensmtpd_delivers  # noqa: F401

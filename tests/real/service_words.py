@@ -11,6 +11,7 @@ from replies import not_stored, stored
 from service import CONF, Service, systemctl
 
 FIXED = ["--stop-file", "/run/lmtpd/stop", "--heal", "--start-anyway", "--log", "info"]
+OF_THE_UNIT = ["--rename-marks", "--smtputf8"]
 # The file of the package before it had DOMAINS, DELIMITER, FOLDER and OPTIONS, as an upgrade leaves it.
 OF_BEFORE = "HOST=mx.example\nMESSAGE_LIMIT=26214400\nBOXES=--boxes /etc/lmtpd.boxes\n"
 OLD = ["--host", "mx.example", "--listen", "inherited", "--dir", "/var/mail/lmtpd", "--message-limit", "26214400"]
@@ -41,8 +42,8 @@ def words_of_the_service(_folder):
     """the installed service has each word of /etc/lmtpd.conf where it belongs, and those of a file from before these
     words; where one is wrong or HOST isn't there it ends with status 2, and the journal says which"""
     with Service(["anna"]) as service:
-        equal(words_with(service, ALL), ["serve", *MANY, *FIXED, "anna", "ben", "--lanes", "8", "--quota", "1000000"])
-        equal(words_with(service, OF_BEFORE), ["serve", *OLD, *FIXED, "--boxes", "/etc/lmtpd.boxes"])
+        equal(words_with(service, ALL), ["serve", *OF_THE_UNIT, *MANY, *FIXED, "anna", "ben", "--lanes", "8", "--quota", "1000000"])
+        equal(words_with(service, OF_BEFORE), ["serve", *OF_THE_UNIT, *OLD, *FIXED, "--boxes", "/etc/lmtpd.boxes"])
         for text, line in REFUSED:
             CONF.write_text(f"BOXES=anna\n{text}\n")
             service.restart(may_fail=True)
@@ -70,7 +71,7 @@ def words_of_instances(_folder):
             stop_file = f"/run/{service.unit.replace('@', '-')}/stop"
             words = [stop_file if word == "/run/lmtpd/stop" else word for word in FIXED]
             own = [word for word in words_of(service) if word not in words]
-            equal(own, ["serve", "--host", host, *OLD[2:], *expected])
+            equal(own, ["serve", *OF_THE_UNIT, "--host", host, *OLD[2:], *expected])
 
 
 @case

@@ -1,16 +1,20 @@
 """Debian's Postfix beside the service as it is installed, by the lines of docs/operating/SETUP.md as they stand."""
 
 import re
+import smtplib
 import subprocess
 import time
 
 from cases import case, equal
 from in_a_machine import in_a_machine
+from packages import program
 from pages import lines_of, type_lines
 from server import run
 from service import Service
 
 NAMES = ["anna", "ben"]
+UMLAUT = "c\u00e4rl@a.example"
+DROP_IN = "/etc/systemd/system/lmtpd.service.d/marks.conf"
 SITE = """
 postconf -e virtual_mailbox_domains=mx.example 'virtual_mailbox_maps=inline:{anna@mx.example=x,ben@mx.example=x}'
 postconf -e virtual_transport=lmtp:unix:private/lmtpd lmtp_destination_concurrency_limit=4
@@ -74,11 +78,13 @@ def recipients_of_letters(_folder):
 @case
 @in_a_machine()
 def letters_as_written(_folder):
-    """Postfix by the typed lines of 'Letters as their senders wrote them': a head in UTF-8, a long line, and no lines
-    by which programs mark letters"""
+    """Postfix by the typed lines of 'Letters as their senders wrote them', beside a service without its marks' and its
+    UTF-8's word: a head in UTF-8, a long line, and no lines by which programs mark letters"""
     long = "x" * 5000
     marks = [f"{name}: 1" for name in ["Status", "X-Status", "X-Keywords", "X-UID", "X-IMAP", "X-IMAPbase"]]
     with Service(NAMES) as service:
+        type_lines(lines_of("SETUP.md", "### Marks"))
+        type_lines(f"sed -i 's/ --smtputf8//' {DROP_IN}; systemctl daemon-reload; systemctl restart lmtpd")
         type_lines(SITE)
         send("anna@mx.example", subject="gr\u00fc\u00dfe")
         wait_for(r"to=<anna@mx\.example>.* status=bounced .*SMTPUTF8 is required")
@@ -93,7 +99,31 @@ def letters_as_written(_folder):
         equal((long in found, set(marks) & set(found)), (True, set()))
 
 
-for one in [aliases, users_of_the_system, recipients_of_letters, letters_as_written]:
+@case
+@in_a_machine()
+def utf8_through_postfix(_folder):
+    """Postfix as Debian has it, beside the installed service: a subject in UTF-8 by sendmail, a sender in UTF-8 and a
+    recipient whose detail is, and the same sender by swaks; each is stored with its address, by UTF8LMTP where Postfix
+    asked for it"""
+    swaks = program("swaks", "swaks")
+    with Service(NAMES) as service:
+        type_lines(SITE)
+        send("anna@mx.example", subject="gr\u00fc\u00dfe")
+        equal(subjects(service, "anna", 1), ["gr\u00fc\u00dfe"])
+        with smtplib.SMTP("127.0.0.1", 25, local_hostname="client.example", timeout=20) as client:
+            options = ["SMTPUTF8", "BODY=8BITMIME"]
+            letter = b"Subject: two\r\n\r\nhello\r\n"
+            client.sendmail(UMLAUT, ["anna+gr\u00fc\u00dfe@mx.example"], letter, mail_options=options)
+        equal(subjects(service, "anna", 2), ["gr\u00fc\u00dfe", "two"])
+        words = [swaks, "--protocol", "LMTP", "--socket", service.address, "--from", UMLAUT, "--to", "anna@mx.example"]
+        subprocess.run([*words, "--header", "Subject: three", "--suppress-data"], check=True, capture_output=True)
+        equal(subjects(service, "anna", 3), ["gr\u00fc\u00dfe", "three", "two"])
+        found = lines_in(service, "anna")
+        equal((found.count(f"Return-Path: <{UMLAUT}>"), sum("with UTF8LMTP id" in line for line in found)), (2, 2))
+        equal("bounced" in log(), False)
+
+
+for one in [aliases, users_of_the_system, recipients_of_letters, letters_as_written, utf8_through_postfix]:
     one.seconds = 180
 
 

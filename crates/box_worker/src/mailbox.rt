@@ -6,12 +6,14 @@ ghost use Rattle.lmtp_text.specs.Calendar.{civil_at};
 ghost use Rattle.mbox_record.specs.Envelope.{record_text};
 ghost use Rattle.mbox_record.specs.Mending.{HasNotMended};
 ghost use Rattle.mail_world.specs.Counts.{counted};
+ghost use Rattle.mail_world.specs.Site.{Site as SiteView};
 ghost use Rattle.box_worker.specs.Limits.{CountsTo, StartsAt};
 ghost use Rattle.box_worker.specs.Stored.{mailbox_of, HasStored, IsMeasured, TakesCopy, CountsOutcome};
 ghost use Rattle.box_worker.specs.Turned.{MeasuresAgain, DoesInTurn, EndsInTurn, CountsInTurn, TurnsCopy};
 
 use crate::limit::Limit;
 use crate::store::{mend_and_store, record_size, store};
+use lmtp_text::Site;
 use mail_world::Outcome;
 use mbox_record::{Envelope, Spool, SpoolFault, mend};
 use msg_depot::{Depot, DepotName, Hold};
@@ -47,7 +49,7 @@ impl<S: Spool> Mailbox<S> {
     /// turns alone.
     pub fn on(spool: S, quota: Option<u64>) -> Mailbox<S>
         ensures mended { (S.state spool).sharing.is_shared ≡ false
-            → (site : Site) → HasStored civil_at site [] (S.state spool) result.mailbox }
+            → (site : SiteView) → HasStored civil_at site [] (S.state spool) result.mailbox }
         ensures broken { (S.state spool).sharing.is_shared ≡ false → result.mailbox.faulty ≡ true
             → HasNotMended (S.state spool) result.mailbox.state }
         ensures left_alone { (S.state spool).sharing.is_shared ≡ true

@@ -14,6 +14,7 @@ use crate::gate::Gate;
 use crate::mailbox::Mailbox;
 use crate::release::{SlipSenders, release};
 use crate::report::WorkerReport;
+use lmtp_text::Site;
 use mail_post::{Gone, Moment, Parts, Post, Receiver, SlipSender};
 use mbox_record::Spool;
 use msg_depot::{Depot, DepotName};

@@ -8,9 +8,10 @@ use Rattle.mail_world.specs.declared.BadCommand.TheVariants as bad
 use Rattle.mail_world.specs.declared.limits.TheConstants.{NAME_LIMIT, PATH_LIMIT}
 use Rattle.mail_world.specs.Commands.{Answer, Lhlo, mail_with, mail_path, mail, rcpt_with, rcpt_path, rcpt, by_verb, command_at, Parameter, is_client_name}
 use Rattle.mail_world.specs.Commands.{parameters, trimmed, after_spaces}
-use Rattle.mail_world.specs.Paths.{Found, Path, reverse_path, forward_path, closed_at, mailbox_at, after_route}
+use Rattle.mail_world.specs.Paths.{Found, Path, reverse_path, forward_path, path_at, encoded_at, closed_at, mailbox_at, after_route}
 use Rattle.mail_world.specs.Text.{begins, space}
-use Rattle.mail_world.specs.Grammar.{Target}
+use Rattle.mail_world.specs.declared.Extensions.{Extensions}
+use Rattle.mail_world.specs.Grammar.{Target, is_encoded}
 use Rattle.lmtp_session.specs.CommandLimits.{IsWithinLimits}
 
 if_within : (b : Bool) (x y : Answer) → IsWithinLimits x → IsWithinLimits y → IsWithinLimits (if b then x else y)
@@ -28,8 +29,8 @@ lhlo_within : (text : List ℕ) (b : Bool) → (b ≡ true → length text ≤ N
 lhlo_within text true h = h refl
 lhlo_within text false h = tt
 
-mail_with_within : (limit : ℕ) (sender : List ℕ) (ps : List Parameter) → length sender ≤ PATH_LIMIT → IsWithinLimits (mail_with limit sender ps)
-mail_with_within limit sender ps h = search (rules, if_within, h)
+mail_with_within : (offered : Extensions) (sender : List ℕ) (ps : List Parameter) → length sender ≤ PATH_LIMIT → IsWithinLimits (mail_with offered sender ps)
+mail_with_within offered sender ps h = search (rules, if_within, h)
 
 abbrev HasShortMailbox : Found Path → Type 0
 HasShortMailbox f = length f.value.mailbox ≤ PATH_LIMIT
@@ -37,9 +38,9 @@ HasShortMailbox f = length f.value.mailbox ≤ PATH_LIMIT
 abbrev HasShortSender : Found (List ℕ) → Type 0
 HasShortSender f = length f.value ≤ PATH_LIMIT
 
-mail_path_within : (limit : ℕ) (found : Option (Found (List ℕ))) → IfSome found HasShortSender → IsWithinLimits (mail_path limit found)
-mail_path_within limit None h = tt
-mail_path_within limit (Some f) h = let m = mail_with_within limit f.value (parameters f.rest) h in search (rules, if_within, m)
+mail_path_within : (offered : Extensions) (found : Option (Found (List ℕ))) → IfSome found HasShortSender → IsWithinLimits (mail_path offered found)
+mail_path_within offered None h = tt
+mail_path_within offered (Some f) h = let m = mail_with_within offered f.value (parameters f.rest) h in search (rules, if_within, m)
 
 closed_within_if : (text : List ℕ) (found : Found Target) (n : ℕ) (a b : Bool) → (b ≡ true → n ≤ PATH_LIMIT)
     → IfSome {T = Found Path} (if a && b then Some (record { value = record { mailbox = take n text; target = found.value }; rest = drop 1 found.rest }) else
@@ -60,15 +61,23 @@ if_some : {A : Type 0} (P : A → Type 0) (b : Bool) (o : Option A) → IfSome o
 if_some P true o h = h
 if_some P false o h = tt
 
-inner_within : (inner : List ℕ) → IfSome (option_and_then (closed_at inner) (mailbox_at inner)) HasShortMailbox
-inner_within inner = then_within HasShortMailbox (closed_at inner) (mailbox_at inner) (closed_within inner)
+inner_within : (utf8 : Bool) (inner : List ℕ) → IfSome (option_and_then (closed_at inner) (mailbox_at utf8 inner)) HasShortMailbox
+inner_within utf8 inner = then_within HasShortMailbox (closed_at inner) (mailbox_at utf8 inner) (closed_within inner)
 
-forward_within : (text : List ℕ) → IfSome (forward_path text) HasShortMailbox
-unfolding forward_path
-forward_within text =
+path_within : (utf8 : Bool) (text : List ℕ) → IfSome (path_at utf8 text) HasShortMailbox
+path_within utf8 text =
     if_some HasShortMailbox (begins (byte "<") text)
-    (option_and_then (λ inner. option_and_then (closed_at inner) (mailbox_at inner)) (after_route (drop 1 text)))
-    (then_within HasShortMailbox (λ inner. option_and_then (closed_at inner) (mailbox_at inner)) (after_route (drop 1 text)) inner_within)
+    (option_and_then (λ inner. option_and_then (closed_at inner) (mailbox_at utf8 inner)) (after_route utf8 (drop 1 text)))
+    (then_within HasShortMailbox (λ inner. option_and_then (closed_at inner) (mailbox_at utf8 inner)) (after_route utf8 (drop 1 text)) (inner_within utf8))
+
+encoded_within : (utf8 : Bool) (text : List ℕ) (path : Option (Found Path)) → IfSome path HasShortMailbox
+    → IfSome (option_and_then (encoded_at utf8 text) path) HasShortMailbox
+encoded_within utf8 text None h = tt
+encoded_within utf8 text (Some f) h = if_some HasShortMailbox (is_encoded utf8 (take (length text - length f.rest) text)) (Some f) h
+
+forward_within : (utf8 : Bool) (text : List ℕ) → IfSome (forward_path utf8 text) HasShortMailbox
+unfolding forward_path
+forward_within utf8 text = encoded_within utf8 text (path_at utf8 text) (path_within utf8 text)
 
 reverse_within_if : (b : Bool) (rest : List ℕ) (path : Option (Found Path)) → IfSome path HasShortMailbox
     → IfSome {T = Found (List ℕ)} (if b then Some (record { value = []; rest = rest }) else option_map
@@ -77,13 +86,13 @@ reverse_within_if true rest path h = omega arith
 reverse_within_if false rest None h = tt
 reverse_within_if false rest (Some f) h = h
 
-reverse_within : (text : List ℕ) → IfSome (reverse_path text) HasShortSender
+reverse_within : (utf8 : Bool) (text : List ℕ) → IfSome (reverse_path utf8 text) HasShortSender
 unfolding reverse_path
-reverse_within text = reverse_within_if _ _ (forward_path text) (forward_within text)
+reverse_within utf8 text = reverse_within_if _ _ (forward_path utf8 text) (forward_within utf8 text)
 
-mail_within : (limit : ℕ) (text : Option (List ℕ)) → IsWithinLimits (mail limit text)
-mail_within limit None = tt
-mail_within limit (Some text) = mail_path_within limit (reverse_path text) (reverse_within text)
+mail_within : (offered : Extensions) (text : Option (List ℕ)) → IsWithinLimits (mail offered text)
+mail_within offered None = tt
+mail_within offered (Some text) = mail_path_within offered (reverse_path offered.utf8 text) (reverse_within offered.utf8 text)
 
 rcpt_with_within : (target : Target) (ps : List Parameter) → IsWithinLimits (rcpt_with target ps)
 rcpt_with_within target [] = tt
@@ -93,18 +102,18 @@ rcpt_path_within : (found : Option (Found Path)) → IsWithinLimits (rcpt_path f
 rcpt_path_within None = tt
 rcpt_path_within (Some f) = let h = rcpt_with_within f.value.target (parameters f.rest) in search (rules, if_within, h)
 
-rcpt_within : (text : Option (List ℕ)) → IsWithinLimits (rcpt text)
-rcpt_within None = tt
-rcpt_within (Some text) = rcpt_path_within (forward_path text)
+rcpt_within : (offered : Extensions) (text : Option (List ℕ)) → IsWithinLimits (rcpt offered text)
+rcpt_within offered None = tt
+rcpt_within offered (Some text) = rcpt_path_within (forward_path offered.utf8 text)
 
-by_verb_within : (limit : ℕ) (verb rest : List ℕ) → IsWithinLimits (by_verb limit verb rest)
-by_verb_within limit verb rest =
+by_verb_within : (offered : Extensions) (verb rest : List ℕ) → IsWithinLimits (by_verb offered verb rest)
+by_verb_within offered verb rest =
     let c = lhlo_within rest (is_client_name rest) (client_fits rest) in
     search (rules, if_within, mail_within, rcpt_within, c) depth 30
 
 -- the client and the sender that a line names are within their limits
-pub command_within : (limit : ℕ) (line : List ℕ) → IsWithinLimits (command_at limit line)
+pub command_within : (offered : Extensions) (line : List ℕ) → IsWithinLimits (command_at offered line)
 unfolding command_at
-command_within limit line =
+command_within offered line =
     let w = trimmed line in
-    by_verb_within limit (before_first (λ b. b == space) w) (after_spaces (after_first (λ b. b == space) w))
+    by_verb_within offered (before_first (λ b. b == space) w) (after_spaces (after_first (λ b. b == space) w))

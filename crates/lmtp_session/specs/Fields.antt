@@ -23,6 +23,7 @@ session_view a = record {
     state = a.state;
     client = a.client.items;
     sender = a.sender.items;
+    utf8 = a.utf8;
     recipients = a.recipients.items;
   };
   answers = a.answers.items;

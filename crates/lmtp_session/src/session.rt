@@ -26,6 +26,7 @@ pub struct Session {
     state: State,
     client: SmallVec<u8, 256>,
     sender: SmallVec<u8, 256>,
+    utf8: bool,
     recipients: SmallVec<u32, 8>,
     answers: Vec<Reply>,
 }
@@ -57,6 +58,7 @@ impl Session {
             state: State::Fresh,
             client: SmallVec::new(alloc),
             sender: SmallVec::new(alloc),
+            utf8: false,
             recipients,
             answers,
         })
@@ -73,6 +75,7 @@ impl Session {
         self.state = State::Fresh;
         self.client.clear();
         self.sender.clear();
+        self.utf8 = false;
         self.recipients.clear();
         self.answers.clear();
         Reply::Greeting
@@ -92,8 +95,8 @@ impl Session {
         ensures step { IsStep self.old (Line line.now) result self.new }
         ensures no_memory { self.new.room ≡ self.old.room }
     {
-        let limit = self.site.message_limit();
-        self.on_command(read_command_at(line, limit))
+        let offered = self.site.extensions();
+        self.on_command(read_command_at(line, offered))
     }
 
     /// Takes note of a line that was too long to be a command.
@@ -175,6 +178,13 @@ impl Session {
         ensures bound { length result.now ≤ PATH_LIMIT }
     {
         self.sender.as_slice()
+    }
+
+    /// Whether MAIL had the parameter SMTPUTF8 (RFC 6531); not where no message has begun.
+    pub fn utf8(&self) -> bool
+        ensures { result ≡ self.now.session.utf8 }
+    {
+        self.utf8
     }
 
     /// The client's name, as its last LHLO gave it; empty before that.

@@ -7,11 +7,13 @@ use Rattle.mail_world.specs.declared.Verdict.TheVariants.{Whole, TooLarge, NoRoo
 use Rattle.mail_world.specs.declared.State.{State}
 use Rattle.mail_world.specs.declared.State.TheVariants.{Fresh, Greeted, Sender, Recipients, Content, Waiting, Ended}
 use Rattle.mail_world.specs.declared.Reply.TheVariants as replies
-use Rattle.mail_world.specs.declared.limits.TheConstants.{RECIPIENT_LIMIT, MESSAGE_LIMIT}
-use Rattle.mail_world.specs.Site.{Site}
+use Rattle.mail_world.specs.declared.limits.TheConstants.{RECIPIENT_LIMIT}
+use Rattle.mail_world.specs.declared.Extensions.{Extensions}
+use Rattle.mail_world.specs.Site.{Site, extensions_of}
+use Rattle.mail_world.specs.Grammar.{Target}
 use Rattle.mail_world.specs.Commands.{Answer, Lhlo, Mail, Rcpt, StartData, Rset, Noop, Quit, Vrfy, Help, command, command_at, Parameter, mail_with, mail_path}
-use Rattle.mail_world.specs.Commands.{mail, by_verb, parameters, trimmed, after_spaces}
-use Rattle.mail_world.specs.Paths.{Found, reverse_path}
+use Rattle.mail_world.specs.Commands.{mail, rcpt, rcpt_path, rcpt_with, by_verb, parameters, trimmed, after_spaces, usual_extensions}
+use Rattle.mail_world.specs.Paths.{Found, Path, reverse_path, forward_path}
 use Rattle.mail_world.specs.Text.{space}
 use Rattle.std.specs.List.{before_first, after_first}
 use Rattle.mail_world.specs.Targets.{box_of}
@@ -23,17 +25,17 @@ use Rattle.lmtp_talk.specs.TalkState.{QuitsWith}
 
 -- where a command leads from a state: there, or to one of these
 module _ (P : State → Type 0) where
-  mail_leads : (state : State) (s : Session) (sender : List ℕ) → P s.state → P Sender → P (on_mail state s sender).next.state
-  mail_leads Fresh s sender same sends = same
-  mail_leads Greeted s sender same sends = sends
-  mail_leads Sender s sender same sends = same
-  mail_leads Recipients s sender same sends = same
-  mail_leads Content s sender same sends = same
-  mail_leads Waiting s sender same sends = same
-  mail_leads Ended s sender same sends = same
+  mail_leads : (state : State) (s : Session) (sender : List ℕ) (utf8 : Bool) → P s.state → P Sender → P (on_mail state s sender utf8).next.state
+  mail_leads Fresh s sender utf8 same sends = same
+  mail_leads Greeted s sender utf8 same sends = sends
+  mail_leads Sender s sender utf8 same sends = same
+  mail_leads Recipients s sender utf8 same sends = same
+  mail_leads Content s sender utf8 same sends = same
+  mail_leads Waiting s sender utf8 same sends = same
+  mail_leads Ended s sender utf8 same sends = same
 
   room_leads : (b : Bool) (s : Session) (box : ℕ) → P s.state → P Recipients
-      → P (if b then says replies.RecipientOk (record { state = Recipients; client = s.client; sender = s.sender; recipients = s.recipients ++ box ∷ [] }) else
+      → P (if b then says replies.RecipientOk (record s { state = Recipients; recipients = s.recipients ++ box ∷ [] }) else
       says replies.TooMany s).next.state
   room_leads true s box same receives = receives
   room_leads false s box same receives = same
@@ -73,7 +75,7 @@ module _ (P : State → Type 0) where
       → P (on_command site s a).next.state
   answer_leads site s (Err why) same greeted sends receives content ended = same
   answer_leads site s (Ok (Lhlo client)) same greeted sends receives content ended = greeted
-  answer_leads site s (Ok (Mail sender)) same greeted sends receives content ended = mail_leads s.state s sender same sends
+  answer_leads site s (Ok (Mail sender utf8)) same greeted sends receives content ended = mail_leads s.state s sender utf8 same sends
   answer_leads site s (Ok (Rcpt target)) same greeted sends receives content ended = rcpt_leads s.state s (box_of site target) same receives
   answer_leads site s (Ok StartData) same greeted sends receives content ended = data_leads s.state s same content
   answer_leads site s (Ok Rset) same greeted sends receives content ended = rset_leads s.state s same greeted
@@ -106,12 +108,12 @@ goes_on Waiting h = cc
 goes_on Ended h = cc
 
 pub line_goes_on : (site : Site) (s : Session) (text : List ℕ) → TakesLines s.state → IsNotEnded (step site s (Line text)).next.state
-line_goes_on site s text h = answer_leads IsNotEnded site s (command_at site.message_limit text) (goes_on s.state h) tt tt tt tt (λ e. tt)
+line_goes_on site s text h = answer_leads IsNotEnded site s (command_at (extensions_of site) text) (goes_on s.state h) tt tt tt tt (λ e. tt)
 
 pub long_goes_on : (site : Site) (s : Session) → TakesLines s.state → IsNotEnded (step site s LongLine).next.state
 long_goes_on site s h = goes_on s.state h
 
--- a line is QUIT whatever limit messages have
+-- a line is QUIT whatever the site offers
 record IsNoQuit (a : Answer) : Type 0 where
   none : is_quit_answer a ≡ false
 
@@ -129,45 +131,62 @@ alike_if false x u v h = h
 refused_none : (why : BadCommand) → IsNoQuit (Err why)
 refused_none why = record { none = refl }
 
-sender_none : (sender : List ℕ) → IsNoQuit (Ok (Mail sender))
-sender_none sender = record { none = refl }
+sender_none : (sender : List ℕ) (utf8 : Bool) → IsNoQuit (Ok (Mail sender utf8))
+sender_none sender utf8 = record { none = refl }
 
-mail_with_none : (limit : ℕ) (sender : List ℕ) (ps : List Parameter) → IsNoQuit (mail_with limit sender ps)
-mail_with_none limit sender ps = search (rules, none_if, refused_none, sender_none)
+mail_with_none : (offered : Extensions) (sender : List ℕ) (ps : List Parameter) → IsNoQuit (mail_with offered sender ps)
+mail_with_none offered sender ps = search (rules, none_if, refused_none, sender_none)
 
-mail_path_none : (limit : ℕ) (found : Option (Found (List ℕ))) → IsNoQuit (mail_path limit found)
-mail_path_none limit None = record { none = refl }
-mail_path_none limit (Some f) = let h = mail_with_none limit f.value (parameters f.rest) in search (rules, none_if, refused_none, h)
+mail_path_none : (offered : Extensions) (found : Option (Found (List ℕ))) → IsNoQuit (mail_path offered found)
+mail_path_none offered None = record { none = refl }
+mail_path_none offered (Some f) = let h = mail_with_none offered f.value (parameters f.rest) in search (rules, none_if, refused_none, h)
 
-mail_none : (limit : ℕ) (text : Option (List ℕ)) → IsNoQuit (mail limit text)
-mail_none limit None = record { none = refl }
-mail_none limit (Some text) = mail_path_none limit (reverse_path text)
+mail_none : (offered : Extensions) (text : Option (List ℕ)) → IsNoQuit (mail offered text)
+mail_none offered None = record { none = refl }
+mail_none offered (Some text) = mail_path_none offered (reverse_path offered.utf8 text)
 
-mails_alike : (b : Bool) (x y z : Answer) → IsNoQuit x → IsNoQuit y → QuitsAlike (if b then x else z) (if b then y else z)
-mails_alike true x y z hx hy = record { alike = hx.none ∙ sym hy.none }
-mails_alike false x y z hx hy = record { alike = refl }
+rcpt_with_none : (target : Target) (ps : List Parameter) → IsNoQuit (rcpt_with target ps)
+rcpt_with_none target [] = record { none = refl }
+rcpt_with_none target (p ∷ ps) = record { none = refl }
 
-verbs_alike : (limit other : ℕ) (verb rest : List ℕ) → QuitsAlike (by_verb limit verb rest) (by_verb other verb rest)
-verbs_alike limit other verb rest =
-    let h = mail_none limit in
+rcpt_path_none : (found : Option (Found Path)) → IsNoQuit (rcpt_path found)
+rcpt_path_none None = record { none = refl }
+rcpt_path_none (Some f) = let h = rcpt_with_none f.value.target (parameters f.rest) in search (rules, none_if, refused_none, h)
+
+rcpt_none : (offered : Extensions) (text : Option (List ℕ)) → IsNoQuit (rcpt offered text)
+rcpt_none offered None = record { none = refl }
+rcpt_none offered (Some text) = rcpt_path_none (forward_path offered.utf8 text)
+
+none_alike : (b : Bool) (x y u v : Answer) → IsNoQuit x → IsNoQuit y → QuitsAlike u v → QuitsAlike (if b then x else u) (if b then y else v)
+none_alike true x y u v hx hy h = record { alike = hx.none ∙ sym hy.none }
+none_alike false x y u v hx hy h = h
+
+same_alike : (a : Answer) → QuitsAlike a a
+same_alike a = record { alike = refl }
+
+verbs_alike : (offered other : Extensions) (verb rest : List ℕ) → QuitsAlike (by_verb offered verb rest) (by_verb other verb rest)
+verbs_alike offered other verb rest =
+    let h = mail_none offered in
     let k = mail_none other in
-    search (rules, alike_if, mails_alike, h, k) depth 40
+    let n = rcpt_none offered in
+    let m = rcpt_none other in
+    search (rules, alike_if, none_alike, same_alike, h, k, n, m) depth 40
 
-command_quit : (limit : ℕ) (text : List ℕ) → is_quit_answer (command_at limit text) ≡ is_quit_answer (command text)
+command_quit : (offered : Extensions) (text : List ℕ) → is_quit_answer (command_at offered text) ≡ is_quit_answer (command text)
 unfolding command_at
-command_quit limit text =
+command_quit offered text =
     let w = trimmed text in
-    (verbs_alike limit MESSAGE_LIMIT (before_first (λ b. b == space) w) (after_spaces (after_first (λ b. b == space) w))).alike
+    (verbs_alike offered usual_extensions (before_first (λ b. b == space) w) (after_spaces (after_first (λ b. b == space) w))).alike
 
 -- the session ends exactly with QUIT
 line_ends : (site : Site) (s : Session) (text : List ℕ) → TakesLines s.state → (step site s (Line text)).next.state ≡ Ended → is_quit (Line text) ≡ true
-line_ends site s text h = answer_leads (λ x. x ≡ Ended → is_quit_answer (command text) ≡ true) site s (command_at site.message_limit text)
-    (λ e. absurd (not_ended s.state h e)) (λ e. cc) (λ e. cc) (λ e. cc) (λ e. cc) (λ q e. sym (command_quit site.message_limit text) ∙ q)
+line_ends site s text h = answer_leads (λ x. x ≡ Ended → is_quit_answer (command text) ≡ true) site s (command_at (extensions_of site) text)
+    (λ e. absurd (not_ended s.state h e)) (λ e. cc) (λ e. cc) (λ e. cc) (λ e. cc) (λ q e. sym (command_quit (extensions_of site) text) ∙ q)
 
 quit_ends : (site : Site) (s : Session) (a : Answer) → is_quit_answer a ≡ true → (on_command site s a).next.state ≡ Ended
 quit_ends site s (Err why) e = cc
 quit_ends site s (Ok (Lhlo client)) e = cc
-quit_ends site s (Ok (Mail sender)) e = cc
+quit_ends site s (Ok (Mail sender utf8)) e = cc
 quit_ends site s (Ok (Rcpt target)) e = cc
 quit_ends site s (Ok StartData) e = cc
 quit_ends site s (Ok Rset) e = cc
@@ -212,7 +231,7 @@ pub quits_line : (site : Site) (s : Session) (xs : List Input) (text : List ℕ)
     → QuitsWith (session_after site s (Line text ∷ [])).state (xs ++ Line text ∷ [])
 quits_line site s xs text h q = quits_more xs (Line text ∷ []) s.state _ (not_ended s.state h) q
     (λ e. or_last (is_quit (Line text)) (line_ends site s text h e))
-    (λ e. quit_ends site s (command_at site.message_limit text) (command_quit site.message_limit text ∙ or_one (is_quit (Line text)) e))
+    (λ e. quit_ends site s (command_at (extensions_of site) text) (command_quit (extensions_of site) text ∙ or_one (is_quit (Line text)) e))
 
 pub quits_long : (site : Site) (s : Session) (xs : List Input) → TakesLines s.state → QuitsWith s.state xs
     → QuitsWith (session_after site s (LongLine ∷ [])).state (xs ++ LongLine ∷ [])

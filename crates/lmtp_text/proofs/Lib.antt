@@ -10,3 +10,4 @@ pub mod ParameterTallies
 pub mod PathPrefixes
 pub mod CalendarDates
 pub mod CalendarMoments
+mod Encodings

@@ -1,14 +1,16 @@
 -- A tally with one more parameter.
-use Rattle.std.proofs.Common.{◌≡◌, ℕ, ◌+◌, Bool, true, false, not, ◌||◌, ◌&&◌, cond, nat_lt, List, [], ◌∷◌, ◌++◌, ap, sym, ◌∙◌, refl, add-zero, arith}
-use Rattle.std.specs.Prelude.{codes}
+use Rattle.std.proofs.Common.{◌≡◌, ℕ, ◌+◌, Bool, true, false, not, ◌||◌, ◌&&◌, cond, nat_lt, List, [], ◌∷◌, ◌++◌, length, ap, sym, ◌∙◌, refl, add-zero, arith}
+use Rattle.std.specs.Prelude.{codes, filter, Ok}
 use Rattle.std.specs.List.{list_any, list_all}
 use borrow.Author.Tests.{tests}
 use Rattle.std.proofs.lemmas.Bool.Decides.{nat_tests}
 use Rattle.std.proofs.lemmas.List.Sums.{length-filter, sum_by_push}
 use Rattle.std.proofs.lemmas.Slice.Eq.{bytes_eq-Decides}
 use Rattle.std.specs.Str.{bytes_eq, str_to_ascii_lowercase}
-use Rattle.mail_world.specs.Commands.{Parameter, has_keyword, is_known, is_well_valued, is_too_large, is_size_value, is_above_limit}
-use Rattle.lmtp_text.specs.Parameters.{Tallies, IsWithSize, count_of}
+use Rattle.mail_world.specs.declared.Extensions.{Extensions}
+use Rattle.mail_world.specs.Commands.{Parameter, Mail, has_keyword, is_known, is_well_valued, is_too_large, is_size_value, is_body_value, has_no_value, is_above_limit}
+use Rattle.mail_world.specs.Commands.{stands_twice, mail_with}
+use Rattle.lmtp_text.specs.Parameters.{Tallies, IsWithSize, IsWithBody, IsWithUtf8, count_of}
 use Rattle.lmtp_text.specs.declared.parameters.Tally.{Tally}
 
 all_more : (p : Parameter → Bool) (ps : List Parameter) (q : Parameter) → list_all p (ps ++ q ∷ []) ≡ (list_all p ps && p q)
@@ -30,62 +32,221 @@ count_more word ps q =
     length-filter (has_keyword word) (ps ++ q ∷ []) ∙ sum_by_push (λ p. cond (has_keyword word p) 1 0) ps q
     ∙ ap (λ n. n + cond (has_keyword word q) 1 0) (sym (length-filter (has_keyword word) ps))
 
-bool_wrong : (v s b s1 d : Bool) → ((not v || s || b) || s1 || not d) ≡ (not (v && d) || (s || s1) || b)
-bool_wrong v s b s1 d = grind (arith, tests)
+-- some parameter passes where the count of those that pass isn't zero
+counted_step : (t : Bool) (q : Parameter) (r : Bool) (qs : List Parameter) → r ≡ nat_lt 0 (length qs) → (t || r) ≡ nat_lt 0 (length (cond t (q ∷ qs) qs))
+counted_step true q r qs e = grind (arith, nat_tests)
+counted_step false q r qs e = e
 
-twice_more : (n : ℕ) → nat_lt 1 (n + 1) ≡ (nat_lt 1 n || nat_lt 0 n)
-twice_more n = grind (arith, nat_tests)
+any_counted : (p : Parameter → Bool) (ps : List Parameter) → list_any p ps ≡ nat_lt 0 (length (filter p ps))
+any_counted p [] = refl
+any_counted p (q ∷ ps) = counted_step (p q) q (list_any p ps) (filter p ps) (any_counted p ps)
 
-above_zero : (n : ℕ) → nat_lt 0 (n + 1) ≡ true
-above_zero n = grind (arith, nat_tests)
+-- one more of a word, or none
+some_more : (n : ℕ) (t : Bool) → (t || nat_lt 0 n) ≡ nat_lt 0 (n + cond t 1 0)
+some_more n true = grind (arith, nat_tests)
+some_more n false = ap (nat_lt 0) (sym (add-zero n))
 
--- what is wrong, with one more SIZE
-size_wrong : (wrong has v d v' : Bool) (s b s' b' : ℕ) → wrong ≡ (not v || nat_lt 1 s || nat_lt 1 b) → has ≡ nat_lt 0 s → v' ≡ (v && d) → s' ≡ s + 1 → b' ≡ b
-    → (wrong || has || not d) ≡ (not v' || nat_lt 1 s' || nat_lt 1 b')
-size_wrong wrong has v d v' s b s' b' e f g i j =
-    rw (e, f, g, i, j, twice_more s) (bool_wrong v (nat_lt 1 s) (nat_lt 1 b) (nat_lt 0 s) d)
+or_none : (b : Bool) → b ≡ (b || false)
+or_none true = refl
+or_none false = refl
 
-not_wrong : (a b d : Bool) → (a || b || not d) ≡ false → (a ≡ false) × (d ≡ true)
-not_wrong true b d e = cc
-not_wrong false true d e = cc
-not_wrong false false true e = (refl, refl)
-not_wrong false false false e = cc
+twice_more : (n : ℕ) (t : Bool) → nat_lt 1 (n + cond t 1 0) ≡ (nat_lt 1 n || t && nat_lt 0 n)
+twice_more n true = grind (arith, nat_tests)
+twice_more n false = ap (nat_lt 1) (add-zero n) ∙ or_none (nat_lt 1 n)
+
+unknown_more : (k a : Bool) → (not k || not a) ≡ not (a && k)
+unknown_more true true = refl
+unknown_more true false = refl
+unknown_more false true = refl
+unknown_more false false = refl
+
+large_more : (a b : Bool) → (a || b) ≡ (b || a)
+large_more true true = refl
+large_more true false = refl
+large_more false true = refl
+large_more false false = refl
+
+-- wrong is what was wrong, a word that stands twice now, or a wrong value
+wrong_more : (v w x y z p q r : Bool)
+    → (((not v || x || y || z) || (p || q || r)) || not w) ≡ (not (v && w) || (x || p) || (y || q) || (z || r))
+wrong_more v w x y z p q r = grind (arith, tests)
+
+known_so : (k u : Bool) → (not k || u) ≡ false → (k ≡ true) × (u ≡ false)
+known_so true u e = (refl, e)
+known_so false u e = cc
+
+right_so : (w m v : Bool) → ((w || m) || not v) ≡ false → (w ≡ false) × (v ≡ true)
+right_so true m v e = cc
+right_so false true v e = cc
+right_so false false true e = (refl, refl)
+right_so false false false e = cc
+
+-- what a parameter is: which of the words it has, whether it is known, has a right value, is too large
+record IsParameter (offered : Extensions) (p : Parameter) (s b e k v l : Bool) : Type 0 where
+  size : has_keyword (codes "SIZE") p ≡ s
+  body : has_keyword (codes "BODY") p ≡ b
+  utf8 : has_keyword (codes "SMTPUTF8") p ≡ e
+  known : is_known offered.utf8 p ≡ k
+  valued : is_well_valued p ≡ v
+  large : is_too_large offered.message_limit p ≡ l
+
+-- the tally u is t with one more such parameter
+record IsWith (t u : Tally) (s b e k v l : Bool) : Type 0 where
+  unknown : u.unknown ≡ (not k || t.unknown)
+  has_size : u.has_size ≡ (s || t.has_size)
+  has_body : u.has_body ≡ (b || t.has_body)
+  has_utf8 : u.has_utf8 ≡ (e || t.has_utf8)
+  wrong : k ≡ true → u.wrong ≡ ((t.wrong || (s && t.has_size || b && t.has_body || e && t.has_utf8)) || not v)
+  large : k ≡ true → v ≡ true → u.large ≡ (l || t.large)
+
+with_tallies : (offered : Extensions) (t u : Tally) (ps : List Parameter) (p : Parameter) (size body utf8 known valued large : Bool)
+    → IsParameter offered p size body utf8 known valued large → IsWith t u size body utf8 known valued large
+    → Tallies offered t ps → Tallies offered u (ps ++ p ∷ [])
+with_tallies offered t u ps p size body utf8 known valued large is w h =
+    let limit = offered.message_limit in
+    let k : list_all (is_known offered.utf8) (ps ++ p ∷ []) ≡ (list_all (is_known offered.utf8) ps && known) =
+    all_more (is_known offered.utf8) ps p ∙ ap (λ b. list_all (is_known offered.utf8) ps && b) is.known in
+    let v : list_all is_well_valued (ps ++ p ∷ []) ≡ (list_all is_well_valued ps && valued) =
+    all_more is_well_valued ps p ∙ ap (λ b. list_all is_well_valued ps && b) is.valued in
+    let l : list_any (is_too_large limit) (ps ++ p ∷ []) ≡ (list_any (is_too_large limit) ps || large) =
+    any_more (is_too_large limit) ps p ∙ ap (λ b. list_any (is_too_large limit) ps || b) is.large in
+    let more_of : (word : List ℕ) (has : Bool) → has_keyword word p ≡ has → count_of word (ps ++ p ∷ []) ≡ count_of word ps + cond has 1 0 =
+    λ word has e. count_more word ps p ∙ ap (λ b. count_of word ps + cond b 1 0) e in
+    let s = more_of (codes "SIZE") size is.size in
+    let b = more_of (codes "BODY") body is.body in
+    let e = more_of (codes "SMTPUTF8") utf8 is.utf8 in
+    record {
+      unknown = w.unknown ∙ ap (λ x. not known || x) h.unknown ∙ unknown_more known (list_all (is_known offered.utf8) ps) ∙ ap not (sym k);
+      has_size = w.has_size ∙ ap (λ x. size || x) h.has_size ∙ some_more _ size ∙ ap (nat_lt 0) (sym s);
+      has_body = w.has_body ∙ ap (λ x. body || x) h.has_body ∙ some_more _ body ∙ ap (nat_lt 0) (sym b);
+      has_utf8 = w.has_utf8 ∙ ap (λ x. utf8 || x) h.has_utf8 ∙ some_more _ utf8 ∙ ap (nat_lt 0) (sym e);
+      wrong = λ all_known.
+          let so = known_so known t.unknown (sym w.unknown ∙ all_known) in
+          w.wrong so.0
+          ∙ rw (
+            h.wrong so.1,
+            h.has_size,
+            h.has_body,
+            h.has_utf8,
+            v,
+            s,
+            b,
+            e,
+            twice_more (count_of (codes "SIZE") ps) size,
+            twice_more (count_of (codes "BODY") ps) body,
+            twice_more (count_of (codes "SMTPUTF8") ps) utf8,
+          )
+          (wrong_more (list_all is_well_valued ps) valued (nat_lt 1 (count_of (codes "SIZE") ps)) (nat_lt 1 (count_of (codes "BODY") ps))
+          (nat_lt 1 (count_of (codes "SMTPUTF8") ps)) (size && nat_lt 0 (count_of (codes "SIZE") ps)) (body && nat_lt 0 (count_of (codes "BODY") ps))
+          (utf8 && nat_lt 0 (count_of (codes "SMTPUTF8") ps)));
+      large = λ all_known all_right.
+          let so = known_so known t.unknown (sym w.unknown ∙ all_known) in
+          let right = right_so t.wrong (size && t.has_size || body && t.has_body || utf8 && t.has_utf8) valued (sym (w.wrong so.0) ∙ all_right) in
+          w.large so.0 right.1 ∙ ap (λ x. large || x) (h.large so.1 right.0) ∙ large_more large (list_any (is_too_large limit) ps) ∙ sym l;
+    }
 
 -- a keyword is one word only
 same_text : (xs ys : List ℕ) → bytes_eq xs ys ≡ true → xs ≡ ys
 same_text xs ys e = grind (arith, bytes_eq-Decides)
 
-pub size_not_body : (p : Parameter) → has_keyword (codes "SIZE") p ≡ true → has_keyword (codes "BODY") p ≡ false
-size_not_body p e = rw (same_text (str_to_ascii_lowercase p.keyword) (str_to_ascii_lowercase (codes "SIZE")) e) refl
+keyword_is : (word : List ℕ) (p : Parameter) → has_keyword word p ≡ true → str_to_ascii_lowercase p.keyword ≡ str_to_ascii_lowercase word
+keyword_is word p e = same_text (str_to_ascii_lowercase p.keyword) (str_to_ascii_lowercase word) e
 
-and_true : (a b : Bool) → b ≡ true → (a && b) ≡ a
-and_true true b e = e
-and_true false b e = refl
+size_alone : (p : Parameter) → has_keyword (codes "SIZE") p ≡ true
+    → (has_keyword (codes "BODY") p ≡ false) × (has_keyword (codes "SMTPUTF8") p ≡ false)
+size_alone p e = (rw (keyword_is (codes "SIZE") p e) refl, rw (keyword_is (codes "SIZE") p e) refl)
 
-pub with_size_tallies : (limit : ℕ) (t u : Tally) (ps : List Parameter) (p : Parameter) → has_keyword (codes "SIZE") p ≡ true → IsWithSize limit t p.value u
-    → Tallies limit t ps → Tallies limit u (ps ++ p ∷ [])
-with_size_tallies limit t u ps p is w h =
-    let n = size_not_body p is in
-    let known : is_known p ≡ true = rw is refl in
-    let valued : is_well_valued p ≡ is_size_value p.value = rw is refl in
-    let large : is_too_large limit p ≡ is_above_limit limit p.value = rw is refl in
-    let one : cond (has_keyword (codes "SIZE") p) 1 0 ≡ 1 = rw is refl in
-    let none : cond (has_keyword (codes "BODY") p) 1 0 ≡ 0 = rw n refl in
-    let k : list_all is_known (ps ++ p ∷ []) ≡ list_all is_known ps = all_more is_known ps p ∙ and_true _ _ known in
-    let v : list_all is_well_valued (ps ++ p ∷ []) ≡ (list_all is_well_valued ps && is_size_value p.value) =
-    all_more is_well_valued ps p ∙ ap (λ b. list_all is_well_valued ps && b) valued in
-    let l : list_any (is_too_large limit) (ps ++ p ∷ []) ≡ (list_any (is_too_large limit) ps || is_above_limit limit p.value) =
-    any_more (is_too_large limit) ps p ∙ ap (λ b. list_any (is_too_large limit) ps || b) large in
-    let s : count_of (codes "SIZE") (ps ++ p ∷ []) ≡ count_of (codes "SIZE") ps + 1 =
-    count_more (codes "SIZE") ps p ∙ ap (λ m. count_of (codes "SIZE") ps + m) one in
-    let b : count_of (codes "BODY") (ps ++ p ∷ []) ≡ count_of (codes "BODY") ps =
-    count_more (codes "BODY") ps p ∙ ap (λ m. count_of (codes "BODY") ps + m) none ∙ add-zero _ in
-    record {
-      unknown = w.unknown ∙ h.unknown ∙ ap not (sym k);
-      has_size = w.has_size ∙ rw s (sym (above_zero _));
-      has_body = w.has_body ∙ h.has_body ∙ ap (nat_lt 0) (sym b);
-      wrong = λ known_all. w.wrong ∙ size_wrong _ _ _ _ _ _ _ _ _ (h.wrong (sym w.unknown ∙ known_all)) h.has_size v s b;
-      large = λ known_all right.
-          let e = not_wrong _ _ _ (sym w.wrong ∙ right) in
-          w.large e.1 ∙ ap (λ b. b || is_above_limit limit p.value) (h.large (sym w.unknown ∙ known_all) e.0) ∙ sym l;
-    }
+body_alone : (p : Parameter) → has_keyword (codes "BODY") p ≡ true → has_keyword (codes "SMTPUTF8") p ≡ false
+body_alone p e = rw (keyword_is (codes "BODY") p e) refl
+
+pub with_size_tallies : (offered : Extensions) (t u : Tally) (ps : List Parameter) (p : Parameter) → has_keyword (codes "SIZE") p ≡ true
+    → IsWithSize offered.message_limit t p.value u → Tallies offered t ps → Tallies offered u (ps ++ p ∷ [])
+with_size_tallies offered t u ps p size w =
+    let other = size_alone p size in
+    with_tallies offered t u ps p true false false true (is_size_value p.value) (is_above_limit offered.message_limit p.value)
+    (record { size = size; body = other.0; utf8 = other.1; known = rw size refl; valued = rw size refl; large = rw size refl })
+    (record {
+      unknown = w.unknown;
+      has_size = w.has_size;
+      has_body = w.has_body;
+      has_utf8 = w.has_utf8;
+      wrong = λ _. w.wrong ∙ ap (λ x. (t.wrong || x) || not (is_size_value p.value)) (or_none t.has_size ∙ ap (λ x. x || false) (or_none t.has_size));
+      large = λ _ right. w.large right;
+    })
+
+pub with_body_tallies : (offered : Extensions) (t u : Tally) (ps : List Parameter) (p : Parameter) → has_keyword (codes "SIZE") p ≡ false
+    → has_keyword (codes "BODY") p ≡ true → IsWithBody t p.value u → Tallies offered t ps → Tallies offered u (ps ++ p ∷ [])
+with_body_tallies offered t u ps p size body w =
+    with_tallies offered t u ps p false true false true (is_body_value p.value) false
+    (record { size = size; body = body; utf8 = body_alone p body; known = rw (size, body) refl; valued = rw (size, body) refl; large = rw size refl })
+    (record {
+      unknown = w.unknown;
+      has_size = w.has_size;
+      has_body = w.has_body;
+      has_utf8 = w.has_utf8;
+      wrong = λ _. w.wrong ∙ ap (λ x. (t.wrong || x) || not (is_body_value p.value)) (or_none t.has_body);
+      large = λ _ _. w.large;
+    })
+
+and_true : (b : Bool) → (b && true) ≡ b
+and_true true = refl
+and_true false = refl
+
+and_false : (b : Bool) → (b && false) ≡ false
+and_false true = refl
+and_false false = refl
+
+pub with_utf8_tallies : (offered : Extensions) (t u : Tally) (ps : List Parameter) (p : Parameter) → has_keyword (codes "SIZE") p ≡ false
+    → has_keyword (codes "BODY") p ≡ false → has_keyword (codes "SMTPUTF8") p ≡ true → IsWithUtf8 offered.utf8 t p.value u
+    → Tallies offered t ps → Tallies offered u (ps ++ p ∷ [])
+with_utf8_tallies offered t u ps p size body utf8 w =
+    with_tallies offered t u ps p false false true offered.utf8 (has_no_value p.value) false
+    (record {
+      size = size;
+      body = body;
+      utf8 = utf8;
+      known = rw (size, body, utf8) (and_true offered.utf8);
+      valued = rw (size, body) refl;
+      large = rw size refl;
+    })
+    (record {
+      unknown = w.unknown;
+      has_size = w.has_size;
+      has_body = w.has_body;
+      has_utf8 = w.has_utf8;
+      wrong = λ _. w.wrong;
+      large = λ _ _. w.large;
+    })
+
+pub unknown_tallies : (offered : Extensions) (t : Tally) (ps : List Parameter) (p : Parameter) → has_keyword (codes "SIZE") p ≡ false
+    → has_keyword (codes "BODY") p ≡ false → has_keyword (codes "SMTPUTF8") p ≡ false
+    → Tallies offered t ps → Tallies offered (record t { unknown = true }) (ps ++ p ∷ [])
+unknown_tallies offered t ps p size body utf8 =
+    with_tallies offered t (record t { unknown = true }) ps p false false false false (has_no_value p.value) false
+    (record {
+      size = size;
+      body = body;
+      utf8 = utf8;
+      known = rw (size, body, utf8) (and_false offered.utf8);
+      valued = rw (size, body) refl;
+      large = rw size refl;
+    })
+    (record {
+      unknown = refl;
+      has_size = refl;
+      has_body = refl;
+      has_utf8 = refl;
+      wrong = λ known. cc;
+      large = λ known right. cc;
+    })
+
+-- MAIL that may have its parameters
+pub taken : (offered : Extensions) (t : Tally) (ps : List Parameter) (sender : List ℕ) → Tallies offered t ps → t.unknown ≡ false → t.wrong ≡ false
+    → t.large ≡ false → Ok (Mail sender t.has_utf8) ≡ mail_with offered sender ps
+taken offered t ps sender h known right small =
+    let k : not (list_all (is_known offered.utf8) ps) ≡ false = sym h.unknown ∙ known in
+    let r : (not (list_all is_well_valued ps) || stands_twice (codes "SIZE") ps || stands_twice (codes "BODY") ps || stands_twice (codes "SMTPUTF8") ps)
+    ≡ false = sym (h.wrong known) ∙ right in
+    let l : list_any (is_too_large offered.message_limit) ps ≡ false = sym (h.large known right) ∙ small in
+    let u : t.has_utf8 ≡ list_any (has_keyword (codes "SMTPUTF8")) ps = h.has_utf8 ∙ sym (any_counted (has_keyword (codes "SMTPUTF8")) ps) in
+    rw (k, r, l, u) refl

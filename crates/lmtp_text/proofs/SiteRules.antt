@@ -3,7 +3,7 @@ use Rattle.std.proofs.Common.{◌≡◌, ℕ, zero, suc, ◌≤◌, Bool, true, 
 use Rattle.std.proofs.lemmas.Bool.Decides.{nat_tests}
 use Rattle.std.specs.Prelude.{slice_get, unwrap_or, not, ◌&&◌, ◌||◌, ◌==◌, nat_lt}
 use Rattle.std.specs.List.{list_all}
-use Rattle.mail_world.specs.Site.{Site, Fault, BadHost, BadDomain, BadCount, BadBox, NamedTwice, IsSite, box_name, is_box_name, has_twice, is_host_name}
+use Rattle.mail_world.specs.Site.{Site, Fault, BadHost, BadDomain, BadCount, BadBox, NamedTwice, IsSite, box_name, is_box_name, has_twice, is_host_name, is_domain_name}
 use Rattle.lmtp_text.specs.Sites.{owned}
 use Rattle.mail_world.specs.declared.limits.TheConstants.{BOX_NAME_LIMIT, BOX_LIMIT}
 
@@ -21,8 +21,8 @@ boxes_named site sound =
     let twice = cond (has_twice site.boxes) (Some NamedTwice) None in
     let named = cond (not (list_all is_box_name site.boxes)) (Some BadBox) twice in
     let counted = cond ((length site.boxes == 0) || nat_lt BOX_LIMIT (length site.boxes)) (Some BadCount) named in
-    let host = no_fault (not (is_host_name site.host)) BadHost (cond (not (list_all is_host_name site.domains)) (Some BadDomain) counted) sound.0 in
-    let domains = no_fault (not (list_all is_host_name site.domains)) BadDomain counted host.1 in
+    let host = no_fault (not (is_host_name site.host)) BadHost (cond (not (list_all is_domain_name site.domains)) (Some BadDomain) counted) sound.0 in
+    let domains = no_fault (not (list_all is_domain_name site.domains)) BadDomain counted host.1 in
     let count = no_fault ((length site.boxes == 0) || nat_lt BOX_LIMIT (length site.boxes)) BadCount named domains.1 in
     were_true (list_all is_box_name site.boxes) (no_fault (not (list_all is_box_name site.boxes)) BadBox twice count.1).0
 

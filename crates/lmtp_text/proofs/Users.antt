@@ -1,9 +1,9 @@
 -- What stands before a delimiter, in a text and in a quoted text.
 use Rattle.std.proofs.Common.{◌≡◌, ℕ, suc, ◌+◌, take, Bool, true, false, List, [], ◌∷◌, refl, sym, ◌∙◌, ap, arith, cond}
 use Rattle.std.proofs.lemmas.Bool.Decides.{nat_tests}
-use Rattle.std.specs.Prelude.{not, ◌&&◌, ◌||◌, ◌==◌}
+use Rattle.std.specs.Prelude.{not, ◌&&◌, ◌==◌}
 use Rattle.std.specs.List.{before_first}
-use Rattle.mail_world.specs.Site.{is_delimiter, IsDelimiter}
+use Rattle.mail_world.specs.Site.{IsDelimiter}
 use Rattle.mail_world.specs.Targets.{unescaped}
 
 abbrev before : ℕ → List ℕ → List ℕ

@@ -12,7 +12,7 @@ seen_target t = record { local = t.local.now; quoted = t.quoted; domain = option
 
 abbrev pub seen_command : Command → m.Command
 seen_command (read.Lhlo client) = m.Lhlo client.now
-seen_command (read.Mail sender) = m.Mail sender.now
+seen_command (read.Mail sender utf8) = m.Mail sender.now utf8
 seen_command (read.Rcpt target) = m.Rcpt (seen_target target)
 seen_command read.StartData = m.StartData
 seen_command read.Rset = m.Rset

@@ -10,10 +10,10 @@ ghost use Rattle.lmtp_text.specs.Seen.{seen_answer, seen_command, seen_target};
 use crate::alphabet::is_visible_byte;
 use crate::cut::{begins_with_byte, split_at_byte, without_blanks_after, without_spaces_before};
 use crate::names::is_word;
-use crate::parameters::{check_mail_parameters, has_parameters};
+use crate::parameters::{has_parameters, read_mail_parameters};
 use crate::path::{read_forward_path, read_reverse_path};
-use mail_world::BadCommand;
 use mail_world::limits::{MESSAGE_LIMIT, NAME_LIMIT};
+use mail_world::{BadCommand, Extensions};
 
 /// A recipient as the line spells it: the local part without its quotes, and the domain or the address in brackets,
 /// where one stands.
@@ -29,8 +29,9 @@ pub struct Target<'a> {
 pub enum Command<'a> {
     /// The client's name.
     Lhlo(&'a [u8]),
-    /// The sender's mailbox, without brackets and route; empty for `<>`.
-    Mail(&'a [u8]),
+    /// The sender's mailbox, without brackets and route, which is empty for `<>`; and whether the parameter SMTPUTF8
+    /// stands there (RFC 6531).
+    Mail { sender: &'a [u8], utf8: bool },
     Rcpt(Target<'a>),
     StartData,
     Rset,
@@ -46,20 +47,24 @@ pub enum Command<'a> {
 pub fn read_command<'a>(line: &'a [u8]) -> Result<Command<'a>, BadCommand>
     ensures { seen_answer result ≡ m.command line.now }
 {
-    read_command_at(line, MESSAGE_LIMIT)
+    let usual = Extensions {
+        message_limit: MESSAGE_LIMIT,
+        utf8: false,
+    };
+    read_command_at(line, usual)
 }
 
-/// The same where a message may have that many bytes.
-pub fn read_command_at<'a>(line: &'a [u8], limit: u32) -> Result<Command<'a>, BadCommand>
-    ensures { seen_answer result ≡ m.command_at limit line.now }
+/// The same at a site that offers these extensions.
+pub fn read_command_at<'a>(line: &'a [u8], offered: Extensions) -> Result<Command<'a>, BadCommand>
+    ensures { seen_answer result ≡ m.command_at offered line.now }
 {
     let (verb, rest) = split_at_byte(without_blanks_after(line), b' ');
-    by_verb(verb, without_spaces_before(rest), limit)
+    by_verb(verb, without_spaces_before(rest), offered)
 }
 
 /// The command of this verb, with what follows it.
-fn by_verb<'a>(verb: &[u8], rest: &'a [u8], limit: u32) -> Result<Command<'a>, BadCommand>
-    ensures { seen_answer result ≡ m.by_verb limit verb.now rest.now }
+fn by_verb<'a>(verb: &[u8], rest: &'a [u8], offered: Extensions) -> Result<Command<'a>, BadCommand>
+    ensures { seen_answer result ≡ m.by_verb offered verb.now rest.now }
 {
     if is_word(verb, b"HELO") || is_word(verb, b"EHLO") {
         Err(BadCommand::NotHere)
@@ -80,9 +85,9 @@ fn by_verb<'a>(verb: &[u8], rest: &'a [u8], limit: u32) -> Result<Command<'a>, B
     } else if is_word(verb, b"LHLO") {
         read_lhlo(rest)
     } else if is_word(verb, b"MAIL") {
-        read_mail(rest, limit)
+        read_mail(rest, offered)
     } else if is_word(verb, b"RCPT") {
-        read_rcpt(rest)
+        read_rcpt(rest, offered)
     } else {
         Err(BadCommand::Unknown)
     }
@@ -148,25 +153,28 @@ fn ends_path(rest: &[u8]) -> bool
 }
 
 /// MAIL with the sender's path and parameters.
-fn read_mail(rest: &[u8], limit: u32) -> Result<Command, BadCommand>
-    ensures { seen_answer result ≡ m.mail limit (m.after_label (codes "FROM:") rest.now) }
+fn read_mail(rest: &[u8], offered: Extensions) -> Result<Command, BadCommand>
+    ensures { seen_answer result ≡ m.mail offered (m.after_label (codes "FROM:") rest.now) }
 {
     let text = after_label(b"FROM:", rest).ok_or(BadCommand::Arguments)?;
-    let path = read_reverse_path(text).ok_or(BadCommand::SenderSyntax)?;
+    let path = read_reverse_path(offered.utf8, text).ok_or(BadCommand::SenderSyntax)?;
     if !ends_path(path.rest) {
         return Err(BadCommand::SenderSyntax);
     }
-    check_mail_parameters(path.rest, limit)?;
-    Ok(Command::Mail(path.value))
+    let utf8 = read_mail_parameters(path.rest, offered)?;
+    Ok(Command::Mail {
+        sender: path.value,
+        utf8,
+    })
 }
 
 /// RCPT with the recipient's path, which may have no parameters.
 #[tactic(auto, using(crate::proofs::ParameterLists::rcpt_refused))]
-fn read_rcpt(rest: &[u8]) -> Result<Command, BadCommand>
-    ensures { seen_answer result ≡ m.rcpt (m.after_label (codes "TO:") rest.now) }
+fn read_rcpt(rest: &[u8], offered: Extensions) -> Result<Command, BadCommand>
+    ensures { seen_answer result ≡ m.rcpt offered (m.after_label (codes "TO:") rest.now) }
 {
     let text = after_label(b"TO:", rest).ok_or(BadCommand::Arguments)?;
-    let path = read_forward_path(text).ok_or(BadCommand::RecipientSyntax)?;
+    let path = read_forward_path(offered.utf8, text).ok_or(BadCommand::RecipientSyntax)?;
     if !ends_path(path.rest) {
         return Err(BadCommand::RecipientSyntax);
     }

@@ -1,6 +1,6 @@
 //! Cuts of a text at single bytes.
 
-ghost use Rattle.std.specs.Prelude.{◌≡◌, ◌==◌, IfSome, IfNone, is_some, []};
+ghost use Rattle.std.specs.Prelude.{◌≡◌, ◌≤◌, ◌==◌, IfSome, IfNone, is_some, [], length};
 ghost use Rattle.std.specs.List.{before_first, after_first};
 ghost use Rattle.mail_world.specs.Text.{begins, has_byte};
 ghost use Rattle.mail_world.specs.Commands.{trimmed, after_spaces};
@@ -12,6 +12,7 @@ pub(crate) fn cut_at(text: &[u8], byte: u8) -> Option<(&[u8], &[u8])>
     ensures found { is_some result ≡ has_byte text.now byte }
     ensures before { IfSome result (λ parts. parts.0.now ≡ before_first (λ b. b == byte) text.now) }
     ensures after { IfSome result (λ parts. parts.1.now ≡ after_first (λ b. b == byte) text.now) }
+    ensures within { IfSome result (λ parts. length parts.1.now ≤ length text.now) }
     ensures none_before { IfNone result (before_first (λ b. b == byte) text.now ≡ text.now) }
     ensures none_after { IfNone result (after_first (λ b. b == byte) text.now ≡ []) }
 {

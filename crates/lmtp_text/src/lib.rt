@@ -18,7 +18,7 @@ mod stamp;
 mod writing;
 
 pub use command::{Command, Target, read_command, read_command_at};
-pub use mail_world::{BadCommand, Outcome, Reply};
+pub use mail_world::{BadCommand, Extensions, Outcome, Reply};
 pub use reply::{REPLY_LIMIT, write_reply};
 pub use site::{Site, SiteFault, is_delimiter};
 pub use stamp::{Stamp, stamp_5322, stamp_ctime};

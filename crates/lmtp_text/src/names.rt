@@ -3,13 +3,14 @@
 ghost use Rattle.std.specs.Prelude.{◌≡◌, ◌==◌, false, position};
 ghost use Rattle.std.specs.List.{before_first, list_any};
 ghost use Rattle.mail_world.specs.Commands.{is_word};
-ghost use Rattle.mail_world.specs.Targets.{unescaped, local_name};
-ghost use Rattle.mail_world.specs.Site.{IsDelimiter};
+ghost use Rattle.mail_world.specs.Targets.{unescaped, local_name, is_listed_as};
+ghost use Rattle.mail_world.specs.Site.{IsDelimiter, any_domain};
+ghost use Rattle.std.specs.Str.{bytes_eq};
 ghost use Rattle.lmtp_text.specs.Seen.{seen_target};
 ghost use Rattle.lmtp_text.specs.Sites.{owned};
 
 use crate::command::Target;
-use crate::cut::split_at_byte;
+use crate::cut::{begins_with_byte, split_at_byte};
 
 /// The text is the word.
 pub(crate) fn is_word(text: &[u8], word: &[u8]) -> bool
@@ -52,11 +53,25 @@ pub(crate) fn names(target: &Target, word: &[u8]) -> bool
     }
 }
 
+/// The name stands for each domain.
+pub(crate) fn is_any_domain(name: &[u8]) -> bool
+    ensures { result ≡ bytes_eq any_domain name.now }
+{
+    b"*".as_slice() == name
+}
+
+/// A listed domain is this one: it has its name, or stands for each, which no address in brackets is.
+fn is_listed_as(domain: &[u8], name: &[u8]) -> bool
+    ensures { result ≡ is_listed_as domain.now name.now }
+{
+    is_word(domain, name) || is_any_domain(name) && !begins_with_byte(domain, b'[')
+}
+
 /// The domain is among these.
 pub(crate) fn is_listed(domain: &[u8], domains: &[Vec<u8>]) -> bool
-    ensures { result ≡ list_any (λ name. is_word name domain.now) (owned domains.now) }
+    ensures { result ≡ list_any (is_listed_as domain.now) (owned domains.now) }
 {
-    domains.iter().any(|name| is_word(domain, name))
+    domains.iter().any(|name| is_listed_as(domain, name))
 }
 
 /// The first of these names that the target's local part is.

@@ -1,14 +1,15 @@
 //! The parameters after a path (RFC 5321, 4.1.2): SIZE (RFC 1870) and BODY (RFC 6152), which are checked and then
-//! forgotten.
+//! forgotten, and SMTPUTF8 (RFC 6531, 3.4).
 
 ghost use Rattle.std.specs.Prelude.{◌≡◌, ◌++◌, ◌==◌, [], ◌∷◌, List, ℕ, IfSome, is_some, nat_lt, length, option_map};
 ghost use Rattle.mail_world.specs.Commands as m;
-ghost use Rattle.lmtp_text.specs.Parameters.{seen_value, seen_parameter, Tallies, IsWithSize, IsWithBody, mail_answer};
+ghost use Rattle.lmtp_text.specs.Parameters.{seen_value, seen_parameter, Tallies, IsWithSize, IsWithBody, IsWithUtf8};
+ghost use Rattle.lmtp_text.specs.Parameters.{mail_answer};
 
 use crate::cut::cut_at;
 use crate::names::is_word;
-use mail_world::BadCommand;
 use mail_world::limits::SIZE_DIGIT_LIMIT;
+use mail_world::{BadCommand, Extensions};
 
 /// A keyword, and what stands after its equals sign, if there is one.
 #[derive(Clone, Copy)]
@@ -25,6 +26,7 @@ struct Tally {
     large: bool,
     has_size: bool,
     has_body: bool,
+    has_utf8: bool,
 }
 
 /// The parameter that a piece between spaces spells.
@@ -75,15 +77,17 @@ fn is_body(value: Option<&[u8]>) -> bool
 }
 
 impl Tally {
-    /// The tally with one more parameter, under a limit of bytes.
-    fn with(self, parameter: Parameter, limit: u32) -> Tally
-        ensures { (before : List m.Parameter) → Tallies limit self before
-            → Tallies limit result (before ++ seen_parameter parameter.entry ∷ []) }
+    /// The tally with one more parameter, at a site that offers these extensions.
+    fn with(self, parameter: Parameter, offered: Extensions) -> Tally
+        ensures { (before : List m.Parameter) → Tallies offered self before
+            → Tallies offered result (before ++ seen_parameter parameter.entry ∷ []) }
     {
         if is_word(parameter.keyword, b"SIZE") {
-            self.with_size(parameter.value, limit)
+            self.with_size(parameter.value, offered.message_limit)
         } else if is_word(parameter.keyword, b"BODY") {
             self.with_body(parameter.value)
+        } else if is_word(parameter.keyword, b"SMTPUTF8") {
+            self.with_utf8(parameter.value, offered.utf8)
         } else {
             Tally {
                 unknown: true,
@@ -99,7 +103,7 @@ impl Tally {
         match read_size(value, limit) {
             Some(size) => Tally {
                 wrong: self.wrong || self.has_size,
-                large: self.large || size > u64::from(limit),
+                large: size > u64::from(limit) || self.large,
                 has_size: true,
                 ..self
             },
@@ -121,6 +125,18 @@ impl Tally {
             ..self
         }
     }
+
+    /// The tally with one more SMTPUTF8, which has no value, not even an empty one.
+    fn with_utf8(self, value: Option<&[u8]>, is_offered: bool) -> Tally
+        ensures { IsWithUtf8 is_offered self (seen_value value.entry) result }
+    {
+        Tally {
+            unknown: !is_offered || self.unknown,
+            wrong: self.wrong || self.has_utf8 || value.is_some(),
+            has_utf8: true,
+            ..self
+        }
+    }
 }
 
 /// Whether any parameter stands in the text.
@@ -130,9 +146,9 @@ pub(crate) fn has_parameters(text: &[u8]) -> bool
     text.iter().any(|b| *b != b' ')
 }
 
-/// The tally of the text's parameters, under a limit of bytes.
-fn tally_of(text: &[u8], limit: u32) -> Tally
-    ensures { Tallies limit result (m.parameters text.now) }
+/// The tally of the text's parameters, at a site that offers these extensions.
+fn tally_of(text: &[u8], offered: Extensions) -> Tally
+    ensures { Tallies offered result (m.parameters text.now) }
 {
     let mut tally = Tally {
         unknown: false,
@@ -140,21 +156,22 @@ fn tally_of(text: &[u8], limit: u32) -> Tally
         large: false,
         has_size: false,
         has_body: false,
+        has_utf8: false,
     };
     for piece in text.split(|b| *b == b' ') {
         if !piece.is_empty() {
-            tally = tally.with(read_parameter(piece), limit);
+            tally = tally.with(read_parameter(piece), offered);
         }
     }
     tally
 }
 
-/// Whether MAIL may have the text's parameters; else Parameter where a keyword is unknown, Arguments where a value is
-/// wrong or a keyword stands twice, TooLarge where the size is above the limit.
-pub(crate) fn check_mail_parameters(text: &[u8], limit: u32) -> Result<(), BadCommand>
-    ensures { (sender : List ℕ) → mail_answer sender result ≡ m.mail_with limit sender (m.parameters text.now) }
+/// Whether SMTPUTF8 is among the text's parameters, where MAIL may have them; else Parameter where a keyword is unknown,
+/// Arguments where a value is wrong or a keyword stands twice, TooLarge where the size is above the limit.
+pub(crate) fn read_mail_parameters(text: &[u8], offered: Extensions) -> Result<bool, BadCommand>
+    ensures { (sender : List ℕ) → mail_answer sender result ≡ m.mail_with offered sender (m.parameters text.now) }
 {
-    let tally = tally_of(text, limit);
+    let tally = tally_of(text, offered);
     if tally.unknown {
         Err(BadCommand::Parameter)
     } else if tally.wrong {
@@ -162,6 +179,6 @@ pub(crate) fn check_mail_parameters(text: &[u8], limit: u32) -> Result<(), BadCo
     } else if tally.large {
         Err(BadCommand::TooLarge)
     } else {
-        Ok(())
+        Ok(tally.has_utf8)
     }
 }

@@ -3,6 +3,7 @@
 ghost use Rattle.std.specs.Prelude.{◌≡◌, ℕ, ◌≤◌, List, ◌++◌, length, take, drop, IfSome, IfNone};
 ghost use Rattle.mail_world.specs.Text.{crlf};
 ghost use Rattle.mail_world.specs.Replies.{refusal_text, outcome_text, reply_text};
+ghost use Rattle.lmtp_text.specs.Sites.{offers};
 
 use crate::site::Site;
 use crate::writing::put;
@@ -80,7 +81,19 @@ fn pieces<'a>(reply: Reply, site: &'a Site) -> Option<Pieces<'a>>
     }
 }
 
-/// Writes the answer to LHLO, which tells the longest message that is taken.
+/// What the offer says after the host's name, before the limit.
+fn offers(utf8: bool) -> &'static [u8]
+    ensures text { result.now ≡ offers utf8 }
+    ensures size { length result.now ≤ 128 }
+{
+    if utf8 {
+        b"\r\n250-PIPELINING\r\n250-ENHANCEDSTATUSCODES\r\n250-8BITMIME\r\n250-SMTPUTF8\r\n250 SIZE "
+    } else {
+        b"\r\n250-PIPELINING\r\n250-ENHANCEDSTATUSCODES\r\n250-8BITMIME\r\n250 SIZE "
+    }
+}
+
+/// Writes the answer to LHLO, which tells whether addresses may be in UTF-8, and the longest message that is taken.
 fn write_offer(site: &Site, out: &mut [u8]) -> usize
     requires { REPLY_LIMIT ≤ length out.old }
     ensures text { take result out.new ≡ reply_text site.now Reply.Offer }
@@ -91,8 +104,7 @@ fn write_offer(site: &Site, out: &mut [u8]) -> usize
     let limit = buffer.format(site.message_limit()).as_bytes();
     let prefix = put(out, 0, b"250-");
     let named = put(out, prefix, site.host());
-    let offers = b"\r\n250-PIPELINING\r\n250-ENHANCEDSTATUSCODES\r\n250-8BITMIME\r\n250 SIZE ";
-    let offered = put(out, named, offers);
+    let offered = put(out, named, offers(site.utf8()));
     let sized = put(out, offered, limit);
     put(out, sized, b"\r\n")
 }

@@ -5,9 +5,10 @@ ghost use Rattle.std.specs.List.{list_all};
 ghost use Rattle.std.specs.Str.{byte};
 ghost use Rattle.mail_world.specs.Text.{begins};
 ghost use Rattle.mail_world.specs.Grammar.{is_between};
-ghost use Rattle.mail_world.specs.Site.{is_host_name, is_box_name, has_text, has_twice, fault_of};
+ghost use Rattle.mail_world.specs.Site.{is_host_name, is_domain_name, is_box_name, has_text, has_twice, fault_of};
 ghost use Rattle.lmtp_text.specs.Sites.{texts, site_of, cause, is_of_host_name, is_of_box_name};
 
+use crate::names::is_any_domain;
 use crate::site::SiteFault;
 use mail_world::limits::{BOX_LIMIT, BOX_NAME_LIMIT, NAME_LIMIT};
 
@@ -59,10 +60,16 @@ fn is_box_name(text: &[u8]) -> bool
     has_size(text, BOX_NAME_LIMIT) && !begins_with_dot(text) && is_made_for_box(text)
 }
 
-fn are_host_names(names: &[&[u8]]) -> bool
-    ensures { result ≡ list_all is_host_name (texts names.now) }
+fn is_domain_name(text: &[u8]) -> bool
+    ensures { result ≡ is_domain_name text.now }
 {
-    names.iter().all(|name| is_host_name(name))
+    is_any_domain(text) || is_host_name(text)
+}
+
+fn are_domain_names(names: &[&[u8]]) -> bool
+    ensures { result ≡ list_all is_domain_name (texts names.now) }
+{
+    names.iter().all(|name| is_domain_name(name))
 }
 
 fn are_box_names(names: &[&[u8]]) -> bool
@@ -92,7 +99,7 @@ pub(crate) fn first_fault(host: &[u8], domains: &[&[u8]], boxes: &[&[u8]]) -> Op
 {
     if !is_host_name(host) {
         Some(SiteFault::Host)
-    } else if !are_host_names(domains) {
+    } else if !are_domain_names(domains) {
         Some(SiteFault::Domain)
     } else if !(1..=BOX_LIMIT).contains(&boxes.len()) {
         Some(SiteFault::Count)

@@ -3,6 +3,7 @@
 ghost use Rattle.std.specs.Prelude.{◌≡◌, ◌≤◌, ◌<◌, [], Some, None, length, slice_get, unwrap_or, option_map, IfOk};
 ghost use Rattle.std.specs.Prelude.{IfErr, IfSome, true};
 ghost use Rattle.mail_world.specs.Site.{Fault, IsSite, IsDelimiter, IsMessageLimit, fault_of, box_name, is_delimiter};
+ghost use Rattle.mail_world.specs.Site.{extensions_of};
 ghost use Rattle.mail_world.specs.Targets.{is_here, box_named, box_of, local_name, user_of};
 ghost use Rattle.lmtp_text.specs.Seen.{seen_target};
 ghost use Rattle.lmtp_text.specs.Sites.{texts, site_of, cause, owned};
@@ -10,6 +11,7 @@ ghost use Rattle.lmtp_text.specs.Sites.{texts, site_of, cause, owned};
 use crate::command::Target;
 use crate::names::{is_listed, is_word, named_at, names, user_of};
 use crate::rules::first_fault;
+use mail_world::Extensions;
 use mail_world::limits::{BOX_LIMIT, BOX_NAME_LIMIT, MESSAGE_LIMIT, NAME_LIMIT};
 use std::alloc::{AllocError, Global};
 use std::marker::Model;
@@ -22,7 +24,7 @@ pub enum SiteFault {
     Memory = 1,
     #[error("the host has 1 to 255 letters, digits, dashes and dots")]
     Host = 2,
-    #[error("a domain has 1 to 255 letters, digits, dashes and dots")]
+    #[error("a domain is `*`, or has 1 to 255 letters, digits, dashes and dots")]
     Domain = 3,
     #[error("a mailbox has 1 to 32 of a-z, 0-9, dash, underscore and dot, and no dot at its front")]
     Box = 4,
@@ -42,9 +44,9 @@ impl From<AllocError> for SiteFault {
     }
 }
 
-/// A host, the further domains that it serves, its mailboxes in their order, how many bytes a message may have, the byte
-/// that parts user and detail of a recipient's address, if one does, whether addresses may be in UTF-8, and whether
-/// records have the marks in a message's head renamed.
+/// A host, the further domains that it serves (`*` is each one), its mailboxes in their order, how many bytes a message
+/// may have, the byte that parts user and detail of a recipient's address, if one does, whether addresses may be in
+/// UTF-8, and whether records have the marks in a message's head renamed.
 #[derive(Debug, Drop)]
 pub struct Site {
     host: Vec<u8>,
@@ -112,8 +114,9 @@ fn name_at(names: &[Vec<u8>], i: usize) -> &[u8]
 }
 
 impl Site {
-    /// A site takes memory for its names; its messages have at most 1,048,576 bytes, and it has no delimiter. Of
-    /// several broken rules the answer is the first in the order `Host`, `Domain`, `Count`, `Box`, `Twice`.
+    /// A site takes memory for its names; its messages have at most 1,048,576 bytes, it has no delimiter, offers no
+    /// UTF-8 and renames no marks. Of several broken rules the answer is the first in the order `Host`, `Domain`,
+    /// `Count`, `Box`, `Twice`.
     pub fn new(
         alloc: Global,
         host: &[u8],
@@ -183,7 +186,31 @@ impl Site {
         self.recipient_delimiter
     }
 
-    /// The same site, whose records have the marks in a message's head renamed.
+    /// The same site that offers UTF-8 in addresses (SMTPUTF8, RFC 6531).
+    pub fn with_utf8(self) -> Site
+        ensures { result ≡ record self { utf8 = true } }
+    {
+        Site { utf8: true, ..self }
+    }
+
+    /// Whether addresses may be in UTF-8.
+    pub fn utf8(&self) -> bool
+        ensures { result ≡ self.now.utf8 }
+    {
+        self.utf8
+    }
+
+    /// What a command may use of the site's extensions.
+    pub fn extensions(&self) -> Extensions
+        ensures { result ≡ extensions_of self.now }
+    {
+        Extensions {
+            message_limit: self.message_limit,
+            utf8: self.utf8,
+        }
+    }
+
+    /// The same site whose records have the marks in a message's head renamed.
     pub fn with_renamed_marks(self) -> Site
         ensures { result ≡ record self { renames_marks = true } }
     {

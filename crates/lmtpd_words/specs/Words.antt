@@ -1,6 +1,6 @@
 -- What the program's words ask for.
 use Rattle.std.specs.Prelude.{◌≡◌, ◌∷◌, ◌++◌, ◌⊎◌, ◌↔◌, IsTrue, ◌<◌, ◌≤◌, ◌^◌, ◌==◌, ◌+◌, ◌-◌, ◌*◌, ◌/◌, min, max, ℕ}
-use Rattle.std.specs.Prelude.{Bool, true, false, ◌||◌, List, [], Option, Some, None, option_map, map, codes, length, String}
+use Rattle.std.specs.Prelude.{Bool, true, false, nat_le, ◌&&◌, ◌||◌, List, [], Option, Some, None, option_map, map, codes, length, String}
 use Rattle.std.specs.Prelude.{string_bytes}
 use Rattle.std.specs.declared.alloc.Global.{Global}
 use Rattle.std.specs.Option.{option_map_or}
@@ -119,19 +119,21 @@ IsModeOr usual (Some text) mode = WritesMode text × (mode ≡ octal text)
 abbrev pub IsNoMode : Option Text → Type 0
 IsNoMode given = (text : Text) × (given ≡ Some text) × (WritesMode text → ⊥)
 
+abbrev pub is_of_suffix : ℕ → Bool
+is_of_suffix b = is_ascii_alphanumeric b || has_byte (codes "._-") b
+
 -- what the files of mailboxes may have after a name
-pub record IsSuffix (text : Text) : Type 0 where
-  pub short : length text ≤ SUFFIX_LIMIT
-  pub bytes : list_all (λ b. is_ascii_alphanumeric b || has_byte (codes "._-") b) text ≡ true
+abbrev pub is_suffix : Text → Bool
+is_suffix text = nat_le (length text) SUFFIX_LIMIT && list_all is_of_suffix text
 
 -- the suffix that a text is, and else the usual one
 abbrev pub IsSuffixOr : Option Text → Text → Type 0
 IsSuffixOr None suffix = suffix ≡ DEFAULT_SUFFIX.now
-IsSuffixOr (Some text) suffix = IsSuffix text × (suffix ≡ text)
+IsSuffixOr (Some text) suffix = (is_suffix text ≡ true) × (suffix ≡ text)
 
 -- a text is given that is none
 abbrev pub IsNoSuffix : Option Text → Type 0
-IsNoSuffix given = (text : Text) × (given ≡ Some text) × (IsSuffix text → ⊥)
+IsNoSuffix given = (text : Text) × (given ≡ Some text) × (is_suffix text ≡ false)
 
 -- the path that a text is: an empty text is none
 abbrev pub NamesPath : Option Text → Text → Type 0
@@ -165,11 +167,12 @@ pub record IsSiteRead (rows : List Row) (words : SiteWords) : Type 0 where
   pub recipient_delimiter : IsDelimiterIfGiven (first_of (codes "recipient-delimiter") rows) words.recipient_delimiter
   pub rename_marks : IsFlag (one_of (codes "rename-marks") rows) words.rename_marks
   pub smtputf8 : IsFlag (one_of (codes "smtputf8") rows) words.smtputf8
+  -- a rehearsal has no such argument, and so the usual one
+  pub mailbox_suffix : IsSuffixOr (first_of (codes "mailbox-suffix") rows) words.mailbox_suffix.now
 
 -- what the values of a rehearsal's arguments ask for
 pub record IsRehearseRead (rows : List Row) (words : RehearseWords) : Type 0 where
   pub site : IsSiteRead rows words.site
-  pub suffix : words.site.mailbox_suffix.now ≡ DEFAULT_SUFFIX.now
   pub time : option_map number (one_of (codes "time") rows) ≡ Some words.time
   pub blocks : IsNumberOr (usual_blocks 1 words.site.message_limit) (one_of (codes "blocks") rows) words.blocks
   pub quota : IsLimit (one_of (codes "quota") rows) words.quota
@@ -177,7 +180,6 @@ pub record IsRehearseRead (rows : List Row) (words : RehearseWords) : Type 0 whe
 -- what the values of a server's arguments ask for
 pub record IsServeRead (rows : List Row) (words : ServeWords) : Type 0 where
   pub site : IsSiteRead rows words.site
-  pub suffix : IsSuffixOr (first_of (codes "mailbox-suffix") rows) words.site.mailbox_suffix.now
   pub listen : first_of (codes "listen") rows ≡ Some words.listen.now
   pub dir : NamesPath (first_of (codes "dir") rows) words.dir.now
   pub lanes : IsNumberOr DEFAULT_LANES (one_of (codes "lanes") rows) words.lanes
@@ -219,7 +221,8 @@ LacksNumber name rows = (text : Text) → one_of name rows ≡ Some text → IsN
 abbrev pub LacksSite : List Row → Type 0
 LacksSite rows = LacksText (codes "host") rows
     ⊎ (IsNoMessageLimit (one_of (codes "message-limit") rows)
-    ⊎ IsNoDelimiter (first_of (codes "recipient-delimiter") rows))
+    ⊎ (IsNoDelimiter (first_of (codes "recipient-delimiter") rows)
+    ⊎ IsNoSuffix (first_of (codes "mailbox-suffix") rows)))
 
 abbrev pub LacksRehearse : List Row → Type 0
 LacksRehearse rows = LacksNumber (codes "time") rows ⊎ LacksSite rows
@@ -229,9 +232,8 @@ LacksServe rows =
     LacksText (codes "listen") rows
     ⊎ (IsNoPath (first_of (codes "dir") rows) ⊎ (IsNoNumber (one_of (codes "connections") rows)
     ⊎ (IsEmpty (first_of (codes "stop-file") rows) ⊎ (IsNoLevel (first_of (codes "log") rows)
-    ⊎ (IsNoSuffix (first_of (codes "mailbox-suffix") rows)
     ⊎ (IsNoMode (first_of (codes "mailbox-mode") rows)
-    ⊎ (IsNoMode (first_of (codes "socket-mode") rows) ⊎ LacksSite rows)))))))
+    ⊎ (IsNoMode (first_of (codes "socket-mode") rows) ⊎ LacksSite rows))))))
 
 abbrev pub LacksCheck : List Row → Type 0
 LacksCheck rows = all_of (codes "file") rows ≡ None
@@ -268,7 +270,7 @@ pub record HasListed (text : Text) (words filled : SiteWords) : Type 0 where
   pub recipient_delimiter : filled.recipient_delimiter ≡ words.recipient_delimiter
   pub rename_marks : filled.rename_marks ≡ words.rename_marks
   pub smtputf8 : filled.smtputf8 ≡ words.smtputf8
-  pub suffix : filled.mailbox_suffix ≡ words.mailbox_suffix
+  pub mailbox_suffix : filled.mailbox_suffix ≡ words.mailbox_suffix
 
 -- the site that they name
 abbrev pub named_site : SiteWords → Site

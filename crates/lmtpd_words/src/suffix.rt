@@ -1,10 +1,9 @@
 //! What the files of mailboxes have after a mailbox's name.
 
-ghost use Rattle.std.specs.Prelude.{◌≡◌, ◌||◌, codes, Some, MatchOption};
-ghost use Rattle.std.specs.Char.{is_ascii_alphanumeric};
-ghost use Rattle.mail_world.specs.Text.{has_byte};
+ghost use Rattle.std.specs.Prelude.{◌≡◌, codes, Some, MatchOption};
+ghost use Rattle.std.specs.List.{list_all};
 ghost use Rattle.clap.specs.Words.{first_of, found_of, rows_of};
-ghost use Rattle.lmtpd_words.specs.Words.{IsNoSuffix, IsSuffixOr};
+ghost use Rattle.lmtpd_words.specs.Words.{IsNoSuffix, IsSuffixOr, is_of_suffix, is_suffix};
 
 use crate::words::{DEFAULT_SUFFIX, SUFFIX_LIMIT};
 use clap::ArgMatches;
@@ -23,17 +22,23 @@ pub fn suffix_of<'a>(matches: &ArgMatches<'a>) -> Option<&'a str>
 fn suffix_in(text: &str) -> Option<&str>
     ensures { MatchOption result (IsNoSuffix (Some text.now)) (λ suffix. IsSuffixOr (Some text.now) suffix.now) }
 {
-    if text.len() > SUFFIX_LIMIT {
-        return None;
-    }
-    if !text.as_bytes().iter().all(|b| is_of_suffix(*b)) {
-        return None;
-    }
-    Some(text)
+    if is_suffix(text) { Some(text) } else { None }
+}
+
+fn is_suffix(text: &str) -> bool
+    ensures { result ≡ is_suffix text.now }
+{
+    text.len() <= SUFFIX_LIMIT && are_of_suffix(text.as_bytes())
+}
+
+fn are_of_suffix(text: &[u8]) -> bool
+    ensures { result ≡ list_all is_of_suffix text.now }
+{
+    text.iter().all(|b| is_of_suffix(*b))
 }
 
 fn is_of_suffix(b: u8) -> bool
-    ensures { result ≡ is_ascii_alphanumeric b || has_byte (codes "._-") b }
+    ensures { result ≡ is_of_suffix b }
 {
     b.is_ascii_alphanumeric() || matches!(b, b'.' | b'_' | b'-')
 }

@@ -1,6 +1,6 @@
 //! The values that `clap` found for the words.
 
-ghost use Rattle.std.specs.Prelude.{◌≡◌, ◌∷◌, [], codes, Some, IfOk, IfSome, MatchOption};
+ghost use Rattle.std.specs.Prelude.{◌≡◌, ◌∷◌, [], codes, Some, IfOk, MatchOption};
 ghost use Rattle.clap.specs.Words.{Text, all_of, first_of, found_of, one_of, rows_of, subcommand_rows_of};
 ghost use Rattle.std.specs.Option.{option_map, option_map_or};
 ghost use Rattle.lmtp_text.specs.Sites.{texts};
@@ -20,7 +20,7 @@ use crate::texts::{
 use crate::words::{
     CheckWords, CopyWords, DEFAULT_BLOCKS, DEFAULT_CAPACITY, DEFAULT_LANES, DEFAULT_LOCK_WAIT,
     DEFAULT_LOG, DEFAULT_MAILBOX_MODE, DEFAULT_READS, DEFAULT_SESSION_TIME, DEFAULT_SOCKET_MODE,
-    DEFAULT_SUFFIX, DEFAULT_TIMEOUT, MODE_DIGIT_LIMIT, RehearseWords, ServeWords, SiteWords, Words,
+    DEFAULT_TIMEOUT, MODE_DIGIT_LIMIT, RehearseWords, ServeWords, SiteWords, Words,
 };
 use clap::ArgMatches;
 use lmtp_text::is_delimiter;
@@ -73,15 +73,15 @@ fn copied_words_of<'a>(matches: &ArgMatches<'a>) -> Option<Words<'a>>
 }
 
 /// What is said where a value is refused that `clap` leaves to us: the folder comes first, then the stop file, then the
-/// level, then the suffix, then the two modes, and last the delimiter, which a rehearsal has too.
+/// level, then the two modes, then the suffix, and last the delimiter, which a rehearsal has too.
 pub fn refused_text(matches: &ArgMatches<'_>) -> &'static str {
     match matches.subcommand_matches("serve") {
         Some(serve) if folder_of(serve).is_none() => BAD_FOLDER,
         Some(serve) if stop_file_of(serve).is_none() => BAD_STOP_FILE,
         Some(serve) if log_of(serve).is_none() => BAD_LEVEL,
-        Some(serve) if suffix_of(serve).is_none() => BAD_SUFFIX,
         Some(serve) if mailbox_mode_of(serve).is_none() => BAD_MAILBOX_MODE,
         Some(serve) if socket_mode_of(serve).is_none() => BAD_SOCKET_MODE,
+        Some(serve) if suffix_of(serve).is_none() => BAD_SUFFIX,
         _ => BAD_DELIMITER,
     }
 }
@@ -96,7 +96,7 @@ fn rehearse_words<'a>(
     let Some(time) = number_of(matches, "time") else {
         return Ok(None);
     };
-    let Some(site) = site_words(alloc, matches, DEFAULT_SUFFIX)? else {
+    let Some(site) = site_words(alloc, matches)? else {
         return Ok(None);
     };
     Ok(Some(RehearseWords {
@@ -129,10 +129,7 @@ fn serve_words<'a>(
     ) else {
         return Ok(None);
     };
-    let Some(suffix) = suffix_of(matches) else {
-        return Ok(None);
-    };
-    let Some(site) = site_words(alloc, matches, suffix)? else {
+    let Some(site) = site_words(alloc, matches)? else {
         return Ok(None);
     };
     let lanes = number_or(matches, "lanes", DEFAULT_LANES);
@@ -189,11 +186,9 @@ fn copy_words<'a>(matches: &ArgMatches<'a>) -> Option<CopyWords<'a>>
 fn site_words<'a>(
     alloc: Global,
     matches: &ArgMatches<'a>,
-    suffix: &'a str,
 ) -> Result<Option<SiteWords<'a>>, AllocError>
-    ensures read { let rows = rows_of (found_of matches.now) in
+    ensures { let rows = rows_of (found_of matches.now) in
         IfOk result (λ read. MatchOption read (LacksSite rows) (IsSiteRead rows)) }
-    ensures suffix { IfOk result (λ read. IfSome read (λ words. words.mailbox_suffix.now ≡ suffix.entry.now)) }
 {
     let Some(host) = matches.get_str("host") else {
         return Ok(None);
@@ -202,6 +197,9 @@ fn site_words<'a>(
         return Ok(None);
     };
     let Some(recipient_delimiter) = delimiter_of(matches) else {
+        return Ok(None);
+    };
+    let Some(mailbox_suffix) = suffix_of(matches) else {
         return Ok(None);
     };
     let domains = domains_of(alloc, matches)?;
@@ -216,7 +214,7 @@ fn site_words<'a>(
         recipient_delimiter,
         rename_marks: is_given(matches, "rename-marks"),
         smtputf8: is_given(matches, "smtputf8"),
-        mailbox_suffix: suffix,
+        mailbox_suffix,
     }))
 }
 

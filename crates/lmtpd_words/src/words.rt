@@ -69,7 +69,7 @@ pub struct SiteWords<'a> {
     pub rename_marks: bool,
     /// Addresses may be in UTF-8 (RFC 6531).
     pub smtputf8: bool,
-    /// What a mailbox's file has after its name.
+    /// What a mailbox's file has after its name; a rehearsal has no files, and the usual suffix.
     pub mailbox_suffix: &'a str,
 }
 

@@ -11,7 +11,7 @@ use Rattle.mail_world.specs.declared.BadCommand.{BadCommand}
 use Rattle.mail_world.specs.declared.BadCommand.TheVariants as bad
 use Rattle.mail_world.specs.declared.limits.TheConstants.{NAME_LIMIT, SIZE_DIGIT_LIMIT, MESSAGE_LIMIT}
 use Rattle.mail_world.specs.Text.{has_byte, space, tab, begins}
-use Rattle.mail_world.specs.Extensions.{Extensions}
+use Rattle.mail_world.specs.declared.Extensions.{Extensions}
 use Rattle.mail_world.specs.Grammar.{is_between, is_visible, Target}
 use Rattle.mail_world.specs.Paths.{Found, Path, reverse_path, forward_path}
 

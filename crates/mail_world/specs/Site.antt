@@ -7,7 +7,7 @@ use Rattle.std.specs.Str.{byte, bytes_eq}
 use Rattle.mail_world.specs.declared.limits.TheConstants.{NAME_LIMIT, BOX_NAME_LIMIT, BOX_LIMIT, LEAST_MESSAGE_LIMIT}
 use Rattle.mail_world.specs.declared.limits.TheConstants.{LARGEST_MESSAGE_LIMIT}
 use Rattle.mail_world.specs.Text.{has_byte, begins}
-use Rattle.mail_world.specs.Extensions.{Extensions}
+use Rattle.mail_world.specs.declared.Extensions.{Extensions}
 
 -- the host's name, the further domains, the names of the mailboxes, how many bytes a message may have, the byte that
 -- parts user and detail of a recipient's address, if one does (RFC 5233), whether addresses may be in UTF-8 (RFC 6531),

@@ -22,6 +22,15 @@ pub struct Txn {
     pub number: u32,
 }
 
+/// What a site offers of the extensions that say more than that they are there.
+#[derive(Clone, Copy, Debug, PartialEq, Eq)]
+pub struct Extensions {
+    /// How many bytes a message may have (SIZE, RFC 1870).
+    pub message_limit: u32,
+    /// Addresses may be in UTF-8 (SMTPUTF8, RFC 6531).
+    pub utf8: bool,
+}
+
 /// What became of one copy of a message.
 #[derive(Clone, Copy, Debug, PartialEq, Eq)]
 pub enum Outcome {

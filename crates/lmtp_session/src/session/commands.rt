@@ -26,7 +26,7 @@ impl Session {
         match answer {
             Err(why) => Act::Say(Reply::Refused(why)),
             Ok(Command::Lhlo(client)) => self.on_lhlo(client),
-            Ok(Command::Mail(sender)) => self.on_mail(sender),
+            Ok(Command::Mail { sender, utf8 }) => self.on_mail(sender, utf8),
             Ok(Command::Rcpt(target)) => self.on_rcpt(&target),
             Ok(Command::StartData) => self.on_data(),
             Ok(Command::Rset) => self.on_rset(),
@@ -48,18 +48,19 @@ impl Session {
         Act::Say(Reply::Offer)
     }
 
-    fn on_mail(&mut self, sender: &[u8]) -> Act
+    fn on_mail(&mut self, sender: &[u8], utf8: bool) -> Act
         requires state { TakesLines self.old.session.state }
         requires fits { length sender.now ≤ PATH_LIMIT }
         requires no_answer { self.old.answers ≡ [] }
         ensures step { IsTransition self.old
-            (on_mail self.old.session.state self.old.session sender.now) result self.new }
+            (on_mail self.old.session.state self.old.session sender.now utf8) result self.new }
         ensures no_memory { self.new.room ≡ self.old.room }
     {
         match self.state {
             State::Greeted => {
                 self.recipients.clear();
                 lists::refill(&mut self.sender, sender);
+                self.utf8 = utf8;
                 self.state = State::Sender;
                 Act::Say(Reply::SenderOk)
             }

@@ -36,11 +36,12 @@ impl Session {
         Act::Answer(self.answers.len() as u32)
     }
 
-    /// Forgets sender and recipients, and waits for the next message.
+    /// Forgets sender, parameter and recipients, and waits for the next message.
     pub(crate) fn forget_message(&mut self)
         ensures { self.new ≡ record self.old { session = greeted self.old.session.client } }
     {
         self.sender.clear();
+        self.utf8 = false;
         self.recipients.clear();
         self.state = State::Greeted;
     }

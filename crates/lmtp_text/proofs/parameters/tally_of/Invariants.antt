@@ -5,4 +5,4 @@ use Rattle.lmtp_text.proofs.parameters.tally_of.Given as goal
 
 -- the tally of the pieces that came
 abbrev pub invariant-loop-piece : goal.invariant-loop-piece
-invariant-loop-piece l = Tallies l.limit l.tally (parameters_of (map (λ piece. piece.now) l.yielded))
+invariant-loop-piece l = Tallies l.offered l.tally (parameters_of (map (λ piece. piece.now) l.yielded))

@@ -8,6 +8,6 @@ use Rattle.lmtp_text.proofs.path.domain_len.Goals as goal
 
 pub returns-clause-value : goal.returns-clause-value
 returns-clause-value c =
-    let e = position_from_yields_List (λ b. not (is_of_domain b)) _ _ c.position.result c.position.ensures.ran (YieldsList-from_slice c.args.text.now cc)
+    let e = position_from_yields_List (λ b. not (is_of_domain c.args.utf8 b)) _ _ c.position.result c.position.ensures.ran (YieldsList-from_slice c.args.text.now cc)
     (λ x b q k. search (rules, tests)) in
-    prefix_is is_of_domain c.args.text.now c.position.result c.unwrap_or.result e c.unwrap_or.ensures
+    prefix_is (is_of_domain c.args.utf8) c.args.text.now c.position.result c.unwrap_or.result e c.unwrap_or.ensures

@@ -1,12 +1,14 @@
 use Rattle.std.proofs.Common.{ap, ◌∙◌, arith}
 use Rattle.std.specs.Prelude.{decimal}
+use Rattle.lmtp_text.specs.Sites.{offers}
 use Rattle.lmtp_text.proofs.ReplyTexts.{offer-put, drop-later}
 use Rattle.lmtp_text.proofs.reply.write_offer.Goals as goal
 
 pub returns-clause-text : goal.returns-clause-text
-returns-clause-text c = offer-put c.args.site.now c.host.result.now c.as_bytes-limit.result.now _ _ _ _ _
+returns-clause-text c = offer-put c.args.site.now c.host.result.now c.as_bytes-limit.result.now c.offers.result.now _ _ _ _ _
     c.put-prefix.ensures.prefix c.put-named.ensures.prefix c.put-offered.ensures.prefix c.put-sized.ensures.prefix c.put.ensures.prefix
     c.host.ensures.value (c.as_bytes-limit.ensures.value ∙ c.format.ensures.text ∙ ap decimal c.message_limit.ensures.value)
+    (c.offers.ensures.text ∙ ap offers c.utf8-2.ensures)
 
 pub returns-clause-rest : goal.returns-clause-rest
 returns-clause-rest c =

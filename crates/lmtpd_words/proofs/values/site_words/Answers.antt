@@ -16,4 +16,7 @@ returns c =
       boxes = c.in_ok-boxes.ensures;
       message_limit = c.in-Some-message_limit_of.ensures;
       recipient_delimiter = c.in-Some-delimiter_of.ensures;
+      rename_marks = c.is_given.ensures;
+      smtputf8 = c.is_given-2.ensures;
+      mailbox_suffix = c.in-Some-suffix_of.ensures;
     }

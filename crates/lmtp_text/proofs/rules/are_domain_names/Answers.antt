@@ -1,12 +1,12 @@
 use Rattle.std.proofs.Common.{◌∙◌, sym, rules, tests}
 use Rattle.std.proofs.lemmas.Iterator.{YieldsList-from_slice}
 use Rattle.std.proofs.lemmas.Iterator.Search.{all_from_yields_List}
-use Rattle.mail_world.specs.Site.{is_host_name}
+use Rattle.mail_world.specs.Site.{is_domain_name}
 use Rattle.lmtp_text.proofs.TextLists.{list_all_texts}
-use Rattle.lmtp_text.proofs.rules.are_host_names.Goals as goal
+use Rattle.lmtp_text.proofs.rules.are_domain_names.Goals as goal
 
 pub returns : goal.returns
 returns c =
-    all_from_yields_List (λ name. is_host_name name.now) _ _ c.all.result c.all.ensures.ran (YieldsList-from_slice c.args.names.now cc)
+    all_from_yields_List (λ name. is_domain_name name.now) _ _ c.all.result c.all.ensures.ran (YieldsList-from_slice c.args.names.now cc)
     (λ x b q k. search (rules, tests))
-    ∙ sym (list_all_texts is_host_name c.args.names.now)
+    ∙ sym (list_all_texts is_domain_name c.args.names.now)
