@@ -4,18 +4,18 @@ use Rattle.std.proofs.Common.{append-nil, take-append-drop, arith, length-append
 use Rattle.std.specs.Option.{SomeIff}
 use Rattle.std.proofs.Math.Seq.{take-add}
 use Rattle.mail_world.specs.Counts.{counted}
-use Rattle.mail_world.specs.Records.{Calendar, quoted_text}
-use Rattle.mail_world.specs.Text.{lf, unix}
+use Rattle.mail_world.specs.Records.{Calendar, quoted_text, stored_text}
+use Rattle.mail_world.specs.Text.{lf}
 use Rattle.mbox_record.specs.Envelope.{Envelope, record_text, head_text}
 use Rattle.mbox_record.specs.Spool.{SpoolState, SpoolTook, SpoolFailed}
-use Rattle.mbox_record.specs.Writing.{Pending, bytes_owed, WritesPiece, FailsPiece}
+use Rattle.mbox_record.specs.Writing.{Writer, bytes_owed, WritesPiece, FailsPiece}
 use Rattle.mbox_record.proofs.Parts.{record_split}
 use Rattle.mbox_record.proofs.Taken.{SpoolTook-then, SpoolTook-as, SpoolFailed-first, SpoolFailed-later, SpoolFailed-as}
 use Rattle.mbox_record.proofs.Wholes.{BeginsRecord, WritesPiece-then, FailsPiece-then}
 use Rattle.mail_world.specs.Site.{Site}
 
 -- a failure in a prefix of a text is one in the text
-FailsPiece-more : (s t : SpoolState) (a : Pending) (p q : List ℕ) → FailsPiece s t a p → FailsPiece s t a (p ++ q)
+FailsPiece-more : (s t : SpoolState) (a : Writer) (p q : List ℕ) → FailsPiece s t a p → FailsPiece s t a (p ++ q)
 FailsPiece-more s t a p q x = record {
   text = x.text;
   failed = x.failed;
@@ -23,13 +23,13 @@ FailsPiece-more s t a p q x = record {
 }
 
 -- the next bytes of the message
-pub writes_next : (s t u : SpoolState) (a b c : Pending) (message p : List ℕ) (at n : ℕ) → p ≡ take n (drop at message)
+pub writes_next : (s t u : SpoolState) (a b c : Writer) (message p : List ℕ) (at n : ℕ) → p ≡ take n (drop at message)
     → WritesPiece s t a b (take at message) → WritesPiece t u b c p → WritesPiece s u a c (take (at + n) message)
 writes_next s t u a b c message p at n e x y =
     let P : List ℕ → Type 0 = λ l. WritesPiece s u a c l in
     subst P (ap (λ l. take at message ++ l) e ∙ sym (take-add at n message)) (WritesPiece-then s t u a b c (take at message) p x y)
 
-pub fails_next : (s t u : SpoolState) (a b : Pending) (message p : List ℕ) (at n : ℕ) → p ≡ take n (drop at message)
+pub fails_next : (s t u : SpoolState) (a b : Writer) (message p : List ℕ) (at n : ℕ) → p ≡ take n (drop at message)
     → WritesPiece s t a b (take at message) → FailsPiece t u b p → FailsPiece s u a message
 fails_next s t u a b message p at n e x y =
     let P : List ℕ → Type 0 = λ l. FailsPiece s u a l in
@@ -38,24 +38,24 @@ fails_next s t u a b message p at n e x y =
     (FailsPiece-more s u a (take at message ++ p) (drop n (drop at message)) (FailsPiece-then s t u a b (take at message) p x y))
 
 -- what a writer writes of a message, and of the record's end
-text_parts : (s t : SpoolState) (first last : Pending) (message : List ℕ) (x : WritesPiece s t first last message)
+text_parts : (s t : SpoolState) (first last : Writer) (message : List ℕ) (x : WritesPiece s t first last message)
     → bytes_owed first message ++ lf ∷ [] ≡ x.text ++ (bytes_owed last [] ++ lf ∷ [])
 text_parts s t first last message x =
     ap (λ (l : List ℕ). l ++ lf ∷ []) (ap (bytes_owed first) (sym (append-nil message)) ∙ sym (x.goes [])) ∙ append_assoc x.text (bytes_owed last []) (lf ∷ [])
 
-pub text_taken : (s t u : SpoolState) (first last : Pending) (message : List ℕ) → WritesPiece s t first last message
+pub text_taken : (s t u : SpoolState) (first last : Writer) (message : List ℕ) → WritesPiece s t first last message
     → SpoolTook t u (bytes_owed last [] ++ lf ∷ []) → SpoolTook s u (bytes_owed first message ++ lf ∷ [])
 text_taken s t u first last message x y =
     SpoolTook-as s u _ _ (text_parts s t first last message x) (SpoolTook-then s t u x.text (bytes_owed last [] ++ lf ∷ []) x.taken y)
 
-pub text_failed : (s t : SpoolState) (first : Pending) (message : List ℕ) → FailsPiece s t first message → SpoolFailed s t (bytes_owed first message ++ lf ∷ [])
+pub text_failed : (s t : SpoolState) (first : Writer) (message : List ℕ) → FailsPiece s t first message → SpoolFailed s t (bytes_owed first message ++ lf ∷ [])
 text_failed s t first message x =
     let prefix = x.sure [] in
     let whole : bytes_owed first message ++ lf ∷ [] ≡ x.text ++ (prefix.rest ++ lf ∷ []) =
     ap (λ (l : List ℕ). l ++ lf ∷ []) (ap (bytes_owed first) (sym (append-nil message)) ∙ prefix.whole) ∙ append_assoc x.text prefix.rest (lf ∷ []) in
     SpoolFailed-as s t _ _ whole (SpoolFailed-first s t x.text (prefix.rest ++ lf ∷ []) x.failed)
 
-pub text_failed_at_end : (s t u : SpoolState) (first last : Pending) (message : List ℕ) → WritesPiece s t first last message
+pub text_failed_at_end : (s t u : SpoolState) (first last : Writer) (message : List ℕ) → WritesPiece s t first last message
     → SpoolFailed t u (bytes_owed last [] ++ lf ∷ []) → SpoolFailed s u (bytes_owed first message ++ lf ∷ [])
 text_failed_at_end s t u first last message x y =
     SpoolFailed-as s u _ _ (text_parts s t first last message x) (SpoolFailed-later s t u x.text (bytes_owed last [] ++ lf ∷ []) x.taken y)
@@ -81,11 +81,11 @@ some_head calendar site envelope = omega arith
 pub some_record : (calendar : Calendar) (site : Site) (envelope : Envelope) (message : List ℕ) → 1 ≤ length (record_text calendar site envelope message)
 some_record calendar site envelope message =
     let long = ap length (record_split calendar site envelope message) in
-    let last = length-append (head_text calendar site envelope ++ quoted_text (unix message)) (lf ∷ []) in
+    let last = length-append (head_text calendar site envelope ++ quoted_text (stored_text site message)) (lf ∷ []) in
     omega (arith, long, last)
 
 -- a record is its head and its text
-module _ (calendar : Calendar) (site : Site) (envelope : Envelope) (message : List ℕ) (first : Pending) (begins : BeginsRecord first) where
+module _ (calendar : Calendar) (site : Site) (envelope : Envelope) (message : List ℕ) (first : Writer) (begins : BeginsRecord site first) where
   abbrev head : List ℕ
   head = head_text calendar site envelope
 
@@ -93,7 +93,7 @@ module _ (calendar : Calendar) (site : Site) (envelope : Envelope) (message : Li
   rest = bytes_owed first message ++ lf ∷ []
 
   pub record_is : record_text calendar site envelope message ≡ head ++ rest
-  record_is = record_split calendar site envelope message ∙ append_assoc head (quoted_text (unix message)) (lf ∷ [])
+  record_is = record_split calendar site envelope message ∙ append_assoc head (quoted_text (stored_text site message)) (lf ∷ [])
       ∙ ap (λ (l : List ℕ). head ++ (l ++ lf ∷ [])) (sym (begins message))
 
   pub record_took : (s t u : SpoolState) → SpoolTook s t head → SpoolTook t u rest → SpoolTook s u (record_text calendar site envelope message)

@@ -1,4 +1,5 @@
 mod SiteRows
 pub mod Orders
+pub mod Paths
 mod Whole
 pub mod WrongNames

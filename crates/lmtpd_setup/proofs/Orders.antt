@@ -1,6 +1,6 @@
 -- The order in which the program says what is wrong with a site, against the site's own.
-use Rattle.std.proofs.Common.{◌≡◌, ◌∙◌, ◌⊎◌, ◌<◌, inl, inr, ap, sym, ℕ, Bool, true, false, List, length, Option, Some, None, refl, cond, arith, true≢false}
-use Rattle.std.specs.Prelude.{not, ◌||◌, ◌==◌, ◌&&◌, nat_lt, option_map, Err, Result}
+use Rattle.std.proofs.Common.{◌≡◌, ◌∙◌, ◌⊎◌, ◌<◌, ◌∷◌, ◌++◌, [], inl, inr, ap, sym, ℕ, Bool, true, false, List, length, Option, Some, None, refl, cond, arith, true≢false}
+use Rattle.std.specs.Prelude.{not, ◌||◌, ◌==◌, ◌&&◌, nat_lt, Err, Result}
 use Rattle.std.specs.Borrow.{Bor}
 use Rattle.std.specs.List.{list_all}
 use Rattle.std.proofs.lemmas.Bool.{eqb-true}
@@ -12,7 +12,7 @@ use Rattle.lmtp_text.specs.declared.site.SiteFault.{SiteFault}
 use Rattle.lmtp_text.specs.declared.site.SiteFault.TheVariants as faults
 use Rattle.lmtpd_setup.specs.declared.fault.Fault.{Fault}
 use Rattle.lmtpd_setup.specs.declared.fault.Fault.TheVariants as fault
-use Rattle.lmtpd_setup.specs.Faults.{first_fault, refusal, site_of_one}
+use Rattle.lmtpd_setup.specs.Faults.{first_fault, is_lock_name, is_usable_name, refusal, site_of_one}
 
 abbrev has_none : Site → Bool
 has_none site = length site.boxes == 0
@@ -20,78 +20,137 @@ has_none site = length site.boxes == 0
 abbrev has_too_many : Site → Bool
 has_too_many site = nat_lt BOX_LIMIT (length site.boxes)
 
-same_order : (n h d c b t : Bool) → n ≡ false → (b ≡ true) ⊎ (c ≡ false)
-    → option_map (λ r. refusal (cause r))
-    (cond (not h) (Some BadHost) (cond (not d) (Some BadDomain) (cond (n || c) (Some BadCount) (cond (not b) (Some BadBox) (cond t (Some NamedTwice) None)))))
-    ≡ cond n (Some fault.NoBox) (cond (not h) (Some fault.Host)
-    (cond (not d) (Some fault.Domain) (cond (not b) (Some fault.Box) (cond c (Some fault.TooManyBoxes) (cond t (Some fault.BoxTwice) None)))))
-same_order true h d c b t e o = absurd (true≢false e)
-same_order false false d c b t e o = refl
-same_order false true false c b t e o = refl
-same_order false true true true true t e o = refl
-same_order false true true true false t e (inl bad) = cc
-same_order false true true true false t e (inr bad) = cc
-same_order false true true false false t e o = refl
-same_order false true true false true true e o = refl
-same_order false true true false true false e o = refl
+-- a usable name is a mailbox's, and so are names that are all usable
+named_well : (b lock all_usable all_named : Bool) → (all_usable ≡ true → all_named ≡ true) → ((b && not lock) && all_usable) ≡ true
+    → (b && all_named) ≡ true
+named_well true false all_usable all_named more e = more e
+named_well true true all_usable all_named more e = cc
+named_well false lock all_usable all_named more e = cc
 
--- the two orders agree where there is a mailbox, and no name is bad or the number is not
-agree : (site : Site) → has_none site ≡ false → (list_all is_box_name site.boxes ≡ true) ⊎ (has_too_many site ≡ false)
-    → option_map (λ r. refusal (cause r)) (fault_of site) ≡ first_fault site
-agree site some o = same_order (has_none site) (is_host_name site.host) (list_all is_host_name site.domains) (has_too_many site)
-    (list_all is_box_name site.boxes) (has_twice site.boxes) some o
+pub usable_named : (suffix : List ℕ) (names : List (List ℕ)) → list_all (is_usable_name suffix) names ≡ true → list_all is_box_name names ≡ true
+usable_named suffix [] e = refl
+usable_named suffix (name ∷ names) e =
+    named_well (is_box_name name) (is_lock_name (name ++ suffix)) (list_all (is_usable_name suffix) names) (list_all is_box_name names)
+    (usable_named suffix names) e
 
-refused : (site : Site) (o : Option Rule) (said : Option Fault) (e : SiteFault) → fault_of site ≡ o → option_map (λ r. refusal (cause r)) (fault_of site) ≡ said
+-- Where there is a mailbox, and each name is usable or there is but one, the rule that a site breaks first is the fault
+-- that the program says.
+rule_said : (n h d c b t u : Bool) (rule : Rule) → n ≡ false → (u ≡ true → b ≡ true) → (u ≡ true) ⊎ ((c ≡ false) × (t ≡ false))
+    → cond (not h) (Some BadHost) (cond (not d) (Some BadDomain) (cond (n || c) (Some BadCount) (cond (not b) (Some BadBox) (cond t (Some NamedTwice) None))))
+    ≡ Some rule
+    → cond n (Some fault.NoBox) (cond (not h) (Some fault.Host)
+    (cond (not d) (Some fault.Domain) (cond (not u) (Some fault.Box) (cond c (Some fault.TooManyBoxes) (cond t (Some fault.BoxTwice) None)))))
+    ≡ Some (refusal (cause rule))
+rule_said true h d c b t u rule some named o e = absurd (true≢false some)
+rule_said false false d c b t u rule some named o e = let is : BadHost ≡ rule = cc in rw (sym is) refl
+rule_said false true false c b t u rule some named o e = let is : BadDomain ≡ rule = cc in rw (sym is) refl
+rule_said false true true true b t true rule some named o e = let is : BadCount ≡ rule = cc in rw (sym is) refl
+rule_said false true true true b t false rule some named (inl all) e = cc
+rule_said false true true true b t false rule some named (inr one) e = absurd (true≢false one.0)
+rule_said false true true false false t true rule some named o e = absurd (true≢false (sym (named refl)))
+rule_said false true true false false t false rule some named o e = let is : BadBox ≡ rule = cc in rw (sym is) refl
+rule_said false true true false true true true rule some named o e = let is : NamedTwice ≡ rule = cc in rw (sym is) refl
+rule_said false true true false true true false rule some named (inl all) e = cc
+rule_said false true true false true true false rule some named (inr one) e = absurd (true≢false one.1)
+rule_said false true true false true false u rule some named o e = cc
+
+broken_said : (suffix : List ℕ) (site : Site) (rule : Rule) → has_none site ≡ false
+    → (list_all (is_usable_name suffix) site.boxes ≡ true) ⊎ ((has_too_many site ≡ false) × (has_twice site.boxes ≡ false))
+    → fault_of site ≡ Some rule → first_fault suffix site ≡ Some (refusal (cause rule))
+broken_said suffix site rule some o e =
+    rule_said (has_none site) (is_host_name site.host) (list_all is_host_name site.domains) (has_too_many site) (list_all is_box_name site.boxes)
+    (has_twice site.boxes) (list_all (is_usable_name suffix) site.boxes) rule some (usable_named suffix site.boxes) o e
+
+refused : (site : Site) (o : Option Rule) (said : Option Fault) (e : SiteFault) → fault_of site ≡ o
+    → ((rule : Rule) → fault_of site ≡ Some rule → said ≡ Some (refusal (cause rule)))
     → ((rule : Rule) → fault_of site ≡ Some rule → ◌≡◌ {A = Result Site SiteFault} (Err e) (Err (cause rule)))
     → (fault_of site ≡ None → e ≡ faults.Memory)
     → (refusal e ≡ fault.Memory) ⊎ (said ≡ Some (refusal e))
-refused site None said e is same broken whole = inl (ap refusal (whole is))
-refused site (Some rule) said e is same broken whole =
+refused site None said e is says broken whole = inl (ap refusal (whole is))
+refused site (Some rule) said e is says broken whole =
     let err = broken rule is in
     let at : e ≡ cause rule = cc in
-    inr (sym same ∙ (ap (option_map (λ r. refusal (cause r))) is ∙ ap (λ x. Some (refusal x)) (sym at)))
+    inr (says rule is ∙ ap (λ x. Some (refusal x)) (sym at))
 
 -- what a site that could not be made says
-pub site_refused : (site : Site) (e : SiteFault) → has_none site ≡ false → (list_all is_box_name site.boxes ≡ true) ⊎ (has_too_many site ≡ false)
+pub site_refused : (suffix : List ℕ) (site : Site) (e : SiteFault) → has_none site ≡ false
+    → (list_all (is_usable_name suffix) site.boxes ≡ true) ⊎ ((has_too_many site ≡ false) × (has_twice site.boxes ≡ false))
     → ((rule : Rule) → fault_of site ≡ Some rule → ◌≡◌ {A = Result Site SiteFault} (Err e) (Err (cause rule)))
     → (fault_of site ≡ None → e ≡ faults.Memory)
-    → (refusal e ≡ fault.Memory) ⊎ (first_fault site ≡ Some (refusal e))
-site_refused site e some o broken whole = refused site (fault_of site) (first_fault site) e refl (agree site some o) broken whole
+    → (refusal e ≡ fault.Memory) ⊎ (first_fault suffix site ≡ Some (refusal e))
+site_refused suffix site e some o broken whole =
+    refused site (fault_of site) (first_fault suffix site) e refl (λ rule. broken_said suffix site rule some o) broken whole
+
+none_said : (n h d c b t u : Bool) → n ≡ false → u ≡ true
+    → cond (not h) (Some BadHost) (cond (not d) (Some BadDomain) (cond (n || c) (Some BadCount) (cond (not b) (Some BadBox) (cond t (Some NamedTwice) None))))
+    ≡ None
+    → cond n (Some fault.NoBox) (cond (not h) (Some fault.Host)
+    (cond (not d) (Some fault.Domain) (cond (not u) (Some fault.Box) (cond c (Some fault.TooManyBoxes) (cond t (Some fault.BoxTwice) None)))))
+    ≡ None
+none_said true h d c b t u some all e = absurd (true≢false some)
+none_said false h d c b t false some all e = absurd (true≢false (sym all))
+none_said false false d c b t true some all e = cc
+none_said false true false c b t true some all e = cc
+none_said false true true true b t true some all e = cc
+none_said false true true false false t true some all e = cc
+none_said false true true false true true true some all e = cc
+none_said false true true false true false true some all e = refl
 
 -- and one that was made
-pub site_made : (site : Site) → has_none site ≡ false → (list_all is_box_name site.boxes ≡ true) ⊎ (has_too_many site ≡ false) → fault_of site ≡ None
-    → first_fault site ≡ None
-site_made site some o sound = sym (agree site some o) ∙ ap (option_map (λ r. refusal (cause r))) sound
+pub site_made : (suffix : List ℕ) (site : Site) → has_none site ≡ false → list_all (is_usable_name suffix) site.boxes ≡ true → fault_of site ≡ None
+    → first_fault suffix site ≡ None
+site_made suffix site some all sound =
+    none_said (has_none site) (is_host_name site.host) (list_all is_host_name site.domains) (has_too_many site) (list_all is_box_name site.boxes)
+    (has_twice site.boxes) (list_all (is_usable_name suffix) site.boxes) some all sound
 
-box_of : (h d b : Bool) (x y : Option Fault)
-    → cond (not h) (Some fault.Host) (cond (not d) (Some fault.Domain) (cond (not (b && true)) (Some fault.Box) x)) ≡ None → b ≡ true
-box_of false d b x y e = cc
-box_of true false b x y e = cc
-box_of true true false x y e = cc
-box_of true true true x y e = refl
+-- a mailbox that alone makes a site: what is said by the name of its file
+lock_said : (h d b lock : Bool)
+    → cond (not h) (Some BadHost) (cond (not d) (Some BadDomain) (cond (not (b && true)) (Some BadBox) None)) ≡ None
+    → cond (not h) (Some fault.Host) (cond (not d) (Some fault.Domain) (cond (not ((b && not lock) && true)) (Some fault.Box) None))
+    ≡ cond lock (Some fault.Box) None
+lock_said false d b lock e = cc
+lock_said true false b lock e = cc
+lock_said true true false lock e = cc
+lock_said true true true false e = refl
+lock_said true true true true e = refl
 
--- a mailbox that does alone has a good name
-pub box_named : (host : List ℕ) (domains : List (Bor (List ℕ))) (name : List ℕ) → first_fault (site_of_one host domains name) ≡ None → is_box_name name ≡ true
-box_named host domains name e = box_of (is_host_name host) (list_all is_host_name (texts domains)) (is_box_name name) None None e
+pub one_made : (host : List ℕ) (domains : List (Bor (List ℕ))) (suffix name : List ℕ) (lock : Bool) → is_lock_name (name ++ suffix) ≡ lock
+    → fault_of (site_of_one host domains name) ≡ None → first_fault suffix (site_of_one host domains name) ≡ cond lock (Some fault.Box) None
+one_made host domains suffix name lock is sound =
+    lock_said (is_host_name host) (list_all is_host_name (texts domains)) (is_box_name name) (is_lock_name (name ++ suffix)) sound
+    ∙ ap (λ l. cond l (Some fault.Box) None) is
 
-lifted : (n h d b all : Bool) (rest : Option Fault) (f : Fault) → n ≡ false → (b ≡ false → all ≡ false)
-    → cond (not h) (Some fault.Host) (cond (not d) (Some fault.Domain) (cond (not (b && true)) (Some fault.Box) None)) ≡ Some f
+usable_of : (h d u : Bool) (x : Option Fault)
+    → cond (not h) (Some fault.Host) (cond (not d) (Some fault.Domain) (cond (not (u && true)) (Some fault.Box) x)) ≡ None → u ≡ true
+usable_of false d u x e = cc
+usable_of true false u x e = cc
+usable_of true true false x e = cc
+usable_of true true true x e = refl
+
+-- a mailbox that does alone has a usable name
+pub box_named : (host : List ℕ) (domains : List (Bor (List ℕ))) (suffix name : List ℕ) → first_fault suffix (site_of_one host domains name) ≡ None
+    → is_usable_name suffix name ≡ true
+box_named host domains suffix name e =
+    usable_of (is_host_name host) (list_all is_host_name (texts domains)) (is_usable_name suffix name) None e
+
+lifted : (n h d u all : Bool) (rest : Option Fault) (f : Fault) → n ≡ false → (u ≡ false → all ≡ false)
+    → cond (not h) (Some fault.Host) (cond (not d) (Some fault.Domain) (cond (not (u && true)) (Some fault.Box) None)) ≡ Some f
     → cond n (Some fault.NoBox) (cond (not h) (Some fault.Host) (cond (not d) (Some fault.Domain) (cond (not all) (Some fault.Box) rest))) ≡ Some f
-lifted true h d b all rest f some bad e = absurd (true≢false some)
-lifted false false d b all rest f some bad e = e
-lifted false true false b all rest f some bad e = e
+lifted true h d u all rest f some bad e = absurd (true≢false some)
+lifted false false d u all rest f some bad e = e
+lifted false true false u all rest f some bad e = e
 lifted false true true true all rest f some bad e = cc
 lifted false true true false all rest f some bad e = rw (bad refl) e
 
 -- what a mailbox alone says, a site with it among others says too
-pub box_refused : (host : List ℕ) (domains boxes : List (Bor (List ℕ))) (name : List ℕ) (f : Fault)
-    → first_fault (site_of_one host domains name) ≡ Some f
+pub box_refused : (host : List ℕ) (domains boxes : List (Bor (List ℕ))) (suffix name : List ℕ) (f : Fault)
+    → first_fault suffix (site_of_one host domains name) ≡ Some f
     → has_none (site_of host domains boxes) ≡ false
-    → (is_box_name name ≡ false → list_all is_box_name (texts boxes) ≡ false)
-    → first_fault (site_of host domains boxes) ≡ Some f
-box_refused host domains boxes name f e some bad =
-    lifted (has_none (site_of host domains boxes)) (is_host_name host) (list_all is_host_name (texts domains)) (is_box_name name)
-    (list_all is_box_name (texts boxes))
+    → (is_usable_name suffix name ≡ false → list_all (is_usable_name suffix) (texts boxes) ≡ false)
+    → first_fault suffix (site_of host domains boxes) ≡ Some f
+box_refused host domains boxes suffix name f e some bad =
+    lifted (has_none (site_of host domains boxes)) (is_host_name host) (list_all is_host_name (texts domains)) (is_usable_name suffix name)
+    (list_all (is_usable_name suffix) (texts boxes))
     (cond (has_too_many (site_of host domains boxes)) (Some fault.TooManyBoxes) (cond (has_twice (texts boxes)) (Some fault.BoxTwice) None)) f some bad e
 
 -- a site of names has none exactly where there are none
@@ -107,8 +166,8 @@ some_of_place host domains boxes place below =
     not_zero (length (texts boxes)) (length (texts boxes) == 0) refl (omega (arith, below, length-map boxes (λ (name : Bor (List ℕ)). name.now)))
 
 -- no mailbox at all
-pub none_refused : (host : List ℕ) (domains boxes : List (Bor (List ℕ))) (t : Bool) → t ≡ (length boxes == 0) → t ≡ true
-    → first_fault (site_of host domains boxes) ≡ Some fault.NoBox
-none_refused host domains boxes t e none =
+pub none_refused : (host : List ℕ) (domains boxes : List (Bor (List ℕ))) (suffix : List ℕ) (t : Bool) → t ≡ (length boxes == 0) → t ≡ true
+    → first_fault suffix (site_of host domains boxes) ≡ Some fault.NoBox
+none_refused host domains boxes suffix t e none =
     let is : has_none (site_of host domains boxes) ≡ true = none_of_none host domains boxes t e ∙ none in
     rw is refl

@@ -9,14 +9,14 @@ use Rattle.std.specs.Str.{bytes_eq}
 use Rattle.std.proofs.lemmas.Bool.Decides.{nat_tests}
 use Rattle.std.proofs.lemmas.Cmp.{nat_list_eq_equiv}
 use Rattle.std.proofs.lemmas.List.{drop_more, length-map, map-append, take_more}
-use Rattle.mail_world.specs.Site.{is_box_name, has_text, has_twice, is_host_name}
+use Rattle.mail_world.specs.Site.{has_text, has_twice, is_host_name}
 use Rattle.mail_world.specs.declared.limits.TheConstants.{BOX_LIMIT}
 use Rattle.lmtp_text.specs.Sites.{texts}
 use Rattle.lmtpd_words.specs.Words.{named_site}
 use Rattle.lmtpd_words.specs.declared.words.ServeWords.{ServeWords}
 use Rattle.lmtpd_words.specs.declared.words.SiteWords.{SiteWords}
-use Rattle.lmtpd_setup.specs.Faults.{first_fault, site_of_one}
-use Rattle.lmtpd_setup.specs.Names.{IsNameLine, IsNoSite, IsToldIf, IsToldOf, tells_names, twice_place, wrong_place}
+use Rattle.lmtpd_setup.specs.Faults.{first_fault, is_usable_name, site_fault, site_of_one}
+use Rattle.lmtpd_setup.specs.Names.{IsNameLine, IsNoSite, IsToldIf, IsToldOf, place_in, tells_names, twice_place, wrong_place}
 use Rattle.lmtpd_setup.specs.declared.fault.Fault.{Fault}
 use Rattle.lmtpd_setup.specs.declared.fault.Fault.TheVariants as fault
 use Rattle.lmtpd_setup.specs.declared.stop.Stop.{Stop}
@@ -61,10 +61,10 @@ good_step : (b : Bool) (n m : ℕ) (rest : Bool) → suc m ≤ cond b (1 + n) 0 
 good_step true n m rest all more = more (omega (arith, all))
 good_step false n m rest all more = absurd (omega (arith, all))
 
-all_good : (names : List (List ℕ)) → length names ≤ prefix_len is_box_name names → list_all is_box_name names ≡ true
-all_good [] all = refl
-all_good (name ∷ names) all =
-    good_step (is_box_name name) (prefix_len is_box_name names) (length names) (list_all is_box_name names) all (all_good names)
+all_good : (good : List ℕ → Bool) (names : List (List ℕ)) → length names ≤ prefix_len good names → list_all good names ≡ true
+all_good good [] all = refl
+all_good good (name ∷ names) all =
+    good_step (good name) (prefix_len good names) (length names) (list_all good names) all (all_good good names)
 
 shuffle : (a e t b : Bool) → ((a || e) || (t || b)) ≡ ((a || t) || (e || b))
 shuffle true e t b = refl
@@ -108,24 +108,27 @@ none_twice seen (name ∷ names) once all = once_step seen name names (has_text 
 over : (limit count : ℕ) → nat_lt limit count ≡ true → count ≤ limit → ⊥
 over limit count more within = let above : limit < count = grind (arith, nat_tests) in omega (arith, above, within)
 
-no_name : (words : SiteWords) (f : Fault) → first_fault (named_site words) ≡ Some f → length (texts words.boxes.items) ≤ wrong_place f (texts words.boxes.items)
+no_name : (words : SiteWords) (f : Fault) → site_fault words ≡ Some f → length (texts words.boxes.items) ≤ place_in words f
     → IsToldOf words f (stop.Fault f)
 no_name words fault.Box first all =
     let site = named_site words in
-    let bad : list_all is_box_name site.boxes ≡ false =
-    bad_of (length site.boxes == 0) (is_host_name site.host) (list_all is_host_name site.domains) (list_all is_box_name site.boxes)
+    let usable = is_usable_name words.mailbox_suffix.now in
+    let bad : list_all usable site.boxes ≡ false =
+    bad_of (length site.boxes == 0) (is_host_name site.host) (list_all is_host_name site.domains) (list_all usable site.boxes)
     (nat_lt BOX_LIMIT (length site.boxes)) (has_twice site.boxes) first in
-    absurd (true≢false (sym (all_good site.boxes all) ∙ bad))
+    absurd (true≢false (sym (all_good usable site.boxes all) ∙ bad))
 no_name words fault.TooManyBoxes first all =
     let site = named_site words in
+    let usable = is_usable_name words.mailbox_suffix.now in
     let many : nat_lt BOX_LIMIT (length site.boxes) ≡ true =
-    many_of (length site.boxes == 0) (is_host_name site.host) (list_all is_host_name site.domains) (list_all is_box_name site.boxes)
+    many_of (length site.boxes == 0) (is_host_name site.host) (list_all is_host_name site.domains) (list_all usable site.boxes)
     (nat_lt BOX_LIMIT (length site.boxes)) (has_twice site.boxes) first in
     absurd (over BOX_LIMIT (length site.boxes) many all)
 no_name words fault.BoxTwice first all =
     let site = named_site words in
+    let usable = is_usable_name words.mailbox_suffix.now in
     let twice : has_twice site.boxes ≡ true =
-    twice_of (length site.boxes == 0) (is_host_name site.host) (list_all is_host_name site.domains) (list_all is_box_name site.boxes)
+    twice_of (length site.boxes == 0) (is_host_name site.host) (list_all is_host_name site.domains) (list_all usable site.boxes)
     (nat_lt BOX_LIMIT (length site.boxes)) (has_twice site.boxes) first in
     absurd (true≢false (sym twice ∙ none_twice [] site.boxes refl all))
 no_name words fault.Address first all = refl
@@ -141,8 +144,8 @@ no_name words fault.ChannelGone first all = refl
 no_name words fault.Device first all = refl
 
 -- a site's fault that is about no name
-pub nothing_told : (words : SiteWords) (f : Fault) → (f ≡ fault.Memory) ⊎ (first_fault (named_site words) ≡ Some f)
-    → length words.boxes.items ≤ wrong_place f (texts words.boxes.items)
+pub nothing_told : (words : SiteWords) (f : Fault) → (f ≡ fault.Memory) ⊎ (site_fault words ≡ Some f)
+    → length words.boxes.items ≤ place_in words f
     → (stop.Fault f ≡ stop.Fault fault.Memory) ⊎ IsToldOf words f (stop.Fault f)
 nothing_told words f (inl memory) all = inl (ap stop.Fault memory)
 nothing_told words f (inr first) all =
@@ -170,7 +173,7 @@ name_told words fault.Device line is = absurd (no_place words.boxes.items is.wit
 
 -- what ends a server that has no site
 pub no_site : (words : ServeWords) (f : Fault) (s : Stop) (tells : Bool) → tells_names words ≡ tells
-    → (f ≡ fault.Memory) ⊎ (first_fault (named_site words.site) ≡ Some f)
+    → (f ≡ fault.Memory) ⊎ (site_fault words.site ≡ Some f)
     → (s ≡ stop.Fault fault.Memory) ⊎ IsToldIf tells words.site f s → IsNoSite words s
 no_site words f s tells is first (inl memory) = inl memory
 no_site words f s tells is (inr first) (inr told) = inr (f, first, subst (λ t. IsToldIf t words.site f s) (sym is) told)
@@ -178,30 +181,30 @@ no_site words f s true is (inl memory) (inr told) = inl (subst (λ g. IsToldOf w
 no_site words f s false is (inl memory) (inr told) = inl (told ∙ ap stop.Fault memory)
 
 -- what is found of faults that are about no name
-pub place_of_none : (f : Fault) (names : List (List ℕ)) → ¬ (f ≡ fault.Box) → ¬ (f ≡ fault.TooManyBoxes) → ¬ (f ≡ fault.BoxTwice)
-    → wrong_place f names ≡ length names
-place_of_none fault.Box names a b c = absurd (a refl)
-place_of_none fault.TooManyBoxes names a b c = absurd (b refl)
-place_of_none fault.BoxTwice names a b c = absurd (c refl)
-place_of_none fault.Address names a b c = refl
-place_of_none fault.Port names a b c = refl
-place_of_none fault.NoBox names a b c = refl
-place_of_none fault.Host names a b c = refl
-place_of_none fault.Domain names a b c = refl
-place_of_none fault.Memory names a b c = refl
-place_of_none fault.Listen names a b c = refl
-place_of_none fault.Size names a b c = refl
-place_of_none fault.NoThread names a b c = refl
-place_of_none fault.ChannelGone names a b c = refl
-place_of_none fault.Device names a b c = refl
+pub place_of_none : (suffix : List ℕ) (f : Fault) (names : List (List ℕ)) → ¬ (f ≡ fault.Box) → ¬ (f ≡ fault.TooManyBoxes) → ¬ (f ≡ fault.BoxTwice)
+    → wrong_place suffix f names ≡ length names
+place_of_none suffix fault.Box names a b c = absurd (a refl)
+place_of_none suffix fault.TooManyBoxes names a b c = absurd (b refl)
+place_of_none suffix fault.BoxTwice names a b c = absurd (c refl)
+place_of_none suffix fault.Address names a b c = refl
+place_of_none suffix fault.Port names a b c = refl
+place_of_none suffix fault.NoBox names a b c = refl
+place_of_none suffix fault.Host names a b c = refl
+place_of_none suffix fault.Domain names a b c = refl
+place_of_none suffix fault.Memory names a b c = refl
+place_of_none suffix fault.Listen names a b c = refl
+place_of_none suffix fault.Size names a b c = refl
+place_of_none suffix fault.NoThread names a b c = refl
+place_of_none suffix fault.ChannelGone names a b c = refl
+place_of_none suffix fault.Device names a b c = refl
 
 alone : (b : Bool) → cond (not (b && true)) (Some fault.Box) None ≡ Some fault.Box → b ≡ false
 alone true e = cc
 alone false e = refl
 
 -- a name that alone is no mailbox's
-pub bad_alone : (name : List ℕ) → first_fault (site_of_one (codes "h") [] name) ≡ Some fault.Box → is_box_name name ≡ false
-bad_alone name e = alone (is_box_name name) e
+pub bad_alone : (suffix name : List ℕ) → first_fault suffix (site_of_one (codes "h") [] name) ≡ Some fault.Box → is_usable_name suffix name ≡ false
+bad_alone suffix name e = alone (is_usable_name suffix name) e
 
 -- the name at this place stands among those before it, or it doesn't
 pub here : (names : List (Bor (List ℕ))) (k : ℕ) (d : Bor (List ℕ)) → k < length names

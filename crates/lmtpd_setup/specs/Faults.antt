@@ -1,13 +1,15 @@
 -- What the program's words may lack, and what the program then answers.
-use Rattle.std.specs.Prelude.{ℕ, Bool, true, false, not, nat_lt, ◌==◌, List, [], ◌∷◌, length, if◌then◌else◌}
+use Rattle.std.specs.Prelude.{ℕ, Bool, true, false, not, nat_eq, nat_lt, ◌==◌, ◌&&◌, List, [], ◌∷◌, ◌++◌, length, if◌then◌else◌}
 use Rattle.std.specs.Prelude.{Option, Some, None, codes}
 use Rattle.std.specs.Borrow.{Bor}
-use Rattle.std.specs.List.{list_all}
+use Rattle.std.specs.List.{ends_with, list_all}
 use Rattle.mail_world.specs.declared.limits.TheConstants.{BOX_LIMIT, MESSAGE_LIMIT}
 use Rattle.mail_world.specs.Site.{Site, is_host_name, is_box_name, has_twice}
 use Rattle.lmtp_text.specs.Sites.{texts}
 use Rattle.lmtp_text.specs.declared.site.SiteFault.{SiteFault}
 use Rattle.lmtp_text.specs.declared.site.SiteFault.TheVariants as cause
+use Rattle.lmtpd_words.specs.Words.{named_site}
+use Rattle.lmtpd_words.specs.declared.words.SiteWords.{SiteWords}
 use Rattle.lmtpd_listen.specs.declared.fault.ListenFault.{ListenFault}
 use Rattle.lmtpd_listen.specs.declared.fault.ListenFault.TheVariants as listen
 use Rattle.lmtpd_setup.specs.declared.fault.Fault.{Fault}
@@ -66,17 +68,29 @@ abbrev pub is_memory : ErrorKind → Bool
 is_memory OutOfMemory = true
 is_memory _ = false
 
--- the first fault of a site, in the order in which the program looks: whether there is a box comes before all names,
--- and each box alone before their number
-abbrev pub first_fault : Site → Option Fault
-first_fault site =
+-- a file is called as the lock file of another one is
+abbrev pub is_lock_name : List ℕ → Bool
+is_lock_name file = ends_with nat_eq file (codes ".lock")
+
+-- a name that a mailbox can have whose file is called by it and that suffix
+abbrev pub is_usable_name : List ℕ → List ℕ → Bool
+is_usable_name suffix name = is_box_name name && not (is_lock_name (name ++ suffix))
+
+-- the first fault of a site whose mailboxes' files have that suffix, in the order in which the program looks: whether
+-- there is a box comes before all names, and each box alone before their number
+abbrev pub first_fault : List ℕ → Site → Option Fault
+first_fault suffix site =
     if length site.boxes == 0 then Some fault.NoBox
     else if not (is_host_name site.host) then Some fault.Host
     else if not (list_all is_host_name site.domains) then Some fault.Domain
-    else if not (list_all is_box_name site.boxes) then Some fault.Box
+    else if not (list_all (is_usable_name suffix) site.boxes) then Some fault.Box
     else if nat_lt BOX_LIMIT (length site.boxes) then Some fault.TooManyBoxes
     else if has_twice site.boxes then Some fault.BoxTwice
     else None
+
+-- the first fault of the site that the words name
+abbrev pub site_fault : SiteWords → Option Fault
+site_fault words = first_fault words.mailbox_suffix.now (named_site words)
 
 -- the site of that host with those further domains and one mailbox
 abbrev pub site_of_one : List ℕ → List (Bor (List ℕ)) → List ℕ → Site
@@ -108,6 +122,6 @@ abbrev pub stop_status : Stop → ℕ
 stop_status (stop.Words error) = words_status (kind_of error)
 stop_status (stop.Fault f) = status_of f
 stop_status (stop.Name f line) = status_of f
-stop_status (stop.Unopened name) = 1
-stop_status (stop.NoFolder name) = 1
+stop_status (stop.Unopened name suffix) = 1
+stop_status (stop.NoFolder name suffix) = 1
 stop_status (stop.Unread path) = 1

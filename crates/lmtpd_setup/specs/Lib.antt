@@ -1,6 +1,7 @@
 pub mod Boxes
 pub mod Faults
 pub mod Lines
+pub mod Mailboxes
 pub mod Names
 pub mod Setup
 pub mod Unopened

@@ -20,9 +20,9 @@ fault_line is_journal f = mark is_journal ++ (codes "lmtpd: " ++ fault_text f ++
 abbrev pub named_lines : Bool → List ℕ → Fault → List ℕ
 named_lines is_journal line f = mark is_journal ++ (line ++ fault_line is_journal f)
 
--- the line for a mailbox whose file can't be opened, whatever the cause
-abbrev pub unopened_line : Bool → List ℕ → List ℕ
-unopened_line is_journal name = mark is_journal ++ (codes "lmtpd: cannot open " ++ name ++ (codes ".mbox" ++ (lf ∷ [])))
+-- the line for a mailbox of that name whose file, with that suffix, can't be opened, whatever the cause
+abbrev pub unopened_line : Bool → List ℕ → List ℕ → List ℕ
+unopened_line is_journal name suffix = mark is_journal ++ (codes "lmtpd: cannot open " ++ name ++ (suffix ++ (lf ∷ [])))
 
 -- the line for a file of mailboxes that can't be read
 abbrev pub unread_line : Bool → List ℕ → List ℕ
@@ -33,8 +33,8 @@ abbrev pub stop_line : Bool → Stop → List ℕ
 stop_line is_journal (stop.Words error) = []
 stop_line is_journal (stop.Fault f) = fault_line is_journal f
 stop_line is_journal (stop.Name f line) = named_lines is_journal (string_bytes line) f
-stop_line is_journal (stop.Unopened name) = unopened_line is_journal name.now
-stop_line is_journal (stop.NoFolder name) = unopened_line is_journal name.now
+stop_line is_journal (stop.Unopened name suffix) = unopened_line is_journal name.now suffix.now
+stop_line is_journal (stop.NoFolder name suffix) = unopened_line is_journal name.now suffix.now
 stop_line is_journal (stop.Unread path) = unread_line is_journal path.now
 
 -- the line and the status where all was done that was asked for, but for a fault

@@ -6,16 +6,15 @@ use Rattle.std.specs.Borrow.{Bor}
 use Rattle.std.specs.List.{prefix_len}
 use Rattle.log.specs.declared.level.LevelFilter.{LevelFilter}
 use Rattle.log.specs.declared.level.LevelFilter.TheVariants as filter
-use Rattle.mail_world.specs.Site.{is_box_name, has_text}
+use Rattle.mail_world.specs.Site.{has_text}
 use Rattle.mail_world.specs.Text.{lf}
 use Rattle.mail_world.specs.declared.limits.TheConstants.{BOX_LIMIT}
 use Rattle.lmtp_text.specs.Sites.{texts}
 use Rattle.lmtpd_words.specs.Boxes.{IsLineOfName, listed_boxes}
 use Rattle.lmtpd_words.specs.Printable.{printable_text}
-use Rattle.lmtpd_words.specs.Words.{named_site}
 use Rattle.lmtpd_words.specs.declared.words.ServeWords.{ServeWords}
 use Rattle.lmtpd_words.specs.declared.words.SiteWords.{SiteWords}
-use Rattle.lmtpd_setup.specs.Faults.{fault_text, first_fault}
+use Rattle.lmtpd_setup.specs.Faults.{fault_text, is_usable_name, site_fault}
 use Rattle.lmtpd_setup.specs.declared.names.TheConstants.{SHOWN_LIMIT}
 use Rattle.lmtpd_setup.specs.declared.fault.Fault.{Fault}
 use Rattle.lmtpd_setup.specs.declared.fault.Fault.TheVariants as fault
@@ -27,13 +26,17 @@ abbrev pub twice_place : List (List ℕ) → List (List ℕ) → ℕ
 twice_place seen [] = 0
 twice_place seen (name ∷ names) = if has_text seen name then 0 else suc (twice_place (seen ++ name ∷ []) names)
 
--- The number, from 0 on, of the name that a fault is about: the first that no mailbox can have, the first too many, the
--- first that was named before.
-abbrev pub wrong_place : Fault → List (List ℕ) → ℕ
-wrong_place fault.Box names = prefix_len is_box_name names
-wrong_place fault.TooManyBoxes names = BOX_LIMIT
-wrong_place fault.BoxTwice names = twice_place [] names
-wrong_place _ names = length names
+-- The number, from 0 on, of the name that a fault is about: the first that no mailbox can have whose file has that
+-- suffix, the first too many, the first that was named before.
+abbrev pub wrong_place : List ℕ → Fault → List (List ℕ) → ℕ
+wrong_place suffix fault.Box names = prefix_len (is_usable_name suffix) names
+wrong_place suffix fault.TooManyBoxes names = BOX_LIMIT
+wrong_place suffix fault.BoxTwice names = twice_place [] names
+wrong_place suffix _ names = length names
+
+-- the same of the names of these words
+abbrev pub place_in : SiteWords → Fault → ℕ
+place_in words f = wrong_place words.mailbox_suffix.now f (texts words.boxes.items)
 
 -- a place among so many names, where it is one
 abbrev pub IsFoundAt : ℕ → ℕ → Option ℕ → Type 0
@@ -67,10 +70,10 @@ name_line f name place =
 
 -- the line of the log for a site with that fault
 pub record IsNameLine (words : SiteWords) (f : Fault) (said : List ℕ) : Type 0 where
-  pub within : wrong_place f (texts words.boxes.items) < length words.boxes.items
+  pub within : place_in words f < length words.boxes.items
   pub line : Option ℕ
-  pub stands : IsPlace words (wrong_place f (texts words.boxes.items)) line
-  pub text : said ≡ name_line f (get_or (texts words.boxes.items) (wrong_place f (texts words.boxes.items)) [])
+  pub stands : IsPlace words (place_in words f) line
+  pub text : said ≡ name_line f (get_or (texts words.boxes.items) (place_in words f) [])
       (place_text words.boxes_file line)
 
 -- what ends the program where the name is said
@@ -102,4 +105,4 @@ IsRefusedBy words f s = IsToldIf (tells_names words) words.site f s
 -- why a server has no site: memory is lacking, and else the site's first fault
 abbrev pub IsNoSite : ServeWords → Stop → Type 0
 IsNoSite words s = (s ≡ stop.Fault fault.Memory)
-    ⊎ ((f : Fault) × (first_fault (named_site words.site) ≡ Some f) × IsRefusedBy words f s)
+    ⊎ ((f : Fault) × (site_fault words.site ≡ Some f) × IsRefusedBy words f s)

@@ -1,11 +1,10 @@
 -- What a server has before it listens, and why it hasn't.
 use Rattle.std.specs.Prelude.{◌≡◌, ◌⊎◌, None}
-use Rattle.lmtpd_words.specs.Words.{named_site}
 use Rattle.lmtpd_words.specs.declared.words.ServeWords.{ServeWords}
 use Rattle.lmtpd_listen.specs.Opened.{IsUnopened}
 use Rattle.lmtpd_listen.specs.declared.fault.ListenFault.{ListenFault}
 use Rattle.lmtpd_listen.specs.declared.listen_address.ListenAddress.{ListenAddress}
-use Rattle.lmtpd_setup.specs.Faults.{first_fault, listen_refusal}
+use Rattle.lmtpd_setup.specs.Faults.{listen_refusal, site_fault}
 use Rattle.lmtpd_setup.specs.Names.{IsNoSite}
 use Rattle.lmtpd_setup.specs.Unopened.{AreNotOpen}
 use Rattle.lmtpd_setup.specs.declared.ends.Ends.{Ends}
@@ -19,11 +18,12 @@ use Rattle.lmtpd_setup.specs.declared.stop.Stop.TheVariants as stop
 abbrev pub ends_asked : ServeWords → Ends
 ends_asked words = record { stop_file = words.stop_file; heals = words.heal; session_time = words.session_time }
 
--- where mailboxes are, how a turn at one is waited for, how a file is made, and whether one that can't be opened keeps
--- the server from starting
+-- where mailboxes are and what their files have after their names, how a turn at one is waited for, how a file is made,
+-- and whether one that can't be opened keeps the server from starting
 abbrev pub access_asked : ServeWords → Access
 access_asked words = record {
   folder = words.dir;
+  suffix = words.site.mailbox_suffix;
   wait = words.lock_wait;
   mode = words.mailbox_mode;
   anyway = words.start_anyway;
@@ -33,7 +33,7 @@ access_asked words = record {
 -- can't be opened, or only their folder can't where it is to start anyway
 abbrev pub IsNotSetUp : ServeWords → Stop → Type 0
 IsNotSetUp words s = IsNoSite words s
-    ⊎ ((s ≡ stop.Fault fault.Memory) ⊎ ((first_fault (named_site words.site) ≡ None) × AreNotOpen words.start_anyway words.site.boxes.items s))
+    ⊎ ((s ≡ stop.Fault fault.Memory) ⊎ ((site_fault words.site ≡ None) × AreNotOpen (access_asked words) words.site.boxes.items s))
 
 -- why nothing was opened there
 abbrev pub IsUnopenedAt : ListenAddress → Fault → Type 0

@@ -1,7 +1,8 @@
 //! The files of a server's mailboxes.
 
-ghost use Rattle.std.specs.Prelude.{◌≡◌, length, vec_len, IfOk, IfErr};
+ghost use Rattle.std.specs.Prelude.{◌≡◌, length, string_bytes, vec_len, IfOk, IfErr};
 ghost use Rattle.lmtpd_log.specs.Logged.{file_in, spool_in};
+ghost use Rattle.lmtpd_setup.specs.Mailboxes.{path_at};
 ghost use Rattle.lmtpd_setup.specs.Unopened.{AreNotOpen, IsNotOpen};
 
 use crate::ends::ServerCurfew;
@@ -30,23 +31,24 @@ type SharedMailbox<R, G> = SharedSpool<
 /// One of which it is logged that it is in use.
 pub type ServedMailbox<R, G> = LoggedMailbox<SharedMailbox<R, G>, G>;
 
-/// Where mailboxes are, how many seconds a turn at one is waited for, the permission bits of a file that is made, and
-/// whether a mailbox is had though its file can't be opened.
+/// Where mailboxes are, what their files have after their names, how many seconds a turn at one is waited for, the
+/// permission bits of a file that is made, and whether a mailbox is had though its file can't be opened.
 #[derive(Clone, Copy, Debug)]
 pub struct Access<'a> {
     pub folder: &'a str,
+    pub suffix: &'a str,
     pub wait: u32,
     pub mode: u32,
     pub anyway: bool,
 }
 
-/// Opens the file of each mailbox, `FOLDER/NAME.mbox`, in their order, up to the first that can't be opened, of which
-/// the log says why. With `anyway` it goes on after such a one, whose turns are missed until its file is in order; only a
+/// Opens the file of each mailbox, `FOLDER/NAME` and the suffix, in their order, up to the first that can't be opened, of
+/// which the log says why. With `anyway` it goes on after such a one, whose turns are missed until its file is in order; only a
 /// folder that can't be read ends it. A mailbox that fails is logged, and one that is in use.
 pub fn open_mailboxes<'a, R, G>(
     rt: R,
     alloc: Global,
-    access: Access<'_>,
+    access: Access<'a>,
     names: &[&'a [u8]],
     curfew: &Arc<ServerCurfew<R>>,
     log: G,
@@ -56,7 +58,7 @@ where
     R::File: RangeLock,
     G: Log + Copy + Drop,
     ensures count { IfOk result (λ spools. vec_len spools ≡ length names.now) }
-    ensures refused { IfErr result (AreNotOpen access.entry.anyway names.now) }
+    ensures refused { IfErr result (AreNotOpen access.entry names.now) }
 {
     let mut spools = match Vec::with_capacity(alloc, names.len()) {
         Ok(spools) => spools,
@@ -88,7 +90,7 @@ fn logged_mailbox<'a, S: Drop, G: Drop>(
 fn open_mailbox<'a, R, G>(
     rt: R,
     alloc: Global,
-    access: Access<'_>,
+    access: Access<'a>,
     name: &'a [u8],
     curfew: &Arc<ServerCurfew<R>>,
     log: G,
@@ -97,7 +99,7 @@ where
     R: Files + Clock + Copy + Drop,
     R::File: RangeLock,
     G: Log + Drop,
-    ensures { IfErr result (IsNotOpen access.entry.anyway name.entry) }
+    ensures { IfErr result (IsNotOpen access.entry name.entry) }
 {
     let file = open_file(rt, alloc, access, name, &log)?;
     let file = logged_file(alloc, WatchedFile::new(file, shared(curfew)?), name, log)?;
@@ -112,17 +114,15 @@ where
 fn open_file<'a, R: Files + Clock + Copy + Drop, G: Log>(
     rt: R,
     alloc: Global,
-    access: Access<'_>,
+    access: Access<'a>,
     name: &'a [u8],
     log: &G,
 ) -> Result<StdMailboxFile<R>, Stop<'a>>
 where
     R::File: RangeLock,
-    ensures { IfErr result (IsNotOpen access.entry.anyway name.entry) }
+    ensures { IfErr result (IsNotOpen access.entry name.entry) }
 {
-    let folder = access.folder;
-    let shown = printable(name);
-    let path = match format!(in alloc; "{folder}/{shown}.mbox") {
+    let path = match path_of(alloc, access, name) {
         Ok(path) => path,
         Err(_) => return Err(Stop::Fault(Fault::Memory)),
     };
@@ -137,15 +137,24 @@ where
     }
 }
 
+// Where the mailbox of that name is.
+fn path_of(alloc: Global, access: Access<'_>, name: &[u8]) -> Result<String, AllocError>
+    ensures { IfOk result (λ path. string_bytes path ≡ path_at access.entry name.entry) }
+{
+    let Access { folder, suffix, .. } = access;
+    let shown = printable(name);
+    format!(in alloc; "{folder}/{shown}{suffix}")
+}
+
 // Whether a mailbox is had whose file can't be opened, of which the log says why.
 fn allow_unopened<'a, R: Files, G: Log>(
     rt: &R,
-    access: Access<'_>,
+    access: Access<'a>,
     name: &'a [u8],
     reason: io::Error,
     log: &G,
 ) -> Result<(), Stop<'a>>
-    ensures { IfErr result (IsNotOpen access.entry.anyway name.entry) }
+    ensures { IfErr result (IsNotOpen access.entry name.entry) }
 {
     if reason.kind() == ErrorKind::OutOfMemory {
         return Err(Stop::Fault(Fault::Memory));
@@ -153,10 +162,10 @@ fn allow_unopened<'a, R: Files, G: Log>(
     let mailbox = printable(name);
     error!(log; target: "lmtpd", mailbox:%, reason:%; "cannot open");
     if !access.anyway {
-        return Err(Stop::Unopened(name));
+        return Err(Stop::Unopened(name, access.suffix));
     }
     if rt.open_dir(access.folder).is_err() {
-        return Err(Stop::NoFolder(name));
+        return Err(Stop::NoFolder(name, access.suffix));
     }
     Ok(())
 }

@@ -2,11 +2,10 @@
 
 ghost use Rattle.std.specs.Prelude.{◌≡◌, ◌⊎◌, ◌<◌, ◌++◌, [], length, Some, IfOk, OnOk, string_bytes};
 ghost use Rattle.std.specs.List.{prefix_len};
-ghost use Rattle.mail_world.specs.Site.{has_text, is_box_name};
+ghost use Rattle.mail_world.specs.Site.{has_text};
 ghost use Rattle.lmtp_text.specs.Sites.{texts};
-ghost use Rattle.lmtpd_words.specs.Words.{named_site};
-ghost use Rattle.lmtpd_setup.specs.Faults.{first_fault};
-ghost use Rattle.lmtpd_setup.specs.Names.{IsFoundAt, IsNameLine, IsNoSite, IsPlace, IsToldOf, place_text};
+ghost use Rattle.lmtpd_setup.specs.Faults.{is_usable_name, site_fault};
+ghost use Rattle.lmtpd_setup.specs.Names.{IsFoundAt, IsNameLine, IsNoSite, IsPlace, IsToldOf, place_in, place_text};
 ghost use Rattle.lmtpd_setup.specs.Names.{shown_name, tells_names, twice_place, wrong_place};
 
 use crate::fault::Fault;
@@ -24,7 +23,7 @@ pub const SHOWN_LIMIT: usize = 60;
 /// What ends a server whose site has that fault: where a name can't be used, and errors are logged or the words alone
 /// are checked, it has the line of the log that says which.
 pub fn refused_site<'a>(alloc: Global, words: &ServeWords<'_>, fault: Fault) -> Stop<'a>
-    requires { (fault ≡ Fault.Memory) ⊎ (first_fault (named_site words.now.site) ≡ Some fault) }
+    requires { (fault ≡ Fault.Memory) ⊎ (site_fault words.now.site ≡ Some fault) }
     ensures { IsNoSite words.now result }
 {
     if tells_names(words) {
@@ -41,10 +40,10 @@ fn tells_names(words: &ServeWords<'_>) -> bool
 }
 
 fn told_site<'a>(alloc: Global, words: &SiteWords<'_>, fault: Fault) -> Stop<'a>
-    requires { (fault ≡ Fault.Memory) ⊎ (first_fault (named_site words.now) ≡ Some fault) }
+    requires { (fault ≡ Fault.Memory) ⊎ (site_fault words.now ≡ Some fault) }
     ensures { (result ≡ Stop.Fault Fault.Memory) ⊎ IsToldOf words.now fault result }
 {
-    let number = match wrong_number(alloc, &words.boxes, fault) {
+    let number = match wrong_number(alloc, words.mailbox_suffix, &words.boxes, fault) {
         Ok(Some(number)) => number,
         Ok(None) => return Stop::Fault(fault),
         Err(_) => return Stop::Fault(Fault::Memory),
@@ -56,11 +55,16 @@ fn told_site<'a>(alloc: Global, words: &SiteWords<'_>, fault: Fault) -> Stop<'a>
 }
 
 // The number of the name that the fault is about, if it is about one of these.
-fn wrong_number(alloc: Global, names: &[&[u8]], fault: Fault) -> Result<Option<usize>, AllocError>
-    ensures { IfOk result (IsFoundAt (wrong_place fault (texts names.now)) (length names.now)) }
+fn wrong_number(
+    alloc: Global,
+    suffix: &str,
+    names: &[&[u8]],
+    fault: Fault,
+) -> Result<Option<usize>, AllocError>
+    ensures { IfOk result (IsFoundAt (wrong_place suffix.now fault (texts names.now)) (length names.now)) }
 {
     match fault {
-        Fault::Box => first_bad(alloc, names),
+        Fault::Box => first_bad(alloc, suffix, names),
         Fault::TooManyBoxes => Ok(place_within(names, BOX_LIMIT)),
         Fault::BoxTwice => Ok(first_twice(names)),
         _ => Ok(None),
@@ -77,22 +81,22 @@ fn place_within(names: &[&[u8]], place: usize) -> Option<usize>
     }
 }
 
-// The first that no mailbox can have.
-fn first_bad(alloc: Global, names: &[&[u8]]) -> Result<Option<usize>, AllocError>
-    ensures { IfOk result (IsFoundAt (prefix_len is_box_name (texts names.now)) (length names.now)) }
+// The first that no mailbox can have whose file has that suffix.
+fn first_bad(alloc: Global, suffix: &str, names: &[&[u8]]) -> Result<Option<usize>, AllocError>
+    ensures { IfOk result (IsFoundAt (prefix_len (is_usable_name suffix.now) (texts names.now)) (length names.now)) }
 {
     for (place, name) in names.iter().enumerate() {
-        if !is_good(alloc, name)? {
+        if !is_good(alloc, suffix, name)? {
             return Ok(Some(place));
         }
     }
     Ok(None)
 }
 
-fn is_good(alloc: Global, name: &[u8]) -> Result<bool, AllocError>
-    ensures { IfOk result (λ good. good ≡ is_box_name name.now) }
+fn is_good(alloc: Global, suffix: &str, name: &[u8]) -> Result<bool, AllocError>
+    ensures { IfOk result (λ good. good ≡ is_usable_name suffix.now name.now) }
 {
-    match try_box(alloc, b"h", &[], name) {
+    match try_box(alloc, b"h", &[], suffix, name) {
         Ok(()) => Ok(true),
         Err(Fault::Box) => Ok(false),
         Err(_) => Err(AllocError),
@@ -129,7 +133,7 @@ fn told_name(
     fault: Fault,
     number: usize,
 ) -> Result<String, AllocError>
-    requires place { number ≡ wrong_place fault (texts words.now.boxes.items) }
+    requires place { number ≡ place_in words.now fault }
     requires within { number < length words.now.boxes.items }
     ensures { IfOk result (λ line. IsNameLine words.now fault (string_bytes line)) }
 {

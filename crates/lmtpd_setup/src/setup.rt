@@ -3,7 +3,7 @@
 ghost use Rattle.std.specs.Prelude.{◌≡◌, length, None, IfOk, IfErr};
 ghost use Rattle.std.specs.Arc.{arc_value};
 ghost use Rattle.lmtpd_words.specs.Words.{named_site};
-ghost use Rattle.lmtpd_setup.specs.Faults.{first_fault};
+ghost use Rattle.lmtpd_setup.specs.Faults.{site_fault};
 ghost use Rattle.lmtpd_setup.specs.Setup.{IsNotSetUp, access_asked, ends_asked};
 
 use crate::ends::{Ends, ServerCurfew};
@@ -54,7 +54,7 @@ where
     H::File: RangeLock,
     H: Clock + Files + Eprint + Copy + Drop,
     ensures site { IfOk result (λ setup. arc_value setup.site ≡ named_site words.now.site) }
-    ensures sound { IfOk result (λ setup. first_fault (named_site words.now.site) ≡ None) }
+    ensures sound { IfOk result (λ setup. site_fault words.now.site ≡ None) }
     ensures count { IfOk result (λ setup. length setup.spools.items ≡ length words.now.site.boxes.items) }
     ensures refused { IfErr result (IsNotSetUp words.now) }
 {
@@ -81,6 +81,7 @@ fn access_asked<'a>(words: &ServeWords<'a>) -> Access<'a>
 {
     Access {
         folder: words.dir,
+        suffix: words.site.mailbox_suffix,
         wait: words.lock_wait,
         mode: words.mailbox_mode,
         anyway: words.start_anyway,

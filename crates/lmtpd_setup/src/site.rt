@@ -1,12 +1,12 @@
 //! The site that the program's words name.
 
-ghost use Rattle.std.specs.Prelude.{◌≡◌, ◌⊎◌, true, Some, None, IfOk, MatchResult};
+ghost use Rattle.std.specs.Prelude.{◌≡◌, ◌⊎◌, ◌++◌, true, Some, None, IfOk, MatchResult};
 ghost use Rattle.std.specs.Arc.{arc_value};
-ghost use Rattle.mail_world.specs.Site.{IsSite, is_box_name};
+ghost use Rattle.mail_world.specs.Site.{IsSite};
 ghost use Rattle.std.specs.List.{list_all};
 ghost use Rattle.lmtp_text.specs.Sites.{site_of, texts};
 ghost use Rattle.lmtpd_words.specs.Words.{named_site};
-ghost use Rattle.lmtpd_setup.specs.Faults.{first_fault, site_of_one};
+ghost use Rattle.lmtpd_setup.specs.Faults.{first_fault, is_lock_name, is_usable_name, site_fault, site_of_one};
 ghost use Rattle.lmtpd_setup.specs.Names.{IsNoSite};
 
 use crate::fault::Fault;
@@ -22,11 +22,12 @@ use std::sync::Arc;
 pub fn site_of(alloc: Global, words: &SiteWords) -> Result<Site, Fault>
     ensures made { IfOk result (λ site. site ≡ named_site words.now) }
     ensures sound { IfOk result IsSite }
-    ensures order { MatchResult result (λ _. first_fault (named_site words.now) ≡ None)
-        (λ fault. (fault ≡ Fault.Memory) ⊎ (first_fault (named_site words.now) ≡ Some fault)) }
+    ensures order { MatchResult result (λ _. site_fault words.now ≡ None)
+        (λ fault. (fault ≡ Fault.Memory) ⊎ (site_fault words.now ≡ Some fault)) }
 {
     let domains = bytes_of(alloc, &words.domains)?;
-    let site = make_site(alloc, words.host.as_bytes(), &domains, &words.boxes)?;
+    let host = words.host.as_bytes();
+    let site = make_site(alloc, host, &domains, words.mailbox_suffix, &words.boxes)?;
     let site = site.with_message_limit(words.message_limit);
     match words.recipient_delimiter {
         Some(delimiter) => Ok(site.with_recipient_delimiter(delimiter)),
@@ -37,7 +38,7 @@ pub fn site_of(alloc: Global, words: &SiteWords) -> Result<Site, Fault>
 /// The site of a server's words, to be shared by threads, or what ends the server.
 pub fn served_site<'a>(alloc: Global, words: &ServeWords<'_>) -> Result<Arc<Site>, Stop<'a>>
     ensures { MatchResult result
-        (λ site. (arc_value site ≡ named_site words.now.site) × (first_fault (named_site words.now.site) ≡ None))
+        (λ site. (arc_value site ≡ named_site words.now.site) × (site_fault words.now.site ≡ None))
         (IsNoSite words.now) }
 {
     match shared_site(alloc, &words.site) {
@@ -48,8 +49,8 @@ pub fn served_site<'a>(alloc: Global, words: &ServeWords<'_>) -> Result<Arc<Site
 
 fn shared_site(alloc: Global, words: &SiteWords) -> Result<Arc<Site>, Fault>
     ensures { MatchResult result
-        (λ site. (arc_value site ≡ named_site words.now) × (first_fault (named_site words.now) ≡ None))
-        (λ fault. (fault ≡ Fault.Memory) ⊎ (first_fault (named_site words.now) ≡ Some fault)) }
+        (λ site. (arc_value site ≡ named_site words.now) × (site_fault words.now ≡ None))
+        (λ fault. (fault ≡ Fault.Memory) ⊎ (site_fault words.now ≡ Some fault)) }
 {
     let site = Arc::new(alloc, site_of(alloc, words)?)?;
     Ok(site)
@@ -66,37 +67,68 @@ fn bytes_of<'a>(alloc: Global, names: &[&'a str]) -> Result<Vec<&'a [u8]>, Alloc
 }
 
 #[tactic(auto, using(crate::proofs::Orders::none_refused))]
-fn make_site(alloc: Global, host: &[u8], domains: &[&[u8]], boxes: &[&[u8]]) -> Result<Site, Fault>
+fn make_site(
+    alloc: Global,
+    host: &[u8],
+    domains: &[&[u8]],
+    suffix: &str,
+    boxes: &[&[u8]],
+) -> Result<Site, Fault>
     ensures made { IfOk result (λ site. site ≡ site_of host.now domains.now boxes.now) }
     ensures sound { IfOk result IsSite }
     ensures order { let site = site_of host.now domains.now boxes.now in
-        MatchResult result (λ _. first_fault site ≡ None)
-        (λ fault. (fault ≡ Fault.Memory) ⊎ (first_fault site ≡ Some fault)) }
+        MatchResult result (λ _. first_fault suffix.now site ≡ None)
+        (λ fault. (fault ≡ Fault.Memory) ⊎ (first_fault suffix.now site ≡ Some fault)) }
 {
     if boxes.is_empty() {
         return Err(Fault::NoBox);
     }
-    try_each_box(alloc, host, domains, boxes)?;
+    try_each_box(alloc, host, domains, suffix, boxes)?;
     let site = Site::new(alloc, host, domains, boxes)?;
     Ok(site)
 }
 
-fn try_each_box(alloc: Global, host: &[u8], domains: &[&[u8]], boxes: &[&[u8]]) -> Result<(), Fault>
-    ensures { MatchResult result (λ _. list_all is_box_name (texts boxes.now) ≡ true)
-        (λ fault. (fault ≡ Fault.Memory) ⊎ (first_fault (site_of host.now domains.now boxes.now) ≡ Some fault)) }
+fn try_each_box(
+    alloc: Global,
+    host: &[u8],
+    domains: &[&[u8]],
+    suffix: &str,
+    boxes: &[&[u8]],
+) -> Result<(), Fault>
+    ensures { MatchResult result (λ _. list_all (is_usable_name suffix.now) (texts boxes.now) ≡ true)
+        (λ fault. (fault ≡ Fault.Memory) ⊎ (first_fault suffix.now (site_of host.now domains.now boxes.now) ≡ Some fault)) }
 {
     for name in boxes {
-        try_box(alloc, host, domains, name)?;
+        try_box(alloc, host, domains, suffix, name)?;
     }
     Ok(())
 }
 
-/// Whether the name is one that a mailbox can have, beside that host and these domains.
-pub fn try_box(alloc: Global, host: &[u8], domains: &[&[u8]], name: &[u8]) -> Result<(), Fault>
+/// Whether the name is one that a mailbox can have whose file has that suffix, beside that host and these domains.
+pub fn try_box(
+    alloc: Global,
+    host: &[u8],
+    domains: &[&[u8]],
+    suffix: &str,
+    name: &[u8],
+) -> Result<(), Fault>
     ensures { let site = site_of_one host.now domains.now name.now in
-        MatchResult result (λ _. first_fault site ≡ None)
-        (λ fault. (fault ≡ Fault.Memory) ⊎ (first_fault site ≡ Some fault)) }
+        MatchResult result (λ _. first_fault suffix.now site ≡ None)
+        (λ fault. (fault ≡ Fault.Memory) ⊎ (first_fault suffix.now site ≡ Some fault)) }
 {
     let _site = Site::new(alloc, host, domains, &[name])?;
+    if is_lock_name(alloc, name, suffix)? {
+        return Err(Fault::Box);
+    }
     Ok(())
+}
+
+// Whether the file of that name and suffix is called as a lock file is.
+fn is_lock_name(alloc: Global, name: &[u8], suffix: &str) -> Result<bool, AllocError>
+    ensures { IfOk result (λ is. is ≡ is_lock_name (name.now ++ suffix.now)) }
+{
+    let mut file = Vec::new(alloc);
+    file.extend_from_slice(name)?;
+    file.extend_from_slice(suffix.as_bytes())?;
+    Ok(file.ends_with(b".lock"))
 }

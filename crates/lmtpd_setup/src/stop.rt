@@ -33,10 +33,10 @@ pub enum Stop<'a> {
     Fault(Fault),
     /// A mailbox's name that can't be used, and the line of the log that says which.
     Name(Fault, String),
-    /// The mailbox of this name.
-    Unopened(&'a [u8]),
-    /// The mailbox of this name, of a folder that isn't there or can't be read.
-    NoFolder(&'a [u8]),
+    /// The mailbox of this name, whose file has that suffix.
+    Unopened(&'a [u8], &'a str),
+    /// The mailbox of this name, whose file has that suffix, of a folder that isn't there or can't be read.
+    NoFolder(&'a [u8], &'a str),
     /// The file at this path.
     Unread(&'a str),
 }
@@ -90,7 +90,9 @@ impl Stop<'_> {
             Stop::Words(refused) => print_refused(rt, is_journal, refused),
             Stop::Fault(fault) => report_fault(Some(*fault), is_journal, error),
             Stop::Name(fault, line) => report_name(*fault, line, is_journal, error),
-            Stop::Unopened(name) | Stop::NoFolder(name) => report_unopened(name, is_journal, error),
+            Stop::Unopened(name, suffix) | Stop::NoFolder(name, suffix) => {
+                report_unopened(name, suffix, is_journal, error)
+            }
             Stop::Unread(path) => report_unread(path, is_journal, error),
         }
     }
@@ -190,27 +192,34 @@ pub fn write_fault<E: Write>(
     }
 }
 
-fn report_unopened<E: Write>(name: &[u8], is_journal: bool, error: &mut E) -> Exit
+fn report_unopened<E: Write>(name: &[u8], suffix: &str, is_journal: bool, error: &mut E) -> Exit
     ensures status { result.status ≡ 1 }
-    ensures line { IsListed (unopened_line is_journal name.now) (E.contents error.old) (E.contents error.new) result.cut }
+    ensures line { IsListed (unopened_line is_journal name.now suffix.now) (E.contents error.old) (E.contents error.new)
+        result.cut }
 {
     Exit {
         status: 1,
-        cut: write_unopened(mark(is_journal), name, error).is_err(),
+        cut: write_unopened(mark(is_journal), name, suffix, error).is_err(),
     }
 }
 
-fn write_unopened<E: Write>(mark: &str, name: &[u8], error: &mut E) -> Result<(), WriteFault>
+fn write_unopened<E: Write>(
+    mark: &str,
+    name: &[u8],
+    suffix: &str,
+    error: &mut E,
+) -> Result<(), WriteFault>
     ensures ok { OnOk result (Appends (E.contents error.old) (E.contents error.new)
-        (mark.now ++ (codes "lmtpd: cannot open " ++ name.now ++ (codes ".mbox" ++ (lf ∷ []))))) }
+        (mark.now ++ (codes "lmtpd: cannot open " ++ name.now ++ (suffix.now ++ (lf ∷ []))))) }
     ensures err { OnErr result (IsCutOff (E.contents error.old) (E.contents error.new)
-        (mark.now ++ (codes "lmtpd: cannot open " ++ name.now ++ (codes ".mbox" ++ (lf ∷ []))))) }
+        (mark.now ++ (codes "lmtpd: cannot open " ++ name.now ++ (suffix.now ++ (lf ∷ []))))) }
 {
-    let pieces: [&[u8]; 4] = [
+    let pieces: [&[u8]; 5] = [
         mark.as_bytes(),
         b"lmtpd: cannot open ",
         &name[..],
-        b".mbox\n",
+        suffix.as_bytes(),
+        b"\n",
     ];
     write_each(error, &pieces)
 }

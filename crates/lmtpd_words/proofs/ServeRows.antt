@@ -85,3 +85,21 @@ boxes_file_given = refl
 pub stop_file_left_out : of_rows (first_of (codes "stop-file")) (served (codes "anna" ∷ [])) ≡ Some None
 unfolding clap_on_literals
 stop_file_left_out = refl
+
+-- a suffix, an empty one, and none; a rehearsal has no argument for it
+pub mailbox_suffix_given : of_rows (first_of (codes "mailbox-suffix")) (served (codes "--mailbox-suffix" ∷ codes ".mail" ∷ codes "anna" ∷ [])) ≡ Some (Some (codes ".mail"))
+unfolding clap_on_literals
+mailbox_suffix_given = refl
+
+pub mailbox_suffix_joined : of_rows (first_of (codes "mailbox-suffix")) (served (codes "--mailbox-suffix=" ∷ codes "anna" ∷ [])) ≡ Some (Some [])
+unfolding clap_on_literals
+mailbox_suffix_joined = refl
+
+pub mailbox_suffix_left_out : of_rows (first_of (codes "mailbox-suffix")) (served (codes "anna" ∷ [])) ≡ Some None
+unfolding clap_on_literals
+mailbox_suffix_left_out = refl
+
+pub mailbox_suffix_of_a_rehearsal : of_rows (first_of (codes "mailbox-suffix"))
+    (codes "lmtpd" ∷ codes "rehearse" ∷ codes "--host" ∷ codes "h" ∷ codes "--time" ∷ codes "0" ∷ codes "anna" ∷ []) ≡ Some None
+unfolding clap_on_literals
+mailbox_suffix_of_a_rehearsal = refl

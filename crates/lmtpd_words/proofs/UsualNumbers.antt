@@ -5,7 +5,8 @@ use Rattle.mail_world.specs.declared.limits.TheConstants.{LEAST_MESSAGE_LIMIT, L
 use Rattle.log.specs.declared.level.LevelFilter.TheVariants as filter
 use Rattle.lmtpd_words.specs.Words.{octal, usual_blocks}
 use Rattle.lmtpd_words.specs.declared.words.TheConstants.{BOXES_FILE_LIMIT, DEFAULT_BLOCKS, DEFAULT_CAPACITY, DEFAULT_LANES, DEFAULT_LOCK_WAIT, DEFAULT_LOG}
-use Rattle.lmtpd_words.specs.declared.words.TheConstants.{DEFAULT_MAILBOX_MODE, DEFAULT_READS, DEFAULT_SESSION_TIME, DEFAULT_SOCKET_MODE, DEFAULT_TIMEOUT}
+use Rattle.lmtpd_words.specs.declared.words.TheConstants.{DEFAULT_MAILBOX_MODE, DEFAULT_READS, DEFAULT_SESSION_TIME, DEFAULT_SOCKET_MODE, DEFAULT_SUFFIX, DEFAULT_TIMEOUT}
+use Rattle.lmtpd_words.specs.declared.words.TheConstants.{SUFFIX_LIMIT}
 
 pub lanes : DEFAULT_LANES ≡ 4
 lanes = refl
@@ -36,6 +37,12 @@ mailbox_mode = refl
 
 pub socket_mode : DEFAULT_SOCKET_MODE ≡ octal (codes "0660")
 socket_mode = refl
+
+pub mailbox_suffix : DEFAULT_SUFFIX.now ≡ codes ".mbox"
+mailbox_suffix = refl
+
+pub most_of_a_suffix : SUFFIX_LIMIT ≡ 32
+most_of_a_suffix = refl
 
 pub most_lanes : LANE_LIMIT ≡ 64
 most_lanes = refl

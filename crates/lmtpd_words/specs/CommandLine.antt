@@ -112,6 +112,9 @@ quota_rule = bytes_rule (codes "quota")
 abbrev pub lock_wait_rule : Rule
 lock_wait_rule = number_rule (codes "lock-wait") 0 LOCK_WAIT_LIMIT
 
+abbrev pub mailbox_suffix_rule : Rule
+mailbox_suffix_rule = text_rule (codes "mailbox-suffix")
+
 abbrev pub mailbox_mode_rule : Rule
 mailbox_mode_rule = text_rule (codes "mailbox-mode")
 
@@ -151,8 +154,9 @@ limited_app =
 
 abbrev pub kept_app : App
 kept_app =
-    with_rule (with_rule (with_rule (with_rule (with_rule (with_rule
-    limited_app log_rule) log_addresses_rule) quota_rule) lock_wait_rule) mailbox_mode_rule) socket_mode_rule
+    with_rule (with_rule (with_rule (with_rule (with_rule (with_rule (with_rule
+    limited_app log_rule) log_addresses_rule) quota_rule) lock_wait_rule) mailbox_suffix_rule) mailbox_mode_rule)
+    socket_mode_rule
 
 abbrev pub serve_app : App
 serve_app =

@@ -1,22 +1,25 @@
 -- What the program's words ask for.
 use Rattle.std.specs.Prelude.{◌≡◌, ◌∷◌, ◌++◌, ◌⊎◌, ◌↔◌, IsTrue, ◌<◌, ◌≤◌, ◌^◌, ◌==◌, ◌+◌, ◌-◌, ◌*◌, ◌/◌, min, max, ℕ}
-use Rattle.std.specs.Prelude.{Bool, true, false, List, [], Option, Some, None, option_map, map, codes, length, String}
+use Rattle.std.specs.Prelude.{Bool, true, false, nat_le, ◌&&◌, ◌||◌, List, [], Option, Some, None, option_map, map, codes, length, String}
 use Rattle.std.specs.Prelude.{string_bytes}
 use Rattle.std.specs.declared.alloc.Global.{Global}
 use Rattle.std.specs.Option.{option_map_or}
-use Rattle.std.specs.List.{slice_split}
+use Rattle.std.specs.List.{list_all, slice_split}
+use Rattle.std.specs.Char.{is_ascii_alphanumeric}
 use Rattle.std.specs.Str.Parse.{IsNumeral, digits_value, without_leading_plus}
 use Rattle.clap.specs.Words.{Row, Text, all_of, first_of, one_of}
 use Rattle.log.specs.Level.{parse_filter}
 use Rattle.log.specs.declared.level.LevelFilter.{LevelFilter}
 use Rattle.log.specs.declared.level.LevelFilter.TheVariants as filter
 use Rattle.mail_world.specs.Site.{Site, IsMessageLimit, is_delimiter}
+use Rattle.mail_world.specs.Text.{has_byte}
 use Rattle.lmtp_text.specs.Sites.{site_of, texts}
 use Rattle.lmtpd_words.specs.Boxes.{listed_boxes}
 use Rattle.lmtpd_words.specs.declared.words.TheConstants.{DEFAULT_BLOCKS, DEFAULT_CAPACITY, DEFAULT_LANES}
 use Rattle.lmtpd_words.specs.declared.words.TheConstants.{DEFAULT_LOCK_WAIT, DEFAULT_LOG, DEFAULT_MAILBOX_MODE}
 use Rattle.lmtpd_words.specs.declared.words.TheConstants.{DEFAULT_READS, DEFAULT_SESSION_TIME, DEFAULT_SOCKET_MODE}
-use Rattle.lmtpd_words.specs.declared.words.TheConstants.{DEFAULT_TIMEOUT, MODE_DIGIT_LIMIT}
+use Rattle.lmtpd_words.specs.declared.words.TheConstants.{DEFAULT_SUFFIX, DEFAULT_TIMEOUT, MODE_DIGIT_LIMIT}
+use Rattle.lmtpd_words.specs.declared.words.TheConstants.{SUFFIX_LIMIT}
 use Rattle.mail_world.specs.declared.limits.TheConstants.{MODE_LIMIT, MESSAGE_LIMIT, BLOCK_SIZE, BLOCK_LIMIT}
 use Rattle.lmtpd_words.specs.declared.words.SiteWords.{SiteWords}
 use Rattle.lmtpd_words.specs.declared.words.RehearseWords.{RehearseWords}
@@ -116,6 +119,22 @@ IsModeOr usual (Some text) mode = WritesMode text × (mode ≡ octal text)
 abbrev pub IsNoMode : Option Text → Type 0
 IsNoMode given = (text : Text) × (given ≡ Some text) × (WritesMode text → ⊥)
 
+abbrev pub is_of_suffix : ℕ → Bool
+is_of_suffix b = is_ascii_alphanumeric b || has_byte (codes "._-") b
+
+-- what the files of mailboxes may have after a name
+abbrev pub is_suffix : Text → Bool
+is_suffix text = nat_le (length text) SUFFIX_LIMIT && list_all is_of_suffix text
+
+-- the suffix that a text is, and else the usual one
+abbrev pub IsSuffixOr : Option Text → Text → Type 0
+IsSuffixOr None suffix = suffix ≡ DEFAULT_SUFFIX.now
+IsSuffixOr (Some text) suffix = (is_suffix text ≡ true) × (suffix ≡ text)
+
+-- a text is given that is none
+abbrev pub IsNoSuffix : Option Text → Type 0
+IsNoSuffix given = (text : Text) × (given ≡ Some text) × (is_suffix text ≡ false)
+
 -- the path that a text is: an empty text is none
 abbrev pub NamesPath : Option Text → Text → Type 0
 NamesPath given path = (given ≡ Some path) × (0 < length path)
@@ -148,6 +167,8 @@ pub record IsSiteRead (rows : List Row) (words : SiteWords) : Type 0 where
   pub recipient_delimiter : IsDelimiterIfGiven (first_of (codes "recipient-delimiter") rows) words.recipient_delimiter
   pub rename_marks : IsFlag (one_of (codes "rename-marks") rows) words.rename_marks
   pub smtputf8 : IsFlag (one_of (codes "smtputf8") rows) words.smtputf8
+  -- a rehearsal has no such argument, and so the usual one
+  pub mailbox_suffix : IsSuffixOr (first_of (codes "mailbox-suffix") rows) words.mailbox_suffix.now
 
 -- what the values of a rehearsal's arguments ask for
 pub record IsRehearseRead (rows : List Row) (words : RehearseWords) : Type 0 where
@@ -200,7 +221,8 @@ LacksNumber name rows = (text : Text) → one_of name rows ≡ Some text → IsN
 abbrev pub LacksSite : List Row → Type 0
 LacksSite rows = LacksText (codes "host") rows
     ⊎ (IsNoMessageLimit (one_of (codes "message-limit") rows)
-    ⊎ IsNoDelimiter (first_of (codes "recipient-delimiter") rows))
+    ⊎ (IsNoDelimiter (first_of (codes "recipient-delimiter") rows)
+    ⊎ IsNoSuffix (first_of (codes "mailbox-suffix") rows)))
 
 abbrev pub LacksRehearse : List Row → Type 0
 LacksRehearse rows = LacksNumber (codes "time") rows ⊎ LacksSite rows
@@ -248,6 +270,7 @@ pub record HasListed (text : Text) (words filled : SiteWords) : Type 0 where
   pub recipient_delimiter : filled.recipient_delimiter ≡ words.recipient_delimiter
   pub rename_marks : filled.rename_marks ≡ words.rename_marks
   pub smtputf8 : filled.smtputf8 ≡ words.smtputf8
+  pub mailbox_suffix : filled.mailbox_suffix ≡ words.mailbox_suffix
 
 -- the site that they name
 abbrev pub named_site : SiteWords → Site

@@ -76,7 +76,7 @@ pub const REHEARSE: [Argument; 11] = [
 ];
 
 /// What a server takes: what must be given, what may be, what ends it, and the mailboxes.
-pub const SERVE: [Argument; 27] = [
+pub const SERVE: [Argument; 28] = [
     HOST,
     LISTEN,
     DIR,
@@ -95,6 +95,7 @@ pub const SERVE: [Argument; 27] = [
     LOG_ADDRESSES,
     QUOTA,
     LOCK_WAIT,
+    MAILBOX_SUFFIX,
     MAILBOX_MODE,
     SOCKET_MODE,
     CONNECTIONS,
@@ -133,7 +134,7 @@ const LISTEN: Argument = Argument {
 const DIR: Argument = Argument {
     name: "dir",
     value: "FOLDER",
-    help: "The folder of the mailboxes, which must be there; each is a file BOX.mbox in it",
+    help: "The folder of the mailboxes, which must be there; each is a file of its own in it",
     is_required: true,
     kind: ValueKind::Text,
 };
@@ -291,6 +292,14 @@ const LOCK_WAIT: Argument = Argument {
         least: 0,
         most: LOCK_WAIT_LIMIT,
     },
+};
+
+const MAILBOX_SUFFIX: Argument = Argument {
+    name: "mailbox-suffix",
+    value: "SUFFIX",
+    help: "What a mailbox's file has after its name: at most 32 letters, digits, ., _ and -, or none [default: .mbox]",
+    is_required: false,
+    kind: ValueKind::Text,
 };
 
 const MAILBOX_MODE: Argument = Argument {

@@ -14,6 +14,7 @@ mod escaped;
 mod journal;
 mod lines;
 mod reading;
+mod suffix;
 mod texts;
 mod urgent;
 mod values;
@@ -29,6 +30,6 @@ pub use urgent::Urgent;
 pub use words::{
     BOXES_FILE_LIMIT, CheckWords, CopyWords, DEFAULT_BLOCKS, DEFAULT_CAPACITY, DEFAULT_LANES,
     DEFAULT_LOCK_WAIT, DEFAULT_LOG, DEFAULT_MAILBOX_MODE, DEFAULT_READS, DEFAULT_SESSION_TIME,
-    DEFAULT_SOCKET_MODE, DEFAULT_TIMEOUT, MODE_DIGIT_LIMIT, RehearseWords, ServeWords, SiteWords,
-    Words,
+    DEFAULT_SOCKET_MODE, DEFAULT_SUFFIX, DEFAULT_TIMEOUT, MODE_DIGIT_LIMIT, RehearseWords,
+    SUFFIX_LIMIT, ServeWords, SiteWords, Words,
 };

@@ -19,6 +19,10 @@ pub const BAD_MAILBOX_MODE: &str =
 pub const BAD_SOCKET_MODE: &str =
     "invalid value for '--socket-mode <MODE>': it is 1 to 4 octal digits, 0777 at most";
 
+/// The error for a bad suffix of the mailboxes' files.
+pub const BAD_SUFFIX: &str =
+    "invalid value for '--mailbox-suffix <SUFFIX>': it is at most 32 letters, digits, ., _ and -";
+
 /// The error for a bad path of a stop file.
 pub const BAD_STOP_FILE: &str =
     "invalid value for '--stop-file <PATH>': it is the path of a file, and not empty";

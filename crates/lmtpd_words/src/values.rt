@@ -12,8 +12,10 @@ ghost use Rattle.lmtpd_words.specs.Words.{IsMessageLimitOr, IsNoMessageLimit, us
 ghost use Rattle.lmtpd_words.specs.Words.{IsLacking, LacksCheck, LacksCopied, LacksCopy, LacksNumber, LacksRehearse, LacksServe, LacksSite};
 ghost use Rattle.lmtpd_words.specs.Words.{is_log_level, number, listed};
 
+use crate::suffix::suffix_of;
 use crate::texts::{
     BAD_DELIMITER, BAD_FOLDER, BAD_LEVEL, BAD_MAILBOX_MODE, BAD_SOCKET_MODE, BAD_STOP_FILE,
+    BAD_SUFFIX,
 };
 use crate::words::{
     CheckWords, CopyWords, DEFAULT_BLOCKS, DEFAULT_CAPACITY, DEFAULT_LANES, DEFAULT_LOCK_WAIT,
@@ -71,7 +73,7 @@ fn copied_words_of<'a>(matches: &ArgMatches<'a>) -> Option<Words<'a>>
 }
 
 /// What is said where a value is refused that `clap` leaves to us: the folder comes first, then the stop file, then the
-/// level, then the two modes, and last the delimiter, which a rehearsal has too.
+/// level, then the two modes, then the suffix, and last the delimiter, which a rehearsal has too.
 pub fn refused_text(matches: &ArgMatches<'_>) -> &'static str {
     match matches.subcommand_matches("serve") {
         Some(serve) if folder_of(serve).is_none() => BAD_FOLDER,
@@ -79,6 +81,7 @@ pub fn refused_text(matches: &ArgMatches<'_>) -> &'static str {
         Some(serve) if log_of(serve).is_none() => BAD_LEVEL,
         Some(serve) if mailbox_mode_of(serve).is_none() => BAD_MAILBOX_MODE,
         Some(serve) if socket_mode_of(serve).is_none() => BAD_SOCKET_MODE,
+        Some(serve) if suffix_of(serve).is_none() => BAD_SUFFIX,
         _ => BAD_DELIMITER,
     }
 }
@@ -196,6 +199,9 @@ fn site_words<'a>(
     let Some(recipient_delimiter) = delimiter_of(matches) else {
         return Ok(None);
     };
+    let Some(mailbox_suffix) = suffix_of(matches) else {
+        return Ok(None);
+    };
     let domains = domains_of(alloc, matches)?;
     let boxes = boxes_of(alloc, matches)?;
     Ok(Some(SiteWords {
@@ -208,6 +214,7 @@ fn site_words<'a>(
         recipient_delimiter,
         rename_marks: is_given(matches, "rename-marks"),
         smtputf8: is_given(matches, "smtputf8"),
+        mailbox_suffix,
     }))
 }
 

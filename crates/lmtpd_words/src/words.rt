@@ -36,6 +36,12 @@ pub const DEFAULT_MAILBOX_MODE: u32 = 0o600;
 /// The permission bits of a Unix socket that is made: its owner and its group connect, and nobody else.
 pub const DEFAULT_SOCKET_MODE: u32 = 0o660;
 
+/// What a mailbox's file has after its name.
+pub const DEFAULT_SUFFIX: &str = ".mbox";
+
+/// The bytes that a mailbox's file may have after its name.
+pub const SUFFIX_LIMIT: usize = 32;
+
 /// The octal digits that write permission bits.
 pub const MODE_DIGIT_LIMIT: usize = 4;
 
@@ -63,6 +69,8 @@ pub struct SiteWords<'a> {
     pub rename_marks: bool,
     /// Addresses may be in UTF-8 (RFC 6531).
     pub smtputf8: bool,
+    /// What a mailbox's file has after its name; a rehearsal has no files, and the usual suffix.
+    pub mailbox_suffix: &'a str,
 }
 
 /// What a rehearsal is asked to do.

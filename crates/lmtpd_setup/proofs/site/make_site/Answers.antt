@@ -8,6 +8,6 @@ pub returns-in_err-site-clause-order : goal.returns-in_err-site-clause-order
 returns-in_err-site-clause-order c =
     let p = err_from_is_err_and c.from_residual-in_err-site.result c.from_residual-in_err-site.ensures.1 in
     let site = site_of c.args.host.now c.args.domains.now c.args.boxes.now in
-    rw (p.1, p.2) (site_refused site c.in_err-site.field-0.0
+    rw (p.1, p.2) (site_refused c.args.suffix.now site c.in_err-site.field-0.0
     (none_of_none c.args.host.now c.args.domains.now c.args.boxes.now false (sym c.if-is_empty.false ∙ c.is_empty.ensures))
     (inl c.in_ok-try_each_box.ensures) c.in_err-site.ensures.broken c.in_err-site.ensures.whole)

@@ -18,4 +18,5 @@ returns c =
       recipient_delimiter = c.in-Some-delimiter_of.ensures;
       rename_marks = c.is_given.ensures;
       smtputf8 = c.is_given-2.ensures;
+      mailbox_suffix = c.in-Some-suffix_of.ensures;
     }
