@@ -58,9 +58,9 @@ pub record IsReady {L E : Type 0} (count : ℕ) (each : Bounds) (v : TcpVisits L
 -- One of the lanes that share a listener: its clients are those of that listener, within these bounds and until that
 -- curfew, and of it nothing has failed or was stopped yet.
 pub record IsLaneOf {L E : Type 0} (listener : L) (each : Bounds) (curfew : E) (v : TcpVisits L E) : Type 0 where
-  pub listener : arc_value v.listener ≡ listener
+  pub listens : arc_value v.listener ≡ listener
   pub bounds : bounds_each v ≡ each
-  pub curfew : arc_value v.curfew ≡ curfew
+  pub until : arc_value v.curfew ≡ curfew
   pub not_failed : has_failed v ≡ false
   pub not_stopped : was_stopped v ≡ false
 
