@@ -5,5 +5,5 @@ use Rattle.lmtpd_log.proofs.lane_log.lane_logs.Given as goal
 abbrev pub invariant-loop-lane : goal.invariant-loop-lane
 invariant-loop-lane g l = record {
   count : length (vec_items l.made) ≡ l.lane;
-  addresses : AllByRecursion (λ log. g.M.LaneLogs.Log.LaneLog.addresses log ≡ g.M.LaneLogs.addresses l.logs) (vec_items l.made);
+  addresses : AllByRecursion (λ log. g.M.Log.LaneLog.addresses log ≡ g.M.LaneLogs.addresses l.logs) (vec_items l.made);
 }
