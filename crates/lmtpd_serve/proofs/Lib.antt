@@ -1,3 +1,3 @@
 mod TroubleLines
 mod Unmapped
-pub mod Saying
+pub mod Said

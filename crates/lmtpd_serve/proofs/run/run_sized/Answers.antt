@@ -1,5 +1,5 @@
 use Rattle.std.proofs.Common.{rules}
-use Rattle.lmtpd_serve.proofs.Saying.{said_on}
+use Rattle.lmtpd_serve.proofs.Said.{said_on}
 use Rattle.lmtpd_serve.proofs.run.run_sized.Goals as goal
 
 pub returns-clause-ran : goal.returns-clause-ran
