@@ -1,6 +1,6 @@
 //! What a server says on standard output, before its first client and after its last.
 
-ghost use Rattle.std.specs.Prelude.{length, IfOk, OnOk, OnErr};
+ghost use Rattle.std.specs.Prelude.{◌≡◌, length, IfOk, OnOk, OnErr};
 ghost use Rattle.std.specs.Io.KnownBytes.{Appends};
 ghost use Rattle.lmtpd_words.specs.Output.{IsCutOff, IsListed};
 ghost use Rattle.lmtpd_serve.specs.Served.{IsAnnounced, ListsOn, counts_text};

@@ -1,4 +1,7 @@
-use Rattle.std.proofs.Common.{rules}
+use Rattle.std.proofs.Common.{rules, subst}
+use Rattle.std.specs.Arc.{arc_value}
+use Rattle.mail_world.specs.Site.{Site}
+use Rattle.lmtpd_serve.specs.Served.{ListsOn, counts_text}
 use Rattle.lmtpd_serve.proofs.Said.{said_on}
 use Rattle.lmtpd_serve.proofs.run.run_sized.Goals as goal
 
@@ -19,5 +22,14 @@ returns-clause-ran g c = record {
   stopped = c.served_by.ensures.stopped;
   announcement = c.in_ok-gates.ensures.announced.text;
   announces = c.in_ok-gates.ensures.announced.announces;
-  said = ?;
+  said =
+      let before = g.W.Write.contents c.args.writer.now in
+      let between = g.W.Write.contents c.prepare.new.writer in
+      let after = g.W.Write.contents c.served_by.new.writer in
+      let tallies = c.in-Ok.report.tallies in
+      let announced = c.in_ok-gates.announced in
+      let cut = c.served_by.result.ending.cut in
+      said_on announced.is_unknown announced.is_cut cut before between after (counts_text (arc_value c.args.house.site).boxes tallies)
+      c.in_ok-gates.ensures.announced
+      (subst (λ (s : Site). ListsOn announced.is_cut (counts_text s.boxes tallies) between after cut) c.in_ok-served_site.ensures c.served_by.ensures.said);
 }

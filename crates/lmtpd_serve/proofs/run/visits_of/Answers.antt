@@ -1,4 +1,5 @@
-use Rattle.std.proofs.Common.{◌≡◌, ◌∙◌, ap, false, map, rules, subst, sym}
+use Rattle.std.proofs.Common.{◌≡◌, ◌∙◌, ap, false, length, map, subst, sym}
+use Rattle.std.proofs.lemmas.List.{length-map}
 use Rattle.std.specs.List.{AllByRecursion}
 use Rattle.std.specs.Arc.{arc_value}
 use Rattle.lmtp_lane.specs.TcpVisits.{IsLaneOf, connections_left, conversations_ended, is_out}
@@ -14,7 +15,7 @@ returns-clause-lanes g c =
       over = c.new-listener.ensures.over;
       each = all_unmapped P visits_in c.in_ok-logged.logged.items
           (subst (AllByRecursion P) (sym c.in_ok-logged.ensures.visits) c.in_ok-visits.ensures.each);
-      count = search rules;
+      count = sym (length-map c.in_ok-logged.logged.items visits_in) ∙ ap length c.in_ok-logged.ensures.visits ∙ c.in_ok-visits.ensures.count;
       share = unmapped connections_left visits_in c.in_ok-logged.logged.items ∙ ap (map connections_left) c.in_ok-logged.ensures.visits
           ∙ c.in_ok-visits.ensures.shares;
     }
