@@ -27,7 +27,7 @@ returns-clause-ran g c = record {
       let between = g.W.Write.contents c.prepare.new.writer in
       let after = g.W.Write.contents c.served_by.new.writer in
       let tallies = c.in-Ok.report.tallies in
-      let announced = c.in_ok-gates.announced in
+      let announced = c.in_ok-gates.field-0.announced in
       let cut = c.served_by.result.ending.cut in
       said_on announced.is_unknown announced.is_cut cut before between after (counts_text (arc_value c.args.house.site).boxes tallies)
       c.in_ok-gates.ensures.announced
