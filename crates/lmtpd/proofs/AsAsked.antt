@@ -134,8 +134,8 @@ siteless words s address (inr (f, fault_of_site, said)) = inr (inr (address, inl
 pub unset : (words : ServeWords) (s : Stop) → words.check_words ≡ false → IsListenAddress words.listen.now → IsNotSetUp words s → IsNotServed words s
 unset words s served address (inl none) = siteless words s address none
 unset words s served address (inr (inl memory)) = inl memory
-unset words (stop.Unopened name) served address (inr (inr (sound, named))) = inr (inr (address, inr (sound, served, named)))
-unset words (stop.NoFolder name) served address (inr (inr (sound, named))) = inr (inr (address, inr (sound, served, named)))
+unset words (stop.Unopened name suffix) served address (inr (inr (sound, named))) = inr (inr (address, inr (sound, served, named)))
+unset words (stop.NoFolder name suffix) served address (inr (inr (sound, named))) = inr (inr (address, inr (sound, served, named)))
 unset words (stop.Fault f) served address (inr (inr (sound, is))) = inl (ap stop.Fault is)
 unset words (stop.Words refused) served address (inr (inr (sound, never))) = absurd never
 unset words (stop.Name f line) served address (inr (inr (sound, never))) = absurd never

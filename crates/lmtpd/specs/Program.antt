@@ -158,8 +158,10 @@ abbrev pub IsNotServedAt : ServeWords → Stop → Type 0
 IsNotServedAt words (stop.Words error) = ⊥
 IsNotServedAt words (stop.Unread path) = ⊥
 IsNotServedAt words (stop.Name f line) = ⊥
-IsNotServedAt words (stop.Unopened name) = (words.start_anyway ≡ false) × Contains words.site.boxes.items name
-IsNotServedAt words (stop.NoFolder name) = (words.start_anyway ≡ true) × Contains words.site.boxes.items name
+IsNotServedAt words (stop.Unopened name suffix) =
+    (words.start_anyway ≡ false) × Contains words.site.boxes.items name × (suffix ≡ words.site.mailbox_suffix)
+IsNotServedAt words (stop.NoFolder name suffix) =
+    (words.start_anyway ≡ true) × Contains words.site.boxes.items name × (suffix ≡ words.site.mailbox_suffix)
 IsNotServedAt words (stop.Fault f) = (f ≡ fault.Listen)
     ⊎ (((f ≡ fault.Port) × AsksInherited words.listen.now) ⊎ IsNotRun (IsSizeAsked words) f)
 
