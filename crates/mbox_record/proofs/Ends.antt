@@ -8,7 +8,7 @@ use Rattle.std.proofs.Math.Seq.{take-append_seam, drop-length, take-length}
 use Rattle.memchr.specs.Find.{Nowhere, NoneBefore, Passes, is_byte}
 use Rattle.mail_world.specs.Text.{cr, lf, has_byte, unix}
 use Rattle.mail_world.specs.Records.{quoted_text}
-use Rattle.mbox_record.specs.Writing.{line_rest}
+use Rattle.mbox_record.specs.Quoted.{line_rest}
 use Rattle.mbox_record.proofs.Rests.{EndsPlainly, inside_line, not_true}
 
 -- what a search for LF says

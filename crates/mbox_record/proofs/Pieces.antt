@@ -2,7 +2,8 @@
 use Rattle.std.proofs.Common.{◌≡◌, ℕ, ◌-◌, List, ◌++◌, length, take, drop, sym, ap, ◌∙◌, append_assoc}
 use Rattle.std.proofs.lemmas.List.{take_rest}
 use Rattle.mbox_record.specs.Spool.{SpoolState, SpoolTook, SpoolFailed}
-use Rattle.mbox_record.specs.Writing.{Pending, IsPending, bytes_owed, FailsPiece}
+use Rattle.mbox_record.specs.Quoted.{Pending, IsPending, quoted_owed}
+use Rattle.mbox_record.specs.Writing.{Fails}
 use Rattle.mbox_record.proofs.Taken.{SpoolTook-then, SpoolFailed-later}
 
 -- the spool took what is sure of the piece up to the rest
@@ -10,14 +11,14 @@ pub record TakesPiece (old new : SpoolState) (before now : Pending) (piece rest 
   pub text : List ℕ
   pub taken : SpoolTook old new text
   pub is : IsPending now
-  pub goes : (more : List ℕ) → text ++ bytes_owed now (rest ++ more) ≡ bytes_owed before (piece ++ more)
+  pub goes : (more : List ℕ) → text ++ quoted_owed now (rest ++ more) ≡ quoted_owed before (piece ++ more)
 
 -- where the spool then takes a text for the first n bytes of the rest, or fails within it
 module _ (s t u : SpoolState) (before now next : Pending) (piece rest text : List ℕ) (n : ℕ) (x : TakesPiece s t before now piece rest)
-    (goes : (more : List ℕ) → text ++ bytes_owed next (drop n rest ++ more) ≡ bytes_owed now (rest ++ more)) where
-  further : (more : List ℕ) → (x.text ++ text) ++ bytes_owed next (drop n rest ++ more) ≡ bytes_owed before (piece ++ more)
+    (goes : (more : List ℕ) → text ++ quoted_owed next (drop n rest ++ more) ≡ quoted_owed now (rest ++ more)) where
+  further : (more : List ℕ) → (x.text ++ text) ++ quoted_owed next (drop n rest ++ more) ≡ quoted_owed before (piece ++ more)
   further more =
-      append_assoc x.text text (bytes_owed next (drop n rest ++ more))
+      append_assoc x.text text (quoted_owed next (drop n rest ++ more))
       ∙ ap (λ (l : List ℕ). x.text ++ l) (goes more) ∙ x.goes more
 
   pub TakesPiece-more : IsPending next → SpoolTook t u text → TakesPiece s u before next piece (take (length rest - n) (drop n rest))
@@ -28,9 +29,9 @@ module _ (s t u : SpoolState) (before now next : Pending) (piece rest text : Lis
     goes = rw (take_rest rest n) further;
   }
 
-  pub FailsPiece-more : SpoolFailed t u text → FailsPiece s u before piece
+  pub FailsPiece-more : SpoolFailed t u text → Fails s u (λ more. quoted_owed before (piece ++ more))
   FailsPiece-more z = record {
     text = x.text ++ text;
     failed = SpoolFailed-later s t u x.text text x.taken z;
-    sure = λ more. record { rest = bytes_owed next (drop n rest ++ more); whole = sym (further more) };
+    sure = λ more. record { rest = quoted_owed next (drop n rest ++ more); whole = sym (further more) };
   }

@@ -6,7 +6,7 @@ use Rattle.std.proofs.lemmas.Bool.{or_parts, eqb-true, cases_Bool}
 use Rattle.mail_world.specs.Text.{cr, lf, has_byte, begins, unix, lines, with_lf}
 use Rattle.mail_world.specs.Records.{is_from_line, quoted, quoted_text}
 use Rattle.mail_world.proofs.Quoting.{quoted_more}
-use Rattle.mbox_record.specs.Writing.{line_rest, after_quote_mark}
+use Rattle.mbox_record.specs.Quoted.{line_rest, after_quote_mark}
 
 -- the text up to its first LF, and after it
 abbrev pub first_line : List ℕ → List ℕ

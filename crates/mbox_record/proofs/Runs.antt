@@ -4,7 +4,7 @@ use Rattle.std.proofs.lemmas.Bool.{eqb-true}
 use Rattle.mail_world.specs.Text.{lf, unix}
 use Rattle.mail_world.specs.Records.{quoted_text}
 use Rattle.mbox_record.specs.declared.pending.Pending.TheVariants.{Start, Inside}
-use Rattle.mbox_record.specs.Writing.{line_rest}
+use Rattle.mbox_record.specs.Quoted.{line_rest}
 use Rattle.mbox_record.specs.Steps.{IsWriterRun}
 use Rattle.mbox_record.proofs.Rests.{not_true}
 use Rattle.mbox_record.proofs.Words.{plain_first}

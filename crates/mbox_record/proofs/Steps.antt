@@ -3,14 +3,14 @@ use Rattle.std.proofs.Common.{◌≡◌, ℕ, ◌+◌, ◌-◌, ◌*◌, ◌<◌
 use Rattle.std.proofs.lemmas.List.{length-drop, drop-drop}
 use Rattle.std.proofs.Math.Seq.{take-add}
 use Rattle.mbox_record.specs.declared.pending.Step.{Step}
-use Rattle.mbox_record.specs.Writing.{Pending, IsPending, bytes_owed}
+use Rattle.mbox_record.specs.Quoted.{Pending, IsPending, quoted_owed}
 use Rattle.mbox_record.specs.Steps.{IsWriterStep, pending_weight}
 
 -- the first n bytes as they are
 pub IsWriterStep-plain : (before next : Pending) (piece : List ℕ) (n : ℕ) (step : Step)
     → step.len ≡ n → step.taken ≡ n → step.extra.now ≡ [] → step.next ≡ next
     → n ≤ length piece → IsPending next → 2 * (length piece - n) + pending_weight next < 2 * length piece + pending_weight before
-    → ((rest : List ℕ) → take n piece ++ bytes_owed next (drop n piece ++ rest) ≡ bytes_owed before (piece ++ rest))
+    → ((rest : List ℕ) → take n piece ++ quoted_owed next (drop n piece ++ rest) ≡ quoted_owed before (piece ++ rest))
     → IsWriterStep before piece step
 IsWriterStep-plain before next piece n step a b c d within is smaller goes = record {
   len = rw a within;
@@ -38,12 +38,12 @@ IsWriterStep-both before piece step more same none x y =
       next = y.next;
       smaller = omega (arith, x.taken, y.taken, x.smaller, y.smaller, len);
       goes = λ rest.
-          ap (λ (n : ℕ). (take (n + more.len) piece ++ more.extra.now) ++ bytes_owed more.next (drop (step.taken + more.taken) piece ++ rest)) same
+          ap (λ (n : ℕ). (take (n + more.len) piece ++ more.extra.now) ++ quoted_owed more.next (drop (step.taken + more.taken) piece ++ rest)) same
           ∙ both_goes piece more.extra.now _ step.taken more.len
-          ∙ ap (λ (l : List ℕ). take step.taken piece ++ ((take more.len (drop step.taken piece) ++ more.extra.now) ++ bytes_owed more.next (l ++ rest)))
+          ∙ ap (λ (l : List ℕ). take step.taken piece ++ ((take more.len (drop step.taken piece) ++ more.extra.now) ++ quoted_owed more.next (l ++ rest)))
           (sym (drop-drop more.taken step.taken piece))
           ∙ ap (λ (l : List ℕ). take step.taken piece ++ l) (y.goes rest)
-          ∙ ap (λ (l : List ℕ). l ++ bytes_owed step.next (drop step.taken piece ++ rest))
+          ∙ ap (λ (l : List ℕ). l ++ quoted_owed step.next (drop step.taken piece ++ rest))
           (ap (λ (n : ℕ). take n piece) (sym same) ∙ sym (append-nil (take step.len piece)) ∙ ap (λ (l : List ℕ). take step.len piece ++ l) (sym none))
           ∙ x.goes rest;
     }

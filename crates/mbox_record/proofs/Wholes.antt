@@ -1,15 +1,15 @@
 -- A message in pieces is the message, and its record is what a writer writes.
 use Rattle.std.proofs.Common.{◌≡◌, ℕ, List, [], ◌∷◌, ◌++◌, sym, ap, ◌∙◌, append_assoc, append-nil}
-use Rattle.mail_world.specs.Text.{lf, unix}
-use Rattle.mail_world.specs.Records.{Calendar, quoted_text}
+use Rattle.mail_world.specs.Text.{lf}
+use Rattle.mail_world.specs.Records.{Calendar, quoted_text, stored_text}
 use Rattle.mbox_record.specs.Envelope.{Envelope, record_text, head_text}
 use Rattle.mbox_record.specs.Spool.{SpoolState, SpoolTook, SpoolFailed}
-use Rattle.mbox_record.specs.Writing.{Pending, bytes_owed, WritesPiece, FailsPiece}
+use Rattle.mbox_record.specs.Writing.{Writer, bytes_owed, WritesPiece, FailsPiece}
 use Rattle.mbox_record.proofs.Parts.{record_split}
 use Rattle.mbox_record.proofs.Taken.{SpoolTook-then, SpoolTook-as, SpoolFailed-first, SpoolFailed-later, SpoolFailed-as}
 use Rattle.mail_world.specs.Site.{Site}
 
-pub WritesPiece-then : (s t u : SpoolState) (a b c : Pending) (p q : List ℕ) → WritesPiece s t a b p → WritesPiece t u b c q → WritesPiece s u a c (p ++ q)
+pub WritesPiece-then : (s t u : SpoolState) (a b c : Writer) (p q : List ℕ) → WritesPiece s t a b p → WritesPiece t u b c q → WritesPiece s u a c (p ++ q)
 WritesPiece-then s t u a b c p q x y = record {
   text = x.text ++ y.text;
   taken = SpoolTook-then s t u x.text y.text x.taken y.taken;
@@ -17,7 +17,7 @@ WritesPiece-then s t u a b c p q x y = record {
       ∙ ap (bytes_owed a) (sym (append_assoc p q rest));
 }
 
-pub FailsPiece-then : (s t u : SpoolState) (a b : Pending) (p q : List ℕ) → WritesPiece s t a b p → FailsPiece t u b q → FailsPiece s u a (p ++ q)
+pub FailsPiece-then : (s t u : SpoolState) (a b : Writer) (p q : List ℕ) → WritesPiece s t a b p → FailsPiece t u b q → FailsPiece s u a (p ++ q)
 FailsPiece-then s t u a b p q x y = record {
   text = x.text ++ y.text;
   failed = SpoolFailed-later s t u x.text y.text x.taken y.failed;
@@ -29,8 +29,8 @@ FailsPiece-then s t u a b p q x y = record {
 }
 
 -- a writer that begins owes the message
-abbrev pub BeginsRecord : Pending → Type 0
-BeginsRecord first = (text : List ℕ) → bytes_owed first text ≡ quoted_text (unix text)
+abbrev pub BeginsRecord : Site → Writer → Type 0
+BeginsRecord site first = (text : List ℕ) → bytes_owed first text ≡ quoted_text (stored_text site text)
 
 module _ (calendar : Calendar) (site : Site) (e : Envelope) (message : List ℕ) where
   abbrev head : List ℕ
@@ -40,23 +40,23 @@ module _ (calendar : Calendar) (site : Site) (e : Envelope) (message : List ℕ)
   text = record_text calendar site e message
 
   abbrev content : List ℕ
-  content = quoted_text (unix message)
+  content = quoted_text (stored_text site message)
 
   whole : text ≡ head ++ (content ++ lf ∷ [])
   whole = record_split calendar site e message ∙ append_assoc head content (lf ∷ [])
 
   -- what the writer wrote, and still writes at the end
-  parts : (t u : SpoolState) (first last : Pending) → BeginsRecord first → (x : WritesPiece t u first last message) → content ≡ x.text ++ bytes_owed last []
+  parts : (t u : SpoolState) (first last : Writer) → BeginsRecord site first → (x : WritesPiece t u first last message) → content ≡ x.text ++ bytes_owed last []
   parts t u first last begins x = sym (x.goes [] ∙ ap (bytes_owed first) (append-nil message) ∙ begins message)
 
-  record_parts : (t u : SpoolState) (first last : Pending) → BeginsRecord first → (x : WritesPiece t u first last message)
+  record_parts : (t u : SpoolState) (first last : Writer) → BeginsRecord site first → (x : WritesPiece t u first last message)
       → text ≡ (head ++ x.text) ++ (bytes_owed last [] ++ lf ∷ [])
   record_parts t u first last begins x =
       whole ∙ ap (λ (l : List ℕ). head ++ (l ++ lf ∷ [])) (parts t u first last begins x)
       ∙ ap (λ (l : List ℕ). head ++ l) (append_assoc x.text (bytes_owed last []) (lf ∷ []))
       ∙ sym (append_assoc head x.text (bytes_owed last [] ++ lf ∷ []))
 
-  pub record_taken : (s t u v : SpoolState) (first last : Pending) → SpoolTook s t head → BeginsRecord first
+  pub record_taken : (s t u v : SpoolState) (first last : Writer) → SpoolTook s t head → BeginsRecord site first
       → WritesPiece t u first last message → SpoolTook u v (bytes_owed last [] ++ lf ∷ []) → SpoolTook s v text
   record_taken s t u v first last h begins x y =
       SpoolTook-as s v text ((head ++ x.text) ++ (bytes_owed last [] ++ lf ∷ [])) (record_parts t u first last begins x)
@@ -66,20 +66,20 @@ module _ (calendar : Calendar) (site : Site) (e : Envelope) (message : List ℕ)
   pub head_failed : (s t : SpoolState) → SpoolFailed s t head → SpoolFailed s t text
   head_failed s t h = SpoolFailed-as s t text (head ++ (content ++ lf ∷ [])) whole (SpoolFailed-first s t head (content ++ lf ∷ []) h)
 
-  pub end_failed : (s t u v : SpoolState) (first last : Pending) → SpoolTook s t head → BeginsRecord first
+  pub end_failed : (s t u v : SpoolState) (first last : Writer) → SpoolTook s t head → BeginsRecord site first
       → WritesPiece t u first last message → SpoolFailed u v (bytes_owed last [] ++ lf ∷ []) → SpoolFailed s v text
   end_failed s t u v first last h begins x y =
       SpoolFailed-as s v text ((head ++ x.text) ++ (bytes_owed last [] ++ lf ∷ [])) (record_parts t u first last begins x)
       (SpoolFailed-later s u v (head ++ x.text) (bytes_owed last [] ++ lf ∷ []) (SpoolTook-then s t u head x.text h x.taken) y)
 
 -- whatever message the piece was a prefix of
-pub piece_failed : (calendar : Calendar) (site : Site) (e : Envelope) (piece rest : List ℕ) (s t u : SpoolState) (first : Pending)
-    → SpoolTook s t (head_text calendar site e) → BeginsRecord first → FailsPiece t u first piece
+pub piece_failed : (calendar : Calendar) (site : Site) (e : Envelope) (piece rest : List ℕ) (s t u : SpoolState) (first : Writer)
+    → SpoolTook s t (head_text calendar site e) → BeginsRecord site first → FailsPiece t u first piece
     → SpoolFailed s u (record_text calendar site e (piece ++ rest))
 piece_failed calendar site e piece rest s t u first h begins x =
     let prefix = x.sure rest in
     let head = head_text calendar site e in
-    let content : quoted_text (unix (piece ++ rest)) ++ lf ∷ [] ≡ x.text ++ (prefix.rest ++ lf ∷ []) =
+    let content : quoted_text (stored_text site (piece ++ rest)) ++ lf ∷ [] ≡ x.text ++ (prefix.rest ++ lf ∷ []) =
     ap (λ (l : List ℕ). l ++ lf ∷ []) (sym (begins (piece ++ rest)) ∙ prefix.whole) ∙ append_assoc x.text prefix.rest (lf ∷ []) in
     SpoolFailed-as s u _ _
     (record_split calendar site e (piece ++ rest) ∙ append_assoc head _ (lf ∷ []) ∙ ap (λ (l : List ℕ). head ++ l) content)

@@ -8,7 +8,7 @@ use Rattle.std.proofs.lemmas.List.{take-append-drop, take_rest, length-append}
 use Rattle.std.proofs.Math.Seq.{take-add, drop-length, take-append_seam}
 use Rattle.mail_world.specs.Text.{cr, lf, has_byte, begins, begins_with, unix}
 use Rattle.mail_world.specs.Records.{is_from_line, quoted_text}
-use Rattle.mbox_record.specs.Writing.{line_rest}
+use Rattle.mbox_record.specs.Quoted.{line_rest}
 use Rattle.mbox_record.proofs.Rests.{first_line, plain_line, from_line}
 
 abbrev pub word : List ℕ

@@ -6,6 +6,9 @@ pub mod MemorySpool
 pub mod CountSpool
 pub mod Mending
 pub mod Parts
+pub mod Quoted
+pub mod Marking
+pub mod Marked
 pub mod Writing
 pub mod Steps
 pub mod Letters

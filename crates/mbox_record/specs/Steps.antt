@@ -2,7 +2,7 @@
 use Rattle.std.specs.Prelude.{◌≡◌, ℕ, ◌+◌, ◌-◌, ◌*◌, ◌<◌, ◌≤◌, List, ◌++◌, length, take, drop}
 use Rattle.mbox_record.specs.declared.pending.Step.{Step}
 use Rattle.mbox_record.specs.declared.pending.Pending.TheVariants.{Inside}
-use Rattle.mbox_record.specs.Writing.{Pending, IsPending, bytes_owed}
+use Rattle.mbox_record.specs.Quoted.{Pending, IsPending, quoted_owed}
 
 -- the texts that a step writes: bytes of the piece as they are, and others after them
 abbrev pub step_text : Step → List ℕ → List ℕ
@@ -19,12 +19,12 @@ pub record IsWriterStep (before : Pending) (piece : List ℕ) (step : Step) : Ty
   pub next : IsPending step.next
   pub smaller : 2 * (length piece - step.taken) + pending_weight step.next < 2 * length piece + pending_weight before
   pub goes : (rest : List ℕ) → step_text step piece
-      ++ bytes_owed step.next (drop step.taken piece ++ rest) ≡ bytes_owed before (piece ++ rest)
+      ++ quoted_owed step.next (drop step.taken piece ++ rest) ≡ quoted_owed before (piece ++ rest)
 
 -- a line that is written as it is, up to its end: the first len bytes, in place of the first taken ones
 pub record IsWriterRun (before : Pending) (piece : List ℕ) (len taken : ℕ) : Type 0 where
   pub within : len ≤ length piece
   pub further : taken ≤ length piece
   pub smaller : 2 * (length piece - taken) < 2 * length piece + pending_weight before
-  pub goes : (rest : List ℕ) → take len piece ++ bytes_owed Inside (drop taken piece ++ rest)
-      ≡ bytes_owed before (piece ++ rest)
+  pub goes : (rest : List ℕ) → take len piece ++ quoted_owed Inside (drop taken piece ++ rest)
+      ≡ quoted_owed before (piece ++ rest)

@@ -3,9 +3,9 @@ ghost use Rattle.std.specs.Prelude.{◌≡◌, ◌≢◌, ◌<◌, ◌≤◌, []
 ghost use Rattle.std.specs.Option.{IfSome};
 ghost use Rattle.std.specs.Str.{byte};
 ghost use Rattle.mail_world.specs.Text.{begins};
-ghost use Rattle.mbox_record.specs.Writing.{IsPending};
+ghost use Rattle.mbox_record.specs.Quoted.{IsPending};
 ghost use Rattle.mbox_record.specs.Steps.{IsWriterRun, IsWriterStep};
-ghost use Rattle.mbox_record.specs.declared.pending.Pending.TheVariants.{Start, Marks, Word, Inside, Cr};
+ghost use Rattle.mbox_record.specs.declared.pending.Pending.TheVariants.{Start, QuoteMarks, Word, Inside, Cr};
 
 use memchr::memchr;
 
@@ -18,7 +18,7 @@ pub(crate) enum Pending {
     Start,
     // After the `>`s at a line's start, one or more. They are written at once: a From line's further `>` is the same
     // after them as before them.
-    Marks,
+    QuoteMarks,
     // That many bytes of `From ` are held back, which stand at a line's start or after its `>`s.
     Word(usize),
     // Inside a line that isn't a From line, or is one and has its `>`.
@@ -77,7 +77,7 @@ pub(crate) fn plain_line(pending: Pending, piece: &[u8]) -> Option<Run>
     match pending {
         Pending::Start => line_at_start(piece),
         Pending::Inside => line_after_lf(piece),
-        Pending::Marks | Pending::Word(_) | Pending::Cr => None,
+        Pending::QuoteMarks | Pending::Word(_) | Pending::Cr => None,
     }
 }
 
@@ -150,7 +150,7 @@ fn short_step(pending: Pending, piece: &[u8]) -> Step
     ensures { IsWriterStep pending piece.now result }
 {
     match pending {
-        Pending::Start | Pending::Marks => prefix_step(piece),
+        Pending::Start | Pending::QuoteMarks => prefix_step(piece),
         Pending::Word(n) => word_step(n, piece),
         Pending::Inside => line_step(piece),
         Pending::Cr => cr_step(piece),
@@ -161,10 +161,10 @@ fn short_step(pending: Pending, piece: &[u8]) -> Step
 fn prefix_step(piece: &[u8]) -> Step
     requires some { 0 < length piece.now }
     ensures start { IsWriterStep Start piece.now result }
-    ensures marks { IsWriterStep Marks piece.now result }
+    ensures marks { IsWriterStep QuoteMarks piece.now result }
 {
     if piece[0] == b'>' {
-        Step::unchanged(1, Pending::Marks)
+        Step::unchanged(1, Pending::QuoteMarks)
     } else {
         word_step(0, piece)
     }

@@ -1,36 +1,42 @@
-//! A record of a mailbox, written while its message comes: the From line, the trace lines, and the message with its
-//! From lines quoted.
-ghost use Rattle.std.specs.Prelude.{◌≡◌, ◌≤◌, ℕ, List, [], ◌∷◌, ◌++◌, length, IfOk, OnOk, OnErr};
-ghost use Rattle.mail_world.specs.Records.{quoted_text};
-ghost use Rattle.mail_world.specs.Text.{unix, lf};
+//! A record of a mailbox, written while its message comes: the From line, the trace lines, and the message with the
+//! marks of its head renamed, where the site has that, and its From lines quoted.
+ghost use Rattle.std.specs.Prelude.{◌≡◌, ℕ, List, [], ◌∷◌, ◌++◌, IfOk, OnOk, OnErr, if◌then◌else◌};
+ghost use Rattle.mail_world.specs.Records.{quoted_text, stored_text};
+ghost use Rattle.mail_world.specs.Text.{lf};
 ghost use Rattle.lmtp_text.specs.Calendar.{civil_at};
 ghost use Rattle.mbox_record.specs.Envelope.{head_text};
 ghost use Rattle.mbox_record.specs.Spool.{SpoolTook, SpoolFailed};
-ghost use Rattle.mbox_record.specs.Steps.{step_text};
-ghost use Rattle.mbox_record.specs.Writing.{bytes_owed, WritesPiece, FailsPiece};
+ghost use Rattle.mbox_record.specs.Quoted.{quoted_owed};
+ghost use Rattle.mbox_record.specs.Marking.{marks_owed};
+ghost use Rattle.mbox_record.specs.Writing.{bytes_owed, Writes, Fails, WritesPiece, FailsPiece};
+ghost use Rattle.mbox_record.specs.declared.marking.Place.TheVariants.{Line, Body};
 
-use crate::append::{append_all, append_each};
 use crate::envelope::Envelope;
 use crate::head::write_head;
-use crate::pending::{FROM, Pending, Step, long_step, plain_line};
+use crate::held::Held;
+use crate::marking::{Place, WAS, find_mark};
+use crate::quoted::QuotedText;
 use crate::spool::{Spool, SpoolFault};
+use lmtp_text::Site;
 use std::marker::Model;
 
-/// Writes the record of a message that comes in pieces. It holds back a CR, or a prefix of a line's `From `, and keeps
-/// no bytes of the message.
+/// Writes the record of a message that comes in pieces. Of the message it holds back 15 bytes at most: a CR, a prefix
+/// of a line's `From `, or the beginning of a field that may be a mark.
 #[derive(Debug, Drop)]
 pub struct RecordWriter {
-    pending: Pending,
+    quoted: QuotedText,
+    place: Place,
+    held: Held,
 }
 
 impl Model for RecordWriter {
-    ghost use Rattle.mbox_record.specs.Writing.{Pending, IsPending};
+    ghost use Rattle.mbox_record.specs.Writing.{Writer, IsWriter};
 
-    ghost Value = { Pending };
+    ghost Value = { Writer };
 
-    ghost view = { λ w. w.pending };
+    ghost view = { λ w. record { quoted = w.quoted; place = w.place; held = w.held } };
 
-    ghost invariant = { λ w. IsPending w.pending };
+    ghost invariant = { λ w. IsWriter (record { quoted = w.quoted; place = w.place; held = w.held }) };
 }
 
 impl RecordWriter {
@@ -42,37 +48,37 @@ impl RecordWriter {
     ) -> Result<RecordWriter, SpoolFault>
         ensures ok { OnOk result
             (SpoolTook (S.state spool.old) (S.state spool.new) (head_text civil_at site.now envelope.now)) }
-        ensures new { IfOk result (λ writer. (text : List ℕ) → bytes_owed writer text ≡ quoted_text (unix text)) }
+        ensures new { IfOk result
+            (λ writer. (text : List ℕ) → bytes_owed writer text ≡ quoted_text (stored_text site.now text)) }
         ensures err { OnErr result
             (SpoolFailed (S.state spool.old) (S.state spool.new) (head_text civil_at site.now envelope.now)) }
     {
         write_head(spool, site, envelope)?;
         Ok(RecordWriter {
-            pending: Pending::Start,
+            quoted: QuotedText::new(),
+            place: first_place(site),
+            held: Held::of(b""),
         })
     }
 
-    /// Writes what is sure of the message's bytes, with LF for CRLF and one more `>` before a From line. The piece may
-    /// end anywhere. After a fault the spool holds a prefix of the record, and the writer is gone.
+    /// Writes what is sure of the message's bytes, with LF for CRLF and one more `>` before a From line, and with
+    /// `X-Was-` before a mark of its head, where the site has these renamed. The piece may end anywhere. After a fault
+    /// the spool holds a prefix of the record, and the writer is gone.
     pub fn piece<S: Spool>(self, spool: &mut S, piece: &[u8]) -> Result<RecordWriter, SpoolFault>
         ensures ok { IfOk result (λ writer. WritesPiece (S.state spool.old) (S.state spool.new) self writer piece.now) }
         ensures err { OnErr result (FailsPiece (S.state spool.old) (S.state spool.new) self piece.now) }
     {
-        let mut pending = self.pending;
+        let mut writer = self;
         let mut rest = piece;
         while !rest.is_empty() {
-            if let Some(run) = plain_line(pending, rest) {
-                append_all(spool, &rest[..run.len])?;
-                pending = Pending::Inside;
-                rest = &rest[run.taken..];
-            } else {
-                let step = long_step(pending, rest);
-                write_step(spool, rest, &step)?;
-                pending = step.next;
-                rest = &rest[step.taken..];
+            if writer.held.is_empty() {
+                return write_bytes(writer.quoted, writer.place, spool, rest);
             }
+            let held = writer.held.with(rest[0]);
+            writer = write_bytes(writer.quoted, writer.place, spool, held.as_slice())?;
+            rest = &rest[1..];
         }
-        Ok(RecordWriter { pending })
+        Ok(writer)
     }
 
     /// Writes what is left of the message, with LF after a last line that has none, and the empty line that ends a
@@ -82,20 +88,46 @@ impl RecordWriter {
         ensures err { OnErr result
             (SpoolFailed (S.state spool.old) (S.state spool.new) (bytes_owed self [] ++ lf ∷ [])) }
     {
-        match self.pending {
-            Pending::Start => append_all(spool, b"\n"),
-            Pending::Marks | Pending::Inside => append_all(spool, b"\n\n"),
-            Pending::Word(n) => append_each(spool, &[&FROM[..n], b"\n\n"]),
-            Pending::Cr => append_all(spool, b"\r\n\n"),
-        }
+        let quoted = self.quoted.piece(spool, self.held.as_slice())?;
+        quoted.end(spool)
     }
 }
 
-fn write_step<S: Spool>(spool: &mut S, piece: &[u8], step: &Step) -> Result<(), SpoolFault>
-    requires { step.now.len ≤ length piece.now }
-    ensures ok { OnOk result (SpoolTook (S.state spool.old) (S.state spool.new) (step_text step.now piece.now)) }
-    ensures err { OnErr result (SpoolFailed (S.state spool.old) (S.state spool.new) (step_text step.now piece.now)) }
+fn first_place(site: &Site) -> Place
+    ensures { result ≡ if site.now.renames_marks then Line else Body }
 {
-    append_all(spool, &piece[..step.len])?;
-    append_all(spool, step.extra)
+    if site.renames_marks() {
+        Place::Line
+    } else {
+        Place::Body
+    }
+}
+
+// Writes bytes of the message but those that are held back then.
+fn write_bytes<S: Spool>(
+    quoted: QuotedText,
+    place: Place,
+    spool: &mut S,
+    bytes: &[u8],
+) -> Result<RecordWriter, SpoolFault>
+    ensures ok { IfOk result (λ writer. Writes (S.state spool.old) (S.state spool.new)
+        (λ rest. quoted_owed quoted (marks_owed place (bytes.now ++ rest))) (bytes_owed writer)) }
+    ensures err { OnErr result (Fails (S.state spool.old) (S.state spool.new)
+        (λ rest. quoted_owed quoted (marks_owed place (bytes.now ++ rest)))) }
+{
+    let mut quoted = quoted;
+    let mut rest = bytes;
+    let mut found = find_mark(place, rest);
+    while found.is_mark {
+        quoted = quoted.piece(spool, &rest[..found.at])?;
+        quoted = quoted.piece(spool, WAS)?;
+        rest = &rest[found.at..];
+        found = find_mark(Place::Inside, rest);
+    }
+    quoted = quoted.piece(spool, &rest[..found.at])?;
+    Ok(RecordWriter {
+        quoted,
+        place: found.place,
+        held: Held::of(&rest[found.at..]),
+    })
 }

@@ -4,7 +4,7 @@ use Rattle.std.proofs.lemmas.Bool.Decides.{Decides-eqb}
 use Rattle.std.proofs.lemmas.Slice.Eq.{starts_is}
 use Rattle.mail_world.specs.Text.{lf, cr, has_byte, begins, unix}
 use Rattle.mail_world.specs.Records.{quoted_text}
-use Rattle.mbox_record.specs.Writing.{line_rest}
+use Rattle.mbox_record.specs.Quoted.{line_rest}
 use Rattle.mbox_record.proofs.Words.{word, word_found, word_more, word_lost, shorter, missing, missing_len, mismatch}
 use Rattle.mbox_record.proofs.pending.word_step.Goals as goal
 

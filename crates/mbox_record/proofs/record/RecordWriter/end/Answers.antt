@@ -1,20 +1,17 @@
-use Rattle.std.proofs.Common.{◌≡◌, ℕ, [], ◌∷◌, ◌++◌, take, sym, ◌∙◌, subst}
-use Rattle.mail_world.specs.Text.{lf}
-use Rattle.mbox_record.specs.declared.pending.Pending.TheVariants.{Word}
-use Rattle.mbox_record.specs.Writing.{Pending, IsPending, bytes_owed}
-use Rattle.mbox_record.proofs.Words.{word, word_end}
-use Rattle.mbox_record.proofs.Taken.{OnOk-as, OnErr-as}
+use Rattle.mbox_record.specs.Writing.{Writer}
+use Rattle.mbox_record.proofs.Taken.{OnErr-any, OnErr-map}
+use Rattle.mbox_record.proofs.Written.{end_fails, held_fails}
 use Rattle.mbox_record.proofs.record.RecordWriter.end.Goals as goal
 
-last_word : (p q : Pending) (n : ℕ) → q ≡ Word n → q ≡ p → IsPending q → bytes_owed p [] ++ lf ∷ [] ≡ take n word ++ lf ∷ lf ∷ []
-last_word p q n e view is =
-    let P : Pending → Type 0 = λ x. IsPending x → bytes_owed x [] ++ lf ∷ [] ≡ take n word ++ lf ∷ lf ∷ [] in
-    subst P (sym e ∙ view) (λ h. word_end n h.0 h.1) (subst IsPending view is)
+pub returns-in_err-quoted-clause-err : goal.returns-in_err-quoted-clause-err
+returns-in_err-quoted-clause-err g c =
+    let writer : Writer = record { quoted = c.self.inside.quoted; place = c.self.inside.place; held = c.self.inside.held } in
+    let fails = rw c.as_slice.ensures at c.in_err-quoted.ensures.err in OnErr-any c.from_residual.result (
+    held_fails writer c.args.self c.self.view_is c.self.invariant _ _ (g.S.Spool.state c.piece.new.spool) fails
+    )
 
-pub returns-in-Word-clause-ok : goal.returns-in-Word-clause-ok
-returns-in-Word-clause-ok g c = OnOk-as c.append_each.result _ _ _ _
-    (last_word c.args.self c.self.inside.pending c.in-Word.n c.in-Word.is c.self.view_is c.self.invariant) c.append_each.ensures.ok
-
-pub returns-in-Word-clause-err : goal.returns-in-Word-clause-err
-returns-in-Word-clause-err g c = OnErr-as c.append_each.result _ _ _ _
-    (last_word c.args.self c.self.inside.pending c.in-Word.n c.in-Word.is c.self.view_is c.self.invariant) c.append_each.ensures.err
+pub returns-clause-err : goal.returns-clause-err
+returns-clause-err g c =
+    let writer : Writer = record { quoted = c.self.inside.quoted; place = c.self.inside.place; held = c.self.inside.held } in
+    let writes = rw c.as_slice.ensures at c.in_ok-quoted.ensures.ok in
+    OnErr-map c.end.result (λ x. end_fails writer c.args.self c.self.view_is c.self.invariant _ _ _ c.in_ok-quoted.quoted writes x) c.end.ensures.err

@@ -1,10 +1,11 @@
-use Rattle.std.proofs.Common.{◌+◌, ◌*◌, length}
-use Rattle.mbox_record.specs.Steps.{pending_weight}
-use Rattle.mbox_record.proofs.Pieces.{TakesPiece}
+use Rattle.std.proofs.Common.{◌++◌, length}
+use Rattle.mbox_record.specs.Writing.{Writes, bytes_owed}
 use Rattle.mbox_record.proofs.record.RecordWriter.piece.Given as goal
 
 abbrev pub invariant-loop-rest : goal.invariant-loop-rest
-invariant-loop-rest g l = TakesPiece (g.S.Spool.state l.initial.spool) (g.S.Spool.state l.spool) l.fn.self l.pending l.fn.piece l.rest
+invariant-loop-rest g l =
+    Writes (g.S.Spool.state l.initial.spool) (g.S.Spool.state l.spool) (λ rest. bytes_owed l.fn.self (l.fn.piece ++ rest))
+    (λ rest. bytes_owed l.writer (l.rest ++ rest))
 
 abbrev pub decreases-loop-rest : goal.decreases-loop-rest
-decreases-loop-rest g l = 2 * length l.rest + pending_weight l.pending
+decreases-loop-rest g l = length l.rest

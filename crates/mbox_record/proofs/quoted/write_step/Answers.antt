@@ -1,6 +1,6 @@
 use Rattle.std.proofs.Common.{refl}
 use Rattle.mbox_record.proofs.Taken.{OnErr-any, OnErr-rest, SpoolFailed-first, TakesUpTo-first}
-use Rattle.mbox_record.proofs.record.write_step.Goals as goal
+use Rattle.mbox_record.proofs.quoted.write_step.Goals as goal
 
 pub returns-in_err-append_all-clause-err : goal.returns-in_err-append_all-clause-err
 returns-in_err-append_all-clause-err g c = OnErr-any c.from_residual.result (SpoolFailed-first _ _ _ _ c.in_err-append_all.ensures.err)

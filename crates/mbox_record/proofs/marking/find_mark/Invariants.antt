@@ -1,0 +1,10 @@
+use Rattle.std.proofs.Common.{◌+◌, ◌-◌, ◌*◌, length}
+use Rattle.mbox_record.specs.Marked.{place_weight}
+use Rattle.mbox_record.proofs.FieldEnds.{HasGone}
+use Rattle.mbox_record.proofs.marking.find_mark.Given as goal
+
+abbrev pub invariant-loop-at : goal.invariant-loop-at
+invariant-loop-at l = HasGone l.fn.place l.bytes l.at l.place
+
+abbrev pub decreases-loop-at : goal.decreases-loop-at
+decreases-loop-at l = 2 * (length l.bytes - l.at) + place_weight l.place

@@ -1,0 +1,6 @@
+use Rattle.std.proofs.Common.{◌≤◌, length, take, drop}
+use Rattle.mbox_record.proofs.Fields.{IsMatched}
+use Rattle.mbox_record.proofs.marking.has_name.Given as goal
+
+abbrev pub invariant-loop-i : goal.invariant-loop-i
+invariant-loop-i l = IsMatched l.name l.bytes l.i

@@ -1,0 +1,93 @@
+//! A text whose lines end with LF and whose From lines are quoted while it comes.
+ghost use Rattle.std.specs.Prelude.{◌≡◌, ◌≤◌, ℕ, List, [], ◌∷◌, ◌++◌, length, IfOk, OnOk, OnErr};
+ghost use Rattle.mail_world.specs.Records.{quoted_text};
+ghost use Rattle.mail_world.specs.Text.{unix, lf};
+ghost use Rattle.mbox_record.specs.Quoted.{quoted_owed};
+ghost use Rattle.mbox_record.specs.Spool.{SpoolTook, SpoolFailed};
+ghost use Rattle.mbox_record.specs.Steps.{step_text};
+ghost use Rattle.mbox_record.specs.Writing.{Writes, Fails};
+
+use crate::append::{append_all, append_each};
+use crate::pending::{FROM, Pending, Step, long_step, plain_line};
+use crate::spool::{Spool, SpoolFault};
+use std::marker::Model;
+
+// A text that comes in pieces. A CR is held back, or a prefix of a line's `From `, and no bytes of the text are kept.
+#[derive(Clone, Copy, Debug)]
+pub(crate) struct QuotedText {
+    pending: Pending,
+}
+
+impl Model for QuotedText {
+    ghost use Rattle.mbox_record.specs.Quoted.{Pending, IsPending};
+
+    ghost Value = { Pending };
+
+    ghost view = { λ t. t.pending };
+
+    ghost inverse = { λ p. record { pending = p } };
+
+    ghost invariant = { λ t. IsPending t.pending };
+}
+
+impl QuotedText {
+    pub(crate) fn new() -> QuotedText
+        ensures { (text : List ℕ) → quoted_owed result text ≡ quoted_text (unix text) }
+    {
+        QuotedText {
+            pending: Pending::Start,
+        }
+    }
+
+    // Writes what is sure of the text's bytes, with LF for CRLF and one more `>` before a From line. The piece may end
+    // anywhere.
+    pub(crate) fn piece<S: Spool>(
+        self,
+        spool: &mut S,
+        piece: &[u8],
+    ) -> Result<QuotedText, SpoolFault>
+        ensures ok { IfOk result (λ after. Writes (S.state spool.old) (S.state spool.new)
+            (λ rest. quoted_owed self (piece.now ++ rest)) (quoted_owed after)) }
+        ensures err { OnErr result
+            (Fails (S.state spool.old) (S.state spool.new) (λ rest. quoted_owed self (piece.now ++ rest))) }
+    {
+        let mut pending = self.pending;
+        let mut rest = piece;
+        while !rest.is_empty() {
+            if let Some(run) = plain_line(pending, rest) {
+                append_all(spool, &rest[..run.len])?;
+                pending = Pending::Inside;
+                rest = &rest[run.taken..];
+            } else {
+                let step = long_step(pending, rest);
+                write_step(spool, rest, &step)?;
+                pending = step.next;
+                rest = &rest[step.taken..];
+            }
+        }
+        Ok(QuotedText { pending })
+    }
+
+    // Writes what is left of the text, with LF after a last line that has none, and an empty line.
+    pub(crate) fn end<S: Spool>(self, spool: &mut S) -> Result<(), SpoolFault>
+        ensures ok { OnOk result (SpoolTook (S.state spool.old) (S.state spool.new) (quoted_owed self [] ++ lf ∷ [])) }
+        ensures err { OnErr result
+            (SpoolFailed (S.state spool.old) (S.state spool.new) (quoted_owed self [] ++ lf ∷ [])) }
+    {
+        match self.pending {
+            Pending::Start => append_all(spool, b"\n"),
+            Pending::QuoteMarks | Pending::Inside => append_all(spool, b"\n\n"),
+            Pending::Word(n) => append_each(spool, &[&FROM[..n], b"\n\n"]),
+            Pending::Cr => append_all(spool, b"\r\n\n"),
+        }
+    }
+}
+
+fn write_step<S: Spool>(spool: &mut S, piece: &[u8], step: &Step) -> Result<(), SpoolFault>
+    requires { step.now.len ≤ length piece.now }
+    ensures ok { OnOk result (SpoolTook (S.state spool.old) (S.state spool.new) (step_text step.now piece.now)) }
+    ensures err { OnErr result (SpoolFailed (S.state spool.old) (S.state spool.new) (step_text step.now piece.now)) }
+{
+    append_all(spool, &piece[..step.len])?;
+    append_all(spool, step.extra)
+}
