@@ -1,7 +1,7 @@
 #!/usr/bin/env bash
 # Mailboxes that the program writes, as others read them: it rehearses messages whose lines look like From lines, and
-# one from a sender in UTF-8, and `git mailsplit --mboxrd` and Python's `mailbox` must find the same letters, in their order. The other way,
-# the mailbox that a test of `read_mailbox` takes as Python's must be what Python writes here.
+# one from a sender in UTF-8, and `git mailsplit --mboxrd` and Python's `mailbox` must find the same letters, in their
+# order. The other way, the mailbox that a test of `read_mailbox` takes as Python's must be what Python writes here.
 # It prints one line a case, and fails where a case does. LMTPD names a program that is built already.
 set -euo pipefail
 cd "$(dirname "$0")/.."
