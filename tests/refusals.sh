@@ -132,6 +132,42 @@ try 1 'lmtpd: cannot open anna.mbox' "${serve[@]}" --dir /nowhere anna
 try 2 clap "${good[@]}" --lock-wait 10 anna
 try 2 clap check --lock-wait 10 anna.mbox
 try 2 clap "${good[@]}" --mailbox-mode 0600 anna
+long=$(printf '%033d' 0)
+for text in "$long" / .mail/ ../x ' ' .mail, é $'a\n'; do
+    try 2 clap "${serve[@]}" --dir /nowhere --mailbox-suffix "$text" anna
+    try 2 clap "${serve[@]}" --dir /nowhere --mailbox-suffix="$text" anna
+done
+try 2 clap "${serve[@]}" --dir /nowhere --mailbox-suffix $'.\xff' anna
+try 2 clap "${serve[@]}" --dir /nowhere --mailbox-suffix
+try 2 clap "${serve[@]}" --dir /nowhere --mailbox-suffix .a --mailbox-suffix .a anna
+for text in '' .mail .mbox x _ - .. .A-z_0.9 .lock.b lock "${long:1}"; do
+    try 1 "lmtpd: cannot open anna$text" "${serve[@]}" --dir /nowhere --mailbox-suffix="$text" anna
+done
+try 1 'lmtpd: cannot open anna' "${serve[@]}" --dir /nowhere --mailbox-suffix '' anna
+try 1 'lmtpd: cannot open a.lock.mbox' "${serve[@]}" --dir /nowhere a.lock
+try 2 clap "${good[@]}" --mailbox-suffix .mail anna
+try 2 clap check --mailbox-suffix .mail anna.mbox
+try 0 none "${good[@]}" a.lock
+# files that are called as lock files are, by name, suffix or both, come where other bad names do
+while read -r name suffix; do
+    try 2 'lmtpd: bad box' "${serve[@]}" --dir /nowhere --mailbox-suffix="$suffix" anna "$name"
+    try 2 'lmtpd: bad box' "${serve[@]}" --dir /nowhere --mailbox-suffix="$suffix" anna anna "$name"
+    try 2 'lmtpd: bad box' "${serve[@]}" --dir /nowhere --mailbox-suffix="$suffix" "${many[@]}" "$name"
+    try 2 "[ERROR lmtpd] bad box name=$name"$'\nlmtpd: bad box' \
+        "${serve[@]}" --dir /nowhere --mailbox-suffix="$suffix" --check-words anna "$name"
+done <<'EOF'
+a.lock
+anna.source.lock
+a.lo ck
+a. lock
+EOF
+for suffix in .lock .source.lock ..lock; do
+    try 2 $'[ERROR lmtpd] bad box name=anna\nlmtpd: bad box' \
+        "${serve[@]}" --dir /nowhere --mailbox-suffix="$suffix" --check-words anna ben
+done
+for suffix in '' .mail lock; do
+    try 0 none "${serve[@]}" --dir /nowhere --mailbox-suffix="$suffix" --check-words lock a.locks a.lock.b a-lock
+done
 for mode in 8 1000 +660 00660 x ''; do try 2 clap "${serve[@]}" --dir /nowhere --socket-mode "$mode" anna; done
 for time in 0 86401 -1 x ''; do try 2 clap "${serve[@]}" --dir /nowhere --session-time "$time" anna; done
 for number in 0 1000001 -1 x ''; do try 2 clap "${serve[@]:0:5}" --dir /nowhere --connections "$number" anna; done

@@ -11,9 +11,10 @@ def greeting(host=HOST):
     return f"220 {host} LMTP ready"
 
 
-def offer(host=HOST, limit=MESSAGE_LIMIT):
-    """The lines of the reply to LHLO at a site of that limit."""
-    return [f"250-{host}", "250-PIPELINING", "250-ENHANCEDSTATUSCODES", "250-8BITMIME", offered_size(limit)]
+def offer(host=HOST, limit=MESSAGE_LIMIT, utf8=False):
+    """The lines of the reply to LHLO at a site of that limit, which has addresses in UTF-8 or not."""
+    lines = [f"250-{host}", "250-PIPELINING", "250-ENHANCEDSTATUSCODES", "250-8BITMIME"]
+    return [*lines, *(["250-SMTPUTF8"] if utf8 else []), offered_size(limit)]
 
 
 def offered_size(limit=MESSAGE_LIMIT):

@@ -11,6 +11,13 @@ SENDERS = [
     b"carl@a.example",
     b"<a@b",
     b"< >",
+    b"<\xc3\xa4@\xe2\x82\xac.example>",
+    b'<"\xf0\x9f\x93\xa7 "@a>',
+    b"<@\xc3\xa4,@b:c@d>",
+    b"<\xc0\x80@a>",
+    b"<\xed\xa0\x80>",
+    b'<"\\\xc3\xa4"@a>',
+    b"<%s\xc3\xa4>" % (b"x" * 252),
 ]
 RECIPIENTS = [
     b"<anna>",
@@ -21,6 +28,9 @@ RECIPIENTS = [
     b"<anna@[1.2.3.4]>",
     b"<anna@other.example>",
     b"anna",
+    b"<ann\xc3\xa4>",
+    b"<anna@\xc3\xa4>",
+    b"<anna@\xf4\x90\x80\x80>",
 ]
 PARAMETERS = [
     b"",
@@ -32,6 +42,10 @@ PARAMETERS = [
     b" =",
     b" RET=FULL",
     b"  ",
+    b" SMTPUTF8",
+    b" smtputf8 SIZE=10",
+    b" SMTPUTF8=",
+    b" SMTPUTF8 SMTPUTF8",
 ]
 LINES = [
     b"hello",
@@ -69,7 +83,7 @@ ALONE = [
     b"AUTH",
     b"x" * 1022,
 ]
-INSERTED = [b"\r", b"\n", b"\0", b"\r\n", b".", b"\r\n.\r\n", b"\n.\n", b"\r.\r", b"From ", b" ", b"\xff"]
+INSERTED = [b"\r", b"\n", b"\0", b"\r\n", b".", b"\r\n.\r\n", b"\n.\n", b"\r.\r", b"From ", b" ", b"\xff", b"\xc3\xa4"]
 
 
 def made(random):
@@ -89,8 +103,8 @@ def one_of_the_first(random, options, counts):
 
 
 def transaction(random):
-    sender = one_of_the_first(random, SENDERS, [1, 3, len(SENDERS)])
-    yield b"MAIL FROM:" + sender + one_of_the_first(random, PARAMETERS, [1, 4, len(PARAMETERS)])
+    sender = one_of_the_first(random, SENDERS, [1, 3, 7, len(SENDERS)])
+    yield b"MAIL FROM:" + sender + one_of_the_first(random, PARAMETERS, [1, 4, 9, len(PARAMETERS)])
     for _ in range(random.choice([0, 1, 1, 2, 3, 8, 101 if random.random() < 0.02 else 1])):
         yield b"RCPT TO:" + one_of_the_first(random, RECIPIENTS, [2, len(RECIPIENTS)])
     yield b"DATA"

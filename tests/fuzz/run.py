@@ -21,7 +21,7 @@ SECONDS = 20  # that a case may take
 BATCH = 250  # cases whose mailboxes are read back together
 MOST_SECONDS = 400  # for all cases
 
-OFFER = "\r\n".join(replies.OFFER).encode()
+OFFERS = ["\r\n".join(replies.offer(utf8=utf8)).encode() for utf8 in (False, True)]
 REPLIES = {
     reply.encode()
     for reply in [
@@ -44,7 +44,8 @@ def run(seed, number):
     chance = random.Random(f"{seed} {number}")
     given = conversations.conversation(chance)
     pipes = {"stdin": subprocess.PIPE, "stdout": subprocess.PIPE, "stderr": subprocess.PIPE}
-    with subprocess.Popen(WORDS, bufsize=0, **pipes) as process:
+    words = [*WORDS, "--smtputf8"] if chance.random() < 0.5 else WORDS
+    with subprocess.Popen(words, bufsize=0, **pipes) as process:
         try:
             for piece in conversations.pieces(chance, given):
                 process.stdin.write(piece)
@@ -64,7 +65,10 @@ def run(seed, number):
 
 def checked(said):
     at = said.index(b"\r\nmailbox %s " % BOXES[0].encode()) + 2
-    answers = re.sub(rb"\r\n(?!\Z)", b"\n", said[:at].replace(OFFER, b"OFFER")).removesuffix(b"\r\n").split(b"\n")
+    replied = said[:at]
+    for offer in OFFERS:
+        replied = replied.replace(offer, b"OFFER")
+    answers = re.sub(rb"\r\n(?!\Z)", b"\n", replied).removesuffix(b"\r\n").split(b"\n")
     for reply in answers:
         if reply != b"OFFER" and reply not in REPLIES:
             raise Wrong(f"the reply {reply!r}")

@@ -174,6 +174,7 @@ STARTED = [
     ({"BOXES": "anna  ben *"}, [*FOLDER, "anna", "ben", "*"]),
     ({"OPTIONS": " --quota 5\t* $HOME `id` 'a b' "}, [*FOLDER, "--quota", "5", "*", "$HOME", "`id`", "'a", "b'"]),
     ({"BOXES": "/x", "OPTIONS": "--lanes 8"}, [*FOLDER, "--boxes", "/x", "--lanes", "8"]),
+    ({"OPTIONS": "--mailbox-suffix= --lanes 8"}, [*FOLDER, "--mailbox-suffix=", "--lanes", "8"]),
     ({"INSTANCE": "a"}, [*FOLDER, "--boxes", "/etc/lmtpd/a.boxes"]),
     ({"INSTANCE": "a", "BOXES": ""}, [*FOLDER, "--boxes", "/etc/lmtpd/a.boxes"]),
     ({"INSTANCE": "a", "BOXES": "/y"}, [*FOLDER, "--boxes", "/y"]),

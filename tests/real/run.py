@@ -18,6 +18,7 @@ import many_clients_one_mailbox  # noqa: F401
 import many_mailboxes  # noqa: F401
 import marks_of_senders  # noqa: F401
 import moved_users  # noqa: F401
+import named_as_users  # noqa: F401
 import odd_clients  # noqa: F401
 import opensmtpd_delivers  # noqa: F401
 import other_mailboxes  # noqa: F401

@@ -13,19 +13,18 @@ TO_ANNA = b"RCPT TO:<anna@mx.example>"
 TO_BEN = b"RCPT TO:<ben@mx.example>"
 HELLO = [b"Subject: hi", b"", b"hello", b"."]
 HELLO_STORED = b"Subject: hi\n\nhello\n"
-
-
+EPOCH = (b"Thu Jan  1 00:00:00 1970", b"Thu, 1 Jan 1970 00:00:00 +0000")  # in the From line, and in the trace
 OPENED = [GREETING, *OFFER, SENDER_OK]
 PLACE_OF_OFFER = slice(1, 1 + len(OFFER))  # in a row's replies
 
 
-def head(number=1, sender=b"carl@a.example", moment=(b"Thu Jan  1 00:00:00 1970", b"Thu, 1 Jan 1970 00:00:00 +0000")):
+def head(number=1, sender=b"carl@a.example", moment=EPOCH, protocol=b"LMTP"):
     """The From line and the trace lines of a record."""
     lines = [
         b"From " + (sender or b"MAILER-DAEMON") + b" " + moment[0],
         b"Return-Path: <" + sender + b">",
         b"Received: from relay.example",
-        b"\tby mx.example with LMTP id 0-%d;" % number,
+        b"\tby mx.example with %s id 0-%d;" % (protocol, number),
         b"\t" + moment[1],
     ]
     return b"".join(line + b"\n" for line in lines)

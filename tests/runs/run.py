@@ -10,6 +10,7 @@ import tempfile
 import listed
 import replies
 import rows
+import utf8
 from cases import compare, none_failed
 
 LMTPD = os.path.abspath(os.environ["LMTPD"])
@@ -160,7 +161,7 @@ def wrong_quotas():
 
 
 def compare_all():
-    for row in [*rows.rows(), *listed.rows()]:
+    for row in [*rows.rows(), *listed.rows(), *utf8.rows()]:
         expected = (0, row.output(), b"")
         compare(row.name, play(row), expected)
         if len(row.input()) < 400:

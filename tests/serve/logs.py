@@ -203,6 +203,31 @@ def addresses_are_logged_where_they_are_asked_for(folder):
     equal([answer(line)[0][:2] for line in without[-4:]], expected)
 
 
+@case
+def addresses_in_utf8_are_escaped(folder):
+    """with --smtputf8 an address in UTF-8 is logged with an escape for each byte that isn't ASCII; without the word
+    one is refused, and its line has none"""
+    given = ["--lanes", 1, "--log", "info", "--log-addresses", "--recipient-delimiter", "+"]
+    with Server(folder, ["anna"], 1, *given, "--smtputf8") as server:
+        with Client(server.address).greet() as client:
+            equal(client.ask("MAIL FROM:<jürgen@bü.example> SMTPUTF8"), SENDER_OK)
+            equal(client.ask("RCPT TO:<zoë>")[:3], "550")
+            equal(client.ask("RCPT TO:<anna+ü>"), RECIPIENT_OK)
+            equal(client.ask("DATA"), GO_AHEAD)
+            client.send(*LETTER, ".")
+            equal(client.hear(), stored("anna"))
+            client.quit()
+        refused, copy, _ = server.end().errors
+    equal(refused, "[INFO  lmtpd] command refused lane=0 verb=RCPT code=550 recipient=<zo%C3%AB>")
+    equal(copy.split(" sender=")[1], "<j%C3%BCrgen@b%C3%BC.example> recipient=<anna+%C3%BC>")
+    (folder / "without").mkdir()
+    with Server(folder / "without", ["anna"], 1, *given) as server:
+        with Client(server.address).greet() as client:
+            equal(client.ask("MAIL FROM:<jürgen@a.example>")[:3], "501")
+            client.quit()
+        equal(server.end().errors[0], "[INFO  lmtpd] command refused lane=0 verb=MAIL code=501")
+
+
 def varies(line):
     """A copy's line without what is another one each time."""
     return re.sub(r"id=\d{16}-|seconds=\S+", "", line)

@@ -23,14 +23,21 @@ ROWS = [
     (2, "bad domain", "mx.example", GOOD, ["--domains", "a.example,b_c"], ["Anna"]),
     (2, "bad box", "mx.example", GOOD, [], ["anna", "anna", ".ben"]),
     (2, "bad box", "mx.example", GOOD, [], [*MANY[1:], "Anna"]),
+    (2, "bad box", "mx.example", GOOD, ["--mailbox-suffix", "ck"], ["anna", "anna", "a.lo"]),
+    (2, "bad box", "mx.example", GOOD, ["--mailbox-suffix="], [*MANY, "a.lock"]),
+    (2, "bad domain", "mx.example", GOOD, ["--domains", "b_c", "--mailbox-suffix="], ["a.lock"]),
+    (2, "too many boxes", "mx.example", GOOD, ["--mailbox-suffix="], MANY),
+    (2, "box named twice", "mx.example", GOOD, ["--mailbox-suffix", ".x"], ["a.lock", "a.lock"]),
     (2, "too many boxes", "mx.example", GOOD, [], MANY),
     (2, "too many boxes", "mx.example", GOOD, [], [*MANY, "box1"]),
     (2, "box named twice", "mx.example", GOOD, ["--lanes", 65], ["anna", "ben", "anna"]),
 ]
-# Where the folder has folders in anna's and dora's place, and PORT is taken.
+# Where the folder has folders in anna's and dora's place, under these suffixes too, and PORT is taken.
 LATER_ROWS = [
     ("cannot open anna.mbox", "PORT", ["--lanes", 65], ["ben", "anna", "carl"]),
     ("cannot open dora.mbox", "PORT", ["--lanes", 65], ["ben", "dora", "anna"]),
+    ("cannot open anna.mail", "PORT", ["--mailbox-suffix", ".mail", "--lanes", 65], ["ben", "anna"]),
+    ("cannot open dora", "PORT", ["--mailbox-suffix=", "--lanes", 65], ["dora", "anna"]),
     ("cannot listen", "PORT", ["--lanes", 65], ["ben"]),
     ("size", GOOD, ["--lanes", 65], ["ben"]),
     ("size", GOOD, ["--lanes", 0], ["ben"]),
@@ -85,6 +92,13 @@ NUMBERS = [
     ("--mailbox-mode", "00600"),
     ("--mailbox-mode", " 600"),
     ("--mailbox-mode", "u=rw"),
+    ("--mailbox-suffix", "x" * 33),
+    ("--mailbox-suffix", "/"),
+    ("--mailbox-suffix", ".mail/"),
+    ("--mailbox-suffix", " "),
+    ("--mailbox-suffix", ".mä"),
+    ("--mailbox-suffix", ".mail\n"),
+    ("--mailbox-suffix", "%"),
     ("--socket-mode", ""),
     ("--socket-mode", "8"),
     ("--socket-mode", "+660"),
@@ -132,7 +146,7 @@ def a_file_of_mailboxes(folder):
 
 
 # What a file of mailboxes has, the names among the words before it, and what is said of the name: {} stands for the
-# file's path and the line that follows.
+# file's path and the line that follows. A word that begins with - is one of the program, and comes before the names.
 NAMES = [
     (None, ["anna", "Frieda"], "bad box name=Frieda"),
     (b"Anna\n", ["anna", "Frieda"], "bad box name=Frieda"),
@@ -148,6 +162,12 @@ NAMES = [
     (b"a" * 61, [], f"bad box name={'a' * 60}.. file={{}} line=1"),
     (b"ben\n" + b"a" * 10_000 + b"\n", [], f"bad box name={'a' * 60}.. file={{}} line=2"),
     (b"\xff" * 61, [], f"bad box name={'%FF' * 60}.. file={{}} line=1"),
+    (None, ["--mailbox-suffix=", "anna", "a.lock"], "bad box name=a.lock"),
+    (None, ["--mailbox-suffix=ck", "anna", "a.lock", "a.lo", "b.lo"], "bad box name=a.lo"),
+    (b"anna\nben\n", ["--mailbox-suffix=.lock"], "bad box name=anna file={} line=1"),
+    (b"anna\nben.source.lock # no\n", ["--mailbox-suffix=", "carl"], "bad box name=ben.source.lock file={} line=2"),
+    (b"b.lock\nBen\na.lock\n", ["--mailbox-suffix=.x"], "bad box name=Ben file={} line=2"),
+    (b"b.lock\nanna\nb.lock\n", [], "box named twice name=b.lock file={} line=3"),
     (b"anna\nanna\n" + "\n".join(MANY).encode() + b"\nAnna\n", [], "bad box name=Anna file={} line=260"),
     (None, MANY, "too many boxes name=box256"),
     (b"# all\n" + "\n".join(MANY).encode(), [], "too many boxes name=box256 file={} line=258"),
@@ -167,6 +187,8 @@ def names_that_cannot_be_used_are_said(folder):
     for text, names, said in NAMES:
         boxes.write_bytes(text or b"")
         more = ["--boxes", boxes] if text is not None else []
+        more += [name for name in names if name.startswith("-")]
+        names = [name for name in names if not name.startswith("-")]
         line = f"lmtpd: {said.split(' name=')[0]}"
         named = f"[ERROR lmtpd] {said.format(shown)}"
         for word in [["--log", "error"], ["--log", "info"], ["--check-words"], ["--check-words", "--log", "off"]]:
@@ -205,11 +227,13 @@ def what_the_machine_refuses(folder):
     """a file, then the port, then a size that can't be used: one line, status 1"""
     (folder / "anna.mbox").mkdir()
     (folder / "dora.mbox").mkdir()
+    (folder / "anna.mail").mkdir()
+    (folder / "dora").mkdir()
     listener, port = taken_port()
     with listener:
         for line, listen, more, boxes in LATER_ROWS:
             expects(words(folder, boxes, 1, *more, listen=listen.replace("PORT", f"127.0.0.1:{port}")), 1, line)
-    equal(sorted(path.name for path in folder.iterdir()), ["anna.mbox", "ben.mbox", "dora.mbox"])
+    equal(sorted(path.name for path in folder.iterdir()), ["anna.mail", "anna.mbox", "ben.mail", "ben.mbox", "dora", "dora.mbox"])
 
 
 @case
@@ -245,6 +269,8 @@ def numbers_out_of_range(folder):
     for name in ["--mailbox-mode", "--socket-mode"]:
         mode = f"error: invalid value for '{name} <MODE>': it is 1 to 4 octal digits, 0777 at most"
         equal(run([*good, name, "1777"]).errors[0], mode)
+    suffix = "error: invalid value for '--mailbox-suffix <SUFFIX>': it is at most 32 letters, digits, ., _ and -"
+    equal(run([*good, "--mailbox-suffix", "/"]).errors[0], suffix)
     equal(list(folder.iterdir()), [])
 
 
@@ -255,6 +281,7 @@ def the_ends_of_what_a_lock_is_waited_for_and_of_a_mode(folder):
     taken += [("--session-time", value) for value in [1, 3_600, 86_400]]
     taken += [("--stop-file", "0"), ("--socket-mode", "0600"), ("--socket-mode", "0777")]
     taken += [("--mailbox-mode", value) for value in ["0", "7", "600", "0600", "0777", "777", "0000", "660"]]
+    taken += [("--mailbox-suffix", value) for value in ["", ".", "x", "-", "_", "x" * 32, ".A-z_0.9", ".lock.x", ".mbox"]]
     for name, value in taken:
         expects(words(folder, ["anna"], 1, name, value, listen=BAD), 2, "bad address")
 
@@ -279,6 +306,7 @@ def help_is_no_refusal(_folder):
             "0 to 3600 [default: 10]",
             "0 to 0777 [default: 0600]",
             "0 to 0777 [default: 0660]",
+            "[default: .mbox]",
             "1 to 86400 [default: 3600]",
             "lmtpd serve --host",
             "Exit status:",

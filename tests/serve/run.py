@@ -19,6 +19,7 @@ import readers  # noqa: F401
 import refusals  # noqa: F401
 import sockets  # noqa: F401
 import stopping  # noqa: F401
+import suffixes  # noqa: F401
 import torn_tails  # noqa: F401
 import torn_writes  # noqa: F401
 import unopened  # noqa: F401

@@ -70,6 +70,7 @@ module _ (txn : Txn) (place k : ℕ) (heard : List Slip) where
         mailbox = box;
         sender = t.session.sender;
         client = t.session.client;
+        utf8 = t.session.utf8;
         moment = t.disposition.moment;
         message = t.message;
       } in

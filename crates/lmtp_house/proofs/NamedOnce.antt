@@ -138,6 +138,7 @@ places txn place k t p (box ∷ boxes) =
       mailbox = box;
       sender = t.session.sender;
       client = t.session.client;
+      utf8 = t.session.utf8;
       moment = t.disposition.moment;
       message = t.message;
     } in

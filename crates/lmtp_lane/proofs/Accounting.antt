@@ -217,6 +217,7 @@ copies_told lane n session moment message told place (r ∷ rs) =
       mailbox = r;
       sender = session.sender;
       client = session.client;
+      utf8 = session.utf8;
       moment = moment;
       message = message;
     } ∷ l)

@@ -87,6 +87,7 @@ copy_at lane t place box = record {
   mailbox = box;
   sender = t.session.sender;
   client = t.session.client;
+  utf8 = t.session.utf8;
   moment = t.disposition.moment;
   message = t.message;
 }

@@ -1,5 +1,5 @@
 -- What a lane's log knows of the letter under way, where its lines show addresses.
-use Rattle.std.specs.Prelude.{ℕ, ◌-◌, ◌^◌, nat_lt, List, [], ◌∷◌, ◌++◌, length, take, drop, if◌then◌else◌, Option, Some}
+use Rattle.std.specs.Prelude.{ℕ, Bool, true, ◌-◌, ◌^◌, nat_lt, List, [], ◌∷◌, ◌++◌, length, take, drop, if◌then◌else◌, Option, Some}
 use Rattle.std.specs.Prelude.{None, Ok}
 use Rattle.std.specs.Option.{option_map_or}
 use Rattle.mail_world.specs.declared.Reply.{Reply}
@@ -24,16 +24,18 @@ address_text a = take a.size a.bytes
 
 -- the address of a command as it is spelled, without brackets and route
 abbrev pub address_of : Answer → Option (List ℕ)
-address_of (Ok (Mail sender)) = Some (take PATH_LIMIT sender)
+address_of (Ok (Mail sender utf8)) = Some (take PATH_LIMIT sender)
 address_of (Ok (Rcpt target)) = Some (take PATH_LIMIT (mailbox_text target))
 address_of _ = None
 
--- the address that a command line names, where it can be read, whatever the size that MAIL says
-abbrev pub address_in : List ℕ → Option (List ℕ)
-address_in line = address_of (command_at (2 ^ 32 - 1) line)
+-- the address that a command line names, where it can be read, whatever the size that MAIL says. `utf8`: it may be in
+-- UTF-8
+abbrev pub address_in : Bool → List ℕ → Option (List ℕ)
+address_in utf8 line = address_of (command_at (record { message_limit = 2 ^ 32 - 1; utf8 = utf8 }) line)
 
+-- the same of a line that was accepted: what is in UTF-8 was offered then
 abbrev pub named_by : List ℕ → List ℕ
-named_by line = option_map_or (λ text. text) (address_in line) []
+named_by line = option_map_or (λ text. text) (address_in true line) []
 
 -- one more recipient, as many as a message may have
 abbrev pub with_recipient : LoggedLetter → List ℕ → LoggedLetter

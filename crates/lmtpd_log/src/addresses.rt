@@ -97,13 +97,14 @@ impl Addresses {
         Some(at)
     }
 
-    /// Keeps the address that a command line names: where it is. None where it names none.
-    pub(crate) fn keep(&mut self, line: &[u8]) -> Option<u32>
+    /// Keeps the address that a command line names, which may be in UTF-8 at some sites: where it is. None where it
+    /// names none.
+    pub(crate) fn keep(&mut self, line: &[u8], utf8: bool) -> Option<u32>
         requires room { length (kept_texts self.old) + 2 ≤ KEPT_LIMIT }
         ensures letter { logged_letter self.new ≡ logged_letter self.old }
-        ensures kept { KeepsOne (address_in line.now) (kept_texts self.old) result (kept_texts self.new) }
+        ensures kept { KeepsOne (address_in utf8 line.now) (kept_texts self.old) result (kept_texts self.new) }
     {
-        let address = address_in(line)?;
+        let address = address_in(line, utf8)?;
         let at = self.kept.len() as u32;
         self.kept.push_reserved(address);
         Some(at)

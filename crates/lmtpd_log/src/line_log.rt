@@ -166,7 +166,7 @@ impl<G: Log + Drop, C: Clock + Drop> LineLog<G, C> {
         ensures letter { letter_in self.new ≡ letter_in self.old }
     {
         match &mut self.addresses {
-            Some(addresses) => addresses.keep(line),
+            Some(addresses) => addresses.keep(line, self.site.utf8()),
             None => None,
         }
     }

@@ -8,7 +8,7 @@ ghost use Rattle.lmtpd_log.specs.Letters.{address_in, address_text, named_by};
 ghost use Rattle.lmtpd_log.specs.Shown.{shown_address};
 
 use crate::address::Address;
-use lmtp_text::{Command, Target, read_command_at};
+use lmtp_text::{Command, Extensions, Target, read_command_at};
 use percent_encoding::{AsciiSet, CONTROLS, ascii_set, percent_encode};
 use std::fmt;
 use std::fmt::{Display, Formatter};
@@ -17,22 +17,26 @@ use std::fmt::{Display, Formatter};
 pub const ESCAPED: AsciiSet = ascii_set!(CONTROLS.add(b' '));
 
 /// The address that a command line names, where it is one of MAIL or RCPT that can be read. A size that MAIL says is
-/// not looked at.
-pub(crate) fn address_in(line: &[u8]) -> Option<Address>
-    ensures { option_map address_text result ≡ address_in line.now }
+/// not looked at. `utf8`: the address may be in UTF-8.
+pub(crate) fn address_in(line: &[u8], utf8: bool) -> Option<Address>
+    ensures { option_map address_text result ≡ address_in utf8 line.now }
 {
-    match read_command_at(line, u32::MAX) {
-        Ok(Command::Mail(sender)) => Some(sender_address(sender)),
+    let offered = Extensions {
+        message_limit: u32::MAX,
+        utf8,
+    };
+    match read_command_at(line, offered) {
+        Ok(Command::Mail { sender, .. }) => Some(sender_address(sender)),
         Ok(Command::Rcpt(target)) => Some(recipient_address(target)),
         _ => None,
     }
 }
 
-/// The same, and the null reverse path where it names none.
+/// The same of a line that was accepted, and the null reverse path where it names none.
 pub(crate) fn named_by(line: &[u8]) -> Address
     ensures { address_text result ≡ named_by line.now }
 {
-    address_in(line).unwrap_or(Address::empty())
+    address_in(line, true).unwrap_or(Address::empty())
 }
 
 fn sender_address(sender: &[u8]) -> Address

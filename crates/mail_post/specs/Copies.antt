@@ -12,10 +12,17 @@ copy_of txn place mailbox envelope message = record {
   mailbox = mailbox;
   sender = envelope.sender;
   client = envelope.client;
+  utf8 = envelope.utf8;
   moment = envelope.moment;
   message = message;
 }
 
 -- what a copy's record is headed by
 abbrev pub envelope_of : Note → Envelope
-envelope_of note = record { sender = note.sender; client = note.client; txn = note.txn; moment = note.moment }
+envelope_of note = record {
+  sender = note.sender;
+  client = note.client;
+  utf8 = note.utf8;
+  txn = note.txn;
+  moment = note.moment;
+}

@@ -80,6 +80,7 @@ impl<N: DepotName> Exchange<N> {
             self.alloc,
             session.sender(),
             session.client(),
+            session.utf8(),
             txn,
             mark.moment,
         );
