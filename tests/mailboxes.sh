@@ -1,7 +1,7 @@
 #!/usr/bin/env bash
-# Mailboxes that the program writes, as others read them: it rehearses messages whose lines look like From lines,
-# and `git mailsplit --mboxrd` and Python's `mailbox` must find the same letters, in their order. The other way,
-# the mailbox that a test of `read_mailbox` takes as Python's must be what Python writes here.
+# Mailboxes that the program writes, as others read them: it rehearses messages whose lines look like From lines, and
+# one from a sender in UTF-8, and `git mailsplit --mboxrd` and Python's `mailbox` must find the same letters, in their
+# order. The other way, the mailbox that a test of `read_mailbox` takes as Python's must be what Python writes here.
 # It prints one line a case, and fails where a case does. LMTPD names a program that is built already.
 set -euo pipefail
 cd "$(dirname "$0")/.."
@@ -30,6 +30,8 @@ MESSAGES = [
     (b"carl@a.example", ["anna"], [b"", b"", b"From a " + DATE, b"", b""]),
     (b"dora@b.example", ["ben", "anna"], [b"From:", b"..", b"\xff\x00\t", b"a\rb", b"c\r", b">" * 3000 + b"From "]),
     (b"carl@a.example", ["ben"], [b"x" * 5000, b""] * 3),
+    (b"j\xc3\xbcrgen@b\xc3\xbc.example", ["anna", "ben"], [b"Subject: Gr\xc3\xbc\xc3\x9fe", b"", b"From here"]),
+    (b"carl@a.example", ["anna"], [b"Subject: after it"]),
 ]
 
 
@@ -62,7 +64,7 @@ def letters(box):
 
 def rehearse():
     """The bytes of each mailbox that the program prints after the replies."""
-    words = [os.environ["LMTPD"], "rehearse", "--host", "mx.example", "--time", "0"] + BOXES
+    words = [os.environ["LMTPD"], "rehearse", "--host", "mx.example", "--time", "0", "--smtputf8", *BOXES]
     given = b"".join(line + b"\r\n" for line in dialogue())
     said = subprocess.run(words, input=given, stdout=subprocess.PIPE, check=True).stdout
     written, at = {}, 0

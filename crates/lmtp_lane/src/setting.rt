@@ -24,7 +24,15 @@ impl LaneStart for Brand {
     ghost use Rattle.std.specs.Prelude.{⊤, [], None, false};
     ghost use Rattle.lmtp_lane.specs.LaneStart.{no_inbox};
 
-    ghost site = { record { host = []; domains = []; boxes = []; message_limit = 0; recipient_delimiter = None } };
+    ghost site = { record {
+      host = [];
+      domains = [];
+      boxes = [];
+      message_limit = 0;
+      recipient_delimiter = None;
+      utf8 = false;
+      renames_marks = false;
+    } };
 
     ghost May = { λ moment. ⊤ };
 
