@@ -14,7 +14,7 @@ from in_a_machine import in_a_machine
 from machine import PATH
 from packages import program
 from pages import lines_of, type_lines
-from readers_delete import MUTT, ByMutt
+from readers_delete import MUTT, ByMailx, ByMutt
 from replies import stored
 from server import run
 from service import Service
@@ -123,6 +123,22 @@ def mutt_deletes_while_letters_come(folder):
     equal((whose(FOLDER), whose(MAILBOX)), ("root mail 2775", "anna mail 660"))
 
 
+@case
+@in_a_machine(*S_NAIL)
+def s_nail_deletes_while_letters_come(folder):
+    """a mailbox /var/mail/anna, by the typed lines: beside clients that deliver without a pause s-nail as anna saves and
+    deletes; each letter is there once or was deleted once"""
+    beside = BesideUsers(folder)
+    beside.judge(beside.run({"snail": BySNail(beside)}, seconds=SECONDS))
+    equal((whose(FOLDER), whose(MAILBOX)), ("root mail 2775", "anna mail 660"))
+
+
+class BySNail(ByMailx):
+    def __init__(self, beside):
+        self.beside, self.command = beside, program("s-nail", "s-nail")
+        self.saved = beside.home / "saved"
+
+
 class BesideUsers(Beside):
     """She is a user of the machine, whose mailbox has her name."""
 
@@ -160,7 +176,12 @@ def dovecot_as_debian_has_it(_folder):
         equal((pathlib.Path("/home/anna/mail/Kept").owner(), service.restarts()), ("anna", 0))
 
 
-for one in [programs_find_it_by_themselves, mutt_deletes_while_letters_come, dovecot_as_debian_has_it]:
+for one in [
+    programs_find_it_by_themselves,
+    mutt_deletes_while_letters_come,
+    s_nail_deletes_while_letters_come,
+    dovecot_as_debian_has_it,
+]:
     one.seconds = SECONDS + 180
 
 
