@@ -1,5 +1,5 @@
-"""Mailboxes in Debian's /var/mail, called as their users are, as docs/operating/MAILBOXES.md sets them up: users' programs
-without configuration, and Dovecot as Debian has it."""
+"""Mailboxes in Debian's /var/mail, called as their users are, as docs/operating/MAILBOXES.md sets them up: users'
+programs without configuration, and Dovecot as Debian has it."""
 
 import imaplib
 import pathlib
@@ -26,7 +26,10 @@ HEADING = "### Mailboxes in /var/mail"
 ANNA = {"user": "anna", "group": "anna", "extra_groups": []}
 PROCMAIL, S_NAIL = [("procmail", "procmail")], [("s-nail", "s-nail")]
 # It finds her mailbox by itself; the first letter goes, and the lock file is made by Debian's mutt_dotlock.
-BY_MUTT = "mutt -n -F /dev/null -e 'set delete=yes move=no quit=yes' -e 'push 1<enter><delete-message><sync-mailbox><exit>'"
+BY_MUTT = (
+    "mutt -n -F /dev/null -e 'set delete=yes move=no quit=yes' "
+    "-e 'push 1<enter><delete-message><sync-mailbox><exit>'"
+)
 DOVECOT = """
 cat > /etc/dovecot/local.conf << 'END'
 mail_location = mbox:~/mail:INBOX=/var/mail/%u
@@ -68,8 +71,8 @@ class ServiceOfUsers(Service):
 
     def stands(self, *expected):
         """These letters stand in the mailbox, in this order; the folder, and owner, group and mode are as they were."""
-        found = [line.removeprefix("Subject: ") for line in MAILBOX.read_text().splitlines() if line.startswith("Subject: ")]
-        equal(found, list(expected))
+        found = [line for line in MAILBOX.read_text().splitlines() if line.startswith("Subject: ")]
+        equal(found, [f"Subject: {subject}" for subject in expected])
         equal(run(["check", MAILBOX]).said, [f"{MAILBOX} letters {len(expected)}"])
         equal((whose(FOLDER), whose(MAILBOX)), ("root mail 2775", "anna mail 660"))
         equal(self.lock_file("anna").exists(), False)
@@ -126,8 +129,8 @@ def mutt_deletes_while_letters_come(folder):
 @case
 @in_a_machine(*S_NAIL)
 def s_nail_deletes_while_letters_come(folder):
-    """a mailbox /var/mail/anna, by the typed lines: beside clients that deliver without a pause s-nail as anna saves and
-    deletes; each letter is there once or was deleted once"""
+    """a mailbox /var/mail/anna, by the typed lines: beside clients that deliver without a pause s-nail as anna saves
+    and deletes; each letter is there once or was deleted once"""
     beside = BesideUsers(folder)
     beside.judge(beside.run({"snail": BySNail(beside)}, seconds=SECONDS))
     equal((whose(FOLDER), whose(MAILBOX)), ("root mail 2775", "anna mail 660"))
