@@ -3,3 +3,4 @@ pub mod Orders
 pub mod Paths
 mod Whole
 pub mod WrongNames
+pub mod Pushed

@@ -1,4 +1,5 @@
 pub mod Boxes
+pub mod Curfew
 pub mod Faults
 pub mod Lines
 pub mod Mailboxes
