@@ -1,6 +1,6 @@
 //! The site that the program's words name.
 
-ghost use Rattle.std.specs.Prelude.{◌≡◌, ◌⊎◌, ◌++◌, true, Some, None, IfOk, MatchResult};
+ghost use Rattle.std.specs.Prelude.{◌≡◌, ◌⊎◌, ◌++◌, true, false, Some, None, IfOk, MatchResult};
 ghost use Rattle.std.specs.Arc.{arc_value};
 ghost use Rattle.mail_world.specs.Site.{IsSite};
 ghost use Rattle.std.specs.List.{list_all};
@@ -29,9 +29,28 @@ pub fn site_of(alloc: Global, words: &SiteWords) -> Result<Site, Fault>
     let host = words.host.as_bytes();
     let site = make_site(alloc, host, &domains, words.mailbox_suffix, &words.boxes)?;
     let site = site.with_message_limit(words.message_limit);
-    match words.recipient_delimiter {
-        Some(delimiter) => Ok(site.with_recipient_delimiter(delimiter)),
-        None => Ok(site),
+    let site = match words.recipient_delimiter {
+        Some(delimiter) => site.with_recipient_delimiter(delimiter),
+        None => site,
+    };
+    Ok(with_marks(with_utf8(site, words.smtputf8), words.rename_marks))
+}
+
+fn with_utf8(site: Site, utf8: bool) -> Site
+    requires { site.utf8 ≡ false }
+    ensures { result ≡ record site { utf8 = utf8 } }
+{
+    if utf8 { site.with_utf8() } else { site }
+}
+
+fn with_marks(site: Site, renames_marks: bool) -> Site
+    requires { site.renames_marks ≡ false }
+    ensures { result ≡ record site { renames_marks = renames_marks } }
+{
+    if renames_marks {
+        site.with_renamed_marks()
+    } else {
+        site
     }
 }
 
