@@ -29,25 +29,28 @@ pub fn site_of(alloc: Global, words: &SiteWords) -> Result<Site, Fault>
     let host = words.host.as_bytes();
     let site = make_site(alloc, host, &domains, words.mailbox_suffix, &words.boxes)?;
     let site = site.with_message_limit(words.message_limit);
-    let site = match words.recipient_delimiter {
-        Some(delimiter) => site.with_recipient_delimiter(delimiter),
-        None => site,
-    };
-    Ok(with_marks(with_utf8(site, words.smtputf8), words.rename_marks))
+    let site = with_utf8_where_asked(site, words.smtputf8);
+    let site = with_renamed_marks_where_asked(site, words.rename_marks);
+    match words.recipient_delimiter {
+        Some(delimiter) => Ok(site.with_recipient_delimiter(delimiter)),
+        None => Ok(site),
+    }
 }
 
-fn with_utf8(site: Site, utf8: bool) -> Site
+#[tactic(auto, using(crate::proofs::Asked::same_utf8))]
+fn with_utf8_where_asked(site: Site, is_asked: bool) -> Site
     requires { site.utf8 ≡ false }
-    ensures { result ≡ record site { utf8 = utf8 } }
+    ensures { result ≡ record site { utf8 = is_asked } }
 {
-    if utf8 { site.with_utf8() } else { site }
+    if is_asked { site.with_utf8() } else { site }
 }
 
-fn with_marks(site: Site, renames_marks: bool) -> Site
+#[tactic(auto, using(crate::proofs::Asked::same_marks))]
+fn with_renamed_marks_where_asked(site: Site, is_asked: bool) -> Site
     requires { site.renames_marks ≡ false }
-    ensures { result ≡ record site { renames_marks = renames_marks } }
+    ensures { result ≡ record site { renames_marks = is_asked } }
 {
-    if renames_marks {
+    if is_asked {
         site.with_renamed_marks()
     } else {
         site
