@@ -4,3 +4,4 @@ pub mod Paths
 mod Whole
 pub mod WrongNames
 pub mod Pushed
+mod Asked

@@ -5,7 +5,7 @@ use Rattle.std.specs.Borrow.{Bor}
 use Rattle.std.specs.List.{list_all}
 use Rattle.std.proofs.lemmas.Bool.{eqb-true}
 use Rattle.std.proofs.lemmas.List.{length-map}
-use Rattle.mail_world.specs.Site.{Site, Fault as Rule, BadHost, BadDomain, BadCount, BadBox, NamedTwice, fault_of, is_host_name, is_box_name, has_twice}
+use Rattle.mail_world.specs.Site.{Site, Fault as Rule, BadHost, BadDomain, BadCount, BadBox, NamedTwice, fault_of, is_host_name, is_domain_name, is_box_name, has_twice}
 use Rattle.mail_world.specs.declared.limits.TheConstants.{BOX_LIMIT}
 use Rattle.lmtp_text.specs.Sites.{cause, texts, site_of}
 use Rattle.lmtp_text.specs.declared.site.SiteFault.{SiteFault}
@@ -58,7 +58,7 @@ broken_said : (suffix : List ℕ) (site : Site) (rule : Rule) → has_none site 
     → (list_all (is_usable_name suffix) site.boxes ≡ true) ⊎ ((has_too_many site ≡ false) × (has_twice site.boxes ≡ false))
     → fault_of site ≡ Some rule → first_fault suffix site ≡ Some (refusal (cause rule))
 broken_said suffix site rule some o e =
-    rule_said (has_none site) (is_host_name site.host) (list_all is_host_name site.domains) (has_too_many site) (list_all is_box_name site.boxes)
+    rule_said (has_none site) (is_host_name site.host) (list_all is_domain_name site.domains) (has_too_many site) (list_all is_box_name site.boxes)
     (has_twice site.boxes) (list_all (is_usable_name suffix) site.boxes) rule some (usable_named suffix site.boxes) o e
 
 refused : (site : Site) (o : Option Rule) (said : Option Fault) (e : SiteFault) → fault_of site ≡ o
@@ -100,7 +100,7 @@ none_said false true true false true false true some all e = refl
 pub site_made : (suffix : List ℕ) (site : Site) → has_none site ≡ false → list_all (is_usable_name suffix) site.boxes ≡ true → fault_of site ≡ None
     → first_fault suffix site ≡ None
 site_made suffix site some all sound =
-    none_said (has_none site) (is_host_name site.host) (list_all is_host_name site.domains) (has_too_many site) (list_all is_box_name site.boxes)
+    none_said (has_none site) (is_host_name site.host) (list_all is_domain_name site.domains) (has_too_many site) (list_all is_box_name site.boxes)
     (has_twice site.boxes) (list_all (is_usable_name suffix) site.boxes) some all sound
 
 -- a mailbox that alone makes a site: what is said by the name of its file
@@ -117,7 +117,7 @@ lock_said true true true true e = refl
 pub one_made : (host : List ℕ) (domains : List (Bor (List ℕ))) (suffix name : List ℕ) (lock : Bool) → is_lock_name (name ++ suffix) ≡ lock
     → fault_of (site_of_one host domains name) ≡ None → first_fault suffix (site_of_one host domains name) ≡ cond lock (Some fault.Box) None
 one_made host domains suffix name lock is sound =
-    lock_said (is_host_name host) (list_all is_host_name (texts domains)) (is_box_name name) (is_lock_name (name ++ suffix)) sound
+    lock_said (is_host_name host) (list_all is_domain_name (texts domains)) (is_box_name name) (is_lock_name (name ++ suffix)) sound
     ∙ ap (λ l. cond l (Some fault.Box) None) is
 
 usable_of : (h d u : Bool) (x : Option Fault)
@@ -131,7 +131,7 @@ usable_of true true true x e = refl
 pub box_named : (host : List ℕ) (domains : List (Bor (List ℕ))) (suffix name : List ℕ) → first_fault suffix (site_of_one host domains name) ≡ None
     → is_usable_name suffix name ≡ true
 box_named host domains suffix name e =
-    usable_of (is_host_name host) (list_all is_host_name (texts domains)) (is_usable_name suffix name) None e
+    usable_of (is_host_name host) (list_all is_domain_name (texts domains)) (is_usable_name suffix name) None e
 
 lifted : (n h d u all : Bool) (rest : Option Fault) (f : Fault) → n ≡ false → (u ≡ false → all ≡ false)
     → cond (not h) (Some fault.Host) (cond (not d) (Some fault.Domain) (cond (not (u && true)) (Some fault.Box) None)) ≡ Some f
@@ -149,7 +149,7 @@ pub box_refused : (host : List ℕ) (domains boxes : List (Bor (List ℕ))) (suf
     → (is_usable_name suffix name ≡ false → list_all (is_usable_name suffix) (texts boxes) ≡ false)
     → first_fault suffix (site_of host domains boxes) ≡ Some f
 box_refused host domains boxes suffix name f e some bad =
-    lifted (has_none (site_of host domains boxes)) (is_host_name host) (list_all is_host_name (texts domains)) (is_usable_name suffix name)
+    lifted (has_none (site_of host domains boxes)) (is_host_name host) (list_all is_domain_name (texts domains)) (is_usable_name suffix name)
     (list_all (is_usable_name suffix) (texts boxes))
     (cond (has_too_many (site_of host domains boxes)) (Some fault.TooManyBoxes) (cond (has_twice (texts boxes)) (Some fault.BoxTwice) None)) f some bad e
 

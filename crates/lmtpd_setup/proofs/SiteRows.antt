@@ -4,8 +4,15 @@ use Rattle.lmtpd_setup.specs.declared.fault.Fault.TheVariants as fault
 use Rattle.lmtpd_setup.specs.Faults.{first_fault, is_usable_name}
 
 -- no mailbox, which is looked for before a bad host
-pub no_box : first_fault (codes ".mbox") (record { host = codes "mx_example"; domains = []; boxes = []; message_limit = 1048576; recipient_delimiter = None })
-    ≡ Some fault.NoBox
+pub no_box : first_fault (codes ".mbox") (record {
+  host = codes "mx_example";
+  domains = [];
+  boxes = [];
+  message_limit = 1048576;
+  recipient_delimiter = None;
+  utf8 = false;
+  renames_marks = false;
+}) ≡ Some fault.NoBox
 no_box = refl
 
 -- a file that is called as a lock file is, by its name, by the suffix, by both; and files that aren't

@@ -9,7 +9,7 @@ use Rattle.std.specs.Str.{bytes_eq}
 use Rattle.std.proofs.lemmas.Bool.Decides.{nat_tests}
 use Rattle.std.proofs.lemmas.Cmp.{nat_list_eq_equiv}
 use Rattle.std.proofs.lemmas.List.{drop_more, length-map, map-append, take_more}
-use Rattle.mail_world.specs.Site.{has_text, has_twice, is_host_name}
+use Rattle.mail_world.specs.Site.{has_text, has_twice, is_host_name, is_domain_name}
 use Rattle.mail_world.specs.declared.limits.TheConstants.{BOX_LIMIT}
 use Rattle.lmtp_text.specs.Sites.{texts}
 use Rattle.lmtpd_words.specs.Words.{named_site}
@@ -114,21 +114,21 @@ no_name words fault.Box first all =
     let site = named_site words in
     let usable = is_usable_name words.mailbox_suffix.now in
     let bad : list_all usable site.boxes ≡ false =
-    bad_of (length site.boxes == 0) (is_host_name site.host) (list_all is_host_name site.domains) (list_all usable site.boxes)
+    bad_of (length site.boxes == 0) (is_host_name site.host) (list_all is_domain_name site.domains) (list_all usable site.boxes)
     (nat_lt BOX_LIMIT (length site.boxes)) (has_twice site.boxes) first in
     absurd (true≢false (sym (all_good usable site.boxes all) ∙ bad))
 no_name words fault.TooManyBoxes first all =
     let site = named_site words in
     let usable = is_usable_name words.mailbox_suffix.now in
     let many : nat_lt BOX_LIMIT (length site.boxes) ≡ true =
-    many_of (length site.boxes == 0) (is_host_name site.host) (list_all is_host_name site.domains) (list_all usable site.boxes)
+    many_of (length site.boxes == 0) (is_host_name site.host) (list_all is_domain_name site.domains) (list_all usable site.boxes)
     (nat_lt BOX_LIMIT (length site.boxes)) (has_twice site.boxes) first in
     absurd (over BOX_LIMIT (length site.boxes) many all)
 no_name words fault.BoxTwice first all =
     let site = named_site words in
     let usable = is_usable_name words.mailbox_suffix.now in
     let twice : has_twice site.boxes ≡ true =
-    twice_of (length site.boxes == 0) (is_host_name site.host) (list_all is_host_name site.domains) (list_all usable site.boxes)
+    twice_of (length site.boxes == 0) (is_host_name site.host) (list_all is_domain_name site.domains) (list_all usable site.boxes)
     (nat_lt BOX_LIMIT (length site.boxes)) (has_twice site.boxes) first in
     absurd (true≢false (sym twice ∙ none_twice [] site.boxes refl all))
 no_name words fault.Address first all = refl

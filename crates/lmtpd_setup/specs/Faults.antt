@@ -4,7 +4,7 @@ use Rattle.std.specs.Prelude.{Option, Some, None, codes}
 use Rattle.std.specs.Borrow.{Bor}
 use Rattle.std.specs.List.{ends_with, list_all}
 use Rattle.mail_world.specs.declared.limits.TheConstants.{BOX_LIMIT, MESSAGE_LIMIT}
-use Rattle.mail_world.specs.Site.{Site, is_host_name, is_box_name, has_twice}
+use Rattle.mail_world.specs.Site.{Site, is_host_name, is_domain_name, is_box_name, has_twice}
 use Rattle.lmtp_text.specs.Sites.{texts}
 use Rattle.lmtp_text.specs.declared.site.SiteFault.{SiteFault}
 use Rattle.lmtp_text.specs.declared.site.SiteFault.TheVariants as cause
@@ -82,7 +82,7 @@ abbrev pub first_fault : List ℕ → Site → Option Fault
 first_fault suffix site =
     if length site.boxes == 0 then Some fault.NoBox
     else if not (is_host_name site.host) then Some fault.Host
-    else if not (list_all is_host_name site.domains) then Some fault.Domain
+    else if not (list_all is_domain_name site.domains) then Some fault.Domain
     else if not (list_all (is_usable_name suffix) site.boxes) then Some fault.Box
     else if nat_lt BOX_LIMIT (length site.boxes) then Some fault.TooManyBoxes
     else if has_twice site.boxes then Some fault.BoxTwice
@@ -101,6 +101,8 @@ site_of_one host domains name =
       boxes = name ∷ [];
       message_limit = MESSAGE_LIMIT;
       recipient_delimiter = None;
+      utf8 = false;
+      renames_marks = false;
     }
 
 -- why the program ends where clap answers so

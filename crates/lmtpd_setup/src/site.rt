@@ -1,6 +1,6 @@
 //! The site that the program's words name.
 
-ghost use Rattle.std.specs.Prelude.{◌≡◌, ◌⊎◌, ◌++◌, true, Some, None, IfOk, MatchResult};
+ghost use Rattle.std.specs.Prelude.{◌≡◌, ◌⊎◌, ◌++◌, true, false, Some, None, IfOk, MatchResult};
 ghost use Rattle.std.specs.Arc.{arc_value};
 ghost use Rattle.mail_world.specs.Site.{IsSite};
 ghost use Rattle.std.specs.List.{list_all};
@@ -29,9 +29,31 @@ pub fn site_of(alloc: Global, words: &SiteWords) -> Result<Site, Fault>
     let host = words.host.as_bytes();
     let site = make_site(alloc, host, &domains, words.mailbox_suffix, &words.boxes)?;
     let site = site.with_message_limit(words.message_limit);
+    let site = with_utf8_where_asked(site, words.smtputf8);
+    let site = with_renamed_marks_where_asked(site, words.rename_marks);
     match words.recipient_delimiter {
         Some(delimiter) => Ok(site.with_recipient_delimiter(delimiter)),
         None => Ok(site),
+    }
+}
+
+#[tactic(auto, using(crate::proofs::Asked::same_utf8))]
+fn with_utf8_where_asked(site: Site, is_asked: bool) -> Site
+    requires { site.utf8 ≡ false }
+    ensures { result ≡ record site { utf8 = is_asked } }
+{
+    if is_asked { site.with_utf8() } else { site }
+}
+
+#[tactic(auto, using(crate::proofs::Asked::same_marks))]
+fn with_renamed_marks_where_asked(site: Site, is_asked: bool) -> Site
+    requires { site.renames_marks ≡ false }
+    ensures { result ≡ record site { renames_marks = is_asked } }
+{
+    if is_asked {
+        site.with_renamed_marks()
+    } else {
+        site
     }
 }
 

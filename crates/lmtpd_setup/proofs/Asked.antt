@@ -1,0 +1,9 @@
+-- A site that isn't asked for more stays as it is.
+use Rattle.std.proofs.Common.{◌≡◌, Bool, false, ap, sym, ◌∙◌}
+use Rattle.mail_world.specs.Site.{Site}
+
+pub same_utf8 : (site : Site) (asked : Bool) → site.utf8 ≡ false → asked ≡ false → site ≡ record site { utf8 = asked }
+same_utf8 site asked e f = let g : site.utf8 ≡ asked = e ∙ sym f in ap (λ b. record site { utf8 = b }) g
+
+pub same_marks : (site : Site) (asked : Bool) → site.renames_marks ≡ false → asked ≡ false → site ≡ record site { renames_marks = asked }
+same_marks site asked e f = let g : site.renames_marks ≡ asked = e ∙ sym f in ap (λ b. record site { renames_marks = b }) g
