@@ -66,6 +66,11 @@ LINES = [
     b"\r",
     b"mailbox anna 7",
     b"QUIT",
+    b"status: RO",
+    b"X-Was-X-Was-X-UID 7",
+    b"Content-Length : 9",
+    b"a\rX-IMAPbase: 7 4294967295",
+    b"X-Was-\rX-Keywords",
 ]
 ALONE = [
     b"RSET",
@@ -84,6 +89,7 @@ ALONE = [
     b"x" * 1022,
 ]
 INSERTED = [b"\r", b"\n", b"\0", b"\r\n", b".", b"\r\n.\r\n", b"\n.\n", b"\r.\r", b"From ", b" ", b"\xff", b"\xc3\xa4"]
+INSERTED += [b"X-Was-", b"Status:", b"\rX-Status:"]
 
 
 def made(random):

@@ -17,6 +17,7 @@ import replies
 LMTPD = os.environ["LMTPD"]
 BOXES = ["anna", "ben"]
 WORDS = [LMTPD, "rehearse", "--host", "mx.example", "--time", "0", *BOXES]
+FLAGS = ["--smtputf8", "--rename-marks"]  # each of which a case has or not
 SECONDS = 20  # that a case may take
 BATCH = 250  # cases whose mailboxes are read back together
 MOST_SECONDS = 400  # for all cases
@@ -44,7 +45,7 @@ def run(seed, number):
     chance = random.Random(f"{seed} {number}")
     given = conversations.conversation(chance)
     pipes = {"stdin": subprocess.PIPE, "stdout": subprocess.PIPE, "stderr": subprocess.PIPE}
-    words = [*WORDS, "--smtputf8"] if chance.random() < 0.5 else WORDS
+    words = [*WORDS, *(word for word in FLAGS if chance.random() < 0.5)]
     with subprocess.Popen(words, bufsize=0, **pipes) as process:
         try:
             for piece in conversations.pieces(chance, given):

@@ -1,5 +1,5 @@
 -- Where a field ends within a piece.
-use Rattle.std.proofs.Common.{◌≡◌, ℕ, zero, suc, ◌+◌, ◌<◌, ◌≤◌, arith, Bool, true, false, cond, not, ◌&&◌, ◌==◌, List, [], ◌∷◌, ◌++◌, length, take, drop, sym, ap, ◌∙◌, refl, append_assoc}
+use Rattle.std.proofs.Common.{◌≡◌, ℕ, zero, suc, ◌+◌, ◌<◌, ◌≤◌, arith, Bool, true, false, cond, ◌==◌, List, [], ◌∷◌, ◌++◌, length, take, drop, sym, ap, ◌∙◌, refl, append_assoc}
 use Rattle.std.proofs.Common.{subst, ◌-◌, ◌*◌, true≢false}
 use Rattle.std.specs.Prelude.{slice_index}
 use Rattle.std.proofs.lemmas.List.{take_more, take-append-drop, length-drop, drop-drop}
@@ -10,7 +10,6 @@ use Rattle.mail_world.specs.Marks.{ends_field}
 use Rattle.mbox_record.specs.declared.marking.Place.TheVariants.{Line, Field, Inside, Body}
 use Rattle.mbox_record.specs.Marking.{Place, renamed_from, marks_owed, is_unended}
 use Rattle.mbox_record.specs.Marked.{GoesOn, BeginsMark, MayBeHeld, FindsMark, place_weight}
-use Rattle.mbox_record.specs.declared.marking.Found.{Found}
 use Rattle.mbox_record.proofs.Rests.{not_true}
 use Rattle.mbox_record.proofs.Renamed.{unended_run, place_rest, field_ends}
 

@@ -1,20 +1,19 @@
 -- What the first bytes of a field say of it.
-use Rattle.std.proofs.Common.{◌≡◌, ℕ, zero, suc, ◌+◌, ◌≤◌, ◌<◌, List, [], ◌∷◌, ◌++◌, length, take, drop, Bool, true, false, cond, not, ◌&&◌, ◌||◌, ◌==◌}
-use Rattle.std.proofs.Common.{refl, sym, ap, ◌∙◌, subst, inl, inr, arith, append_assoc, append-nil, ap₂, get_or, Option, Some, None}
-use Rattle.std.proofs.lemmas.Bool.{cases_Bool, eqb-true, eqb-false, ne_eqb, eq-eqb, or_parts, or_from, or_left, or_right, and_parts, and_from, not-true, true≢false, false≢true}
+use Rattle.std.proofs.Common.{◌≡◌, ℕ, zero, suc, ◌+◌, ◌≤◌, ◌<◌, List, [], ◌∷◌, ◌++◌, length, take, drop, Bool, true, false, not, ◌||◌, ◌==◌}
+use Rattle.std.proofs.Common.{refl, sym, ap, ◌∙◌, subst, inl, inr, arith, append-nil, ap₂, get_or, Option, Some, None}
+use Rattle.std.proofs.lemmas.Bool.{cases_Bool, eqb-true, eqb-false, ne_eqb, eq-eqb, or_parts, or_from, or_left, or_right, and_parts, and_from, not-true, true≢false}
 use Rattle.std.proofs.lemmas.List.{length-append, take_more, drop_more}
 use Rattle.std.proofs.Math.Seq.{drop-length, take-length}
 use Rattle.std.specs.Prelude.{codes}
-use Rattle.std.specs.List.{list_all}
 use Rattle.std.specs.Char.{to_ascii_lowercase}
-use Rattle.mail_world.specs.Text.{cr, lf, has_byte, begins_with}
+use Rattle.mail_world.specs.Text.{cr, has_byte, begins_with}
 use Rattle.mail_world.specs.Marks.{ends_field, was, has_name, is_named, is_mark}
-use Rattle.mail_world.proofs.Marks.{at_end, no_mark}
+use Rattle.mail_world.proofs.Marks.{at_end}
 use Rattle.mbox_record.specs.declared.marking.Place.TheVariants.{Line, Field, Inside, Body}
 use Rattle.mbox_record.specs.declared.marking.Step.{Step}
 use Rattle.mbox_record.specs.declared.marking.Step.TheVariants as steps
-use Rattle.mbox_record.specs.Marking.{is_empty_line, renamed_from, marks_owed, is_unended}
-use Rattle.mbox_record.specs.Marked.{is_plain_name, IsBegun, Tells, either, GoesOn, BeginsMark, MayBeHeld, IsStep, place_weight}
+use Rattle.mbox_record.specs.Marking.{is_empty_line, renamed_from, is_unended}
+use Rattle.mbox_record.specs.Marked.{is_plain_name, Tells, either, GoesOn, BeginsMark, MayBeHeld, IsStep}
 use Rattle.mbox_record.proofs.Renamed.{unended_stays, after_was, line_first, head_ends}
 
 -- ---- tests that may not be told yet

@@ -1,6 +1,6 @@
 -- Texts that are owed, written one after another.
-use Rattle.std.proofs.Common.{◌≡◌, ℕ, List, [], ◌++◌, sym, ap, ◌∙◌, append_assoc}
-use Rattle.mbox_record.specs.Spool.{SpoolState, SpoolTook, SpoolFailed}
+use Rattle.std.proofs.Common.{◌≡◌, ℕ, List, ◌++◌, sym, ap, ◌∙◌, append_assoc}
+use Rattle.mbox_record.specs.Spool.{SpoolState}
 use Rattle.mbox_record.specs.Quoted.{Pending, quoted_owed}
 use Rattle.mbox_record.specs.Writing.{Writes, Fails}
 use Rattle.mbox_record.proofs.Taken.{SpoolTook-then, SpoolFailed-later}

@@ -1,15 +1,12 @@
 -- Marks renamed in the message as it comes, byte by byte, and in its text whose lines end with LF.
-use Rattle.std.proofs.Common.{◌≡◌, ℕ, zero, suc, ◌≤◌, List, [], ◌∷◌, ◌++◌, length, take, drop, Bool, true, false, cond, not, ◌&&◌, ◌||◌, ◌==◌}
-use Rattle.std.proofs.Common.{refl, sym, ap, ◌∙◌, subst, inl, inr, arith, append_assoc, append-nil}
+use Rattle.std.proofs.Common.{◌≡◌, ℕ, List, [], ◌∷◌, ◌++◌, Bool, true, false, cond, not, ◌&&◌, ◌==◌}
+use Rattle.std.proofs.Common.{refl, sym, ap, ◌∙◌, subst, inl, inr, append-nil}
 use Rattle.std.proofs.lemmas.Bool.{cases_Bool, eqb-true, or_parts, and_parts, not-true}
-use Rattle.std.specs.Str.{byte}
 use Rattle.mail_world.specs.Text.{cr, lf, begins, unix}
-use Rattle.mail_world.specs.Records.{stored_text}
-use Rattle.mail_world.specs.Site.{Site}
 use Rattle.mail_world.specs.Marks.{ends_field, was, is_mark, marked}
-use Rattle.mail_world.proofs.Marks.{at_end, first_part, same_mark, no_mark, is_mark-was, marked_from, marked_bytes}
-use Rattle.mbox_record.specs.declared.marking.Place.TheVariants.{Line, Field, Inside, Body}
-use Rattle.mbox_record.specs.Marking.{Place, is_empty_line, renamed_from, marks_owed, is_unended}
+use Rattle.mail_world.proofs.Marks.{at_end, first_part, same_mark, is_mark-was, marked_from, marked_bytes}
+use Rattle.mbox_record.specs.declared.marking.Place.TheVariants.{Line, Field, Body}
+use Rattle.mbox_record.specs.Marking.{is_empty_line, renamed_from, marks_owed, is_unended}
 
 and_false : (t : Bool) → (t && false) ≡ false
 and_false true = refl

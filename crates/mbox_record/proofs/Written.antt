@@ -1,5 +1,5 @@
 -- A piece of the message, mark by mark.
-use Rattle.std.proofs.Common.{◌≡◌, ℕ, ◌+◌, ◌-◌, ◌*◌, ◌<◌, ◌≤◌, arith, Bool, true, false, cond, List, [], ◌∷◌, ◌++◌, length, take, drop, sym, ap, ◌∙◌, refl, append_assoc, append-nil, subst, Option, Some, None, slice_index_or}
+use Rattle.std.proofs.Common.{◌≡◌, ℕ, ◌+◌, ◌-◌, ◌<◌, ◌≤◌, arith, true, false, cond, List, [], ◌∷◌, ◌++◌, length, take, drop, sym, ap, ◌∙◌, refl, append_assoc, append-nil, Option, Some, None, slice_index_or}
 use Rattle.std.specs.Io.KnownBytes.{Appends}
 use Rattle.mail_world.specs.Counts.{counted}
 use Rattle.std.proofs.lemmas.List.{take_rest}
@@ -12,7 +12,7 @@ use Rattle.mbox_record.specs.declared.marking.Place.TheVariants.{Line, Inside, B
 use Rattle.mbox_record.specs.declared.marking.Found.{Found}
 use Rattle.mbox_record.specs.Quoted.{Pending, quoted_owed}
 use Rattle.mbox_record.specs.Marking.{Place, marks_owed}
-use Rattle.mbox_record.specs.Marked.{FindsMark, MayBeHeld, place_weight}
+use Rattle.mbox_record.specs.Marked.{FindsMark, MayBeHeld}
 use Rattle.mbox_record.specs.Writing.{Writes, Fails, Writer, IsWriter, bytes_owed}
 use Rattle.mbox_record.proofs.Taken.{SpoolTook-then, SpoolTook-as, SpoolFailed-first, SpoolFailed-later, SpoolFailed-as}
 use Rattle.mbox_record.proofs.Renamed.{stored_by}

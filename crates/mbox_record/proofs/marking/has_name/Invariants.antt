@@ -1,4 +1,3 @@
-use Rattle.std.proofs.Common.{◌≤◌, length, take, drop}
 use Rattle.mbox_record.proofs.Fields.{IsMatched}
 use Rattle.mbox_record.proofs.marking.has_name.Given as goal
 

@@ -1,7 +1,5 @@
-use Rattle.std.proofs.Common.{◌≡◌, ℕ, ◌++◌, ◌-◌, arith, List, length, take, drop, ◌∙◌, subst, sym, refl}
+use Rattle.std.proofs.Common.{◌≡◌, drop, ◌∙◌, refl}
 use Rattle.std.proofs.lemmas.List.{take_rest}
-use Rattle.mbox_record.specs.Marked.{MayBeHeld}
-use Rattle.mbox_record.specs.Marking.{Place, marks_owed}
 use Rattle.mbox_record.proofs.Taken.{OnErr-any}
 use Rattle.mbox_record.proofs.Written.{begins, up_to, up_to_fails, with_was, with_was_fails, looks_on, holds}
 use Rattle.mbox_record.proofs.record.write_bytes.Goals as goal

@@ -1,6 +1,6 @@
-use Rattle.std.proofs.Common.{rules, ◌≡◌, ◌<◌, ℕ, arith, List, ◌++◌, length, drop, Result, Ok, Err}
-use Rattle.std.specs.Result.{IfOk, OnErr}
-use Rattle.mbox_record.specs.Writing.{Writer, Writes, Fails, bytes_owed, WritesPiece, FailsPiece}
+use Rattle.std.proofs.Common.{rules, ◌≡◌, ◌<◌, length, drop, Result, Ok, Err}
+use Rattle.std.specs.Result.{IfOk}
+use Rattle.mbox_record.specs.Writing.{Writer}
 use Rattle.mbox_record.proofs.Onward.{Writes-then, Fails-then}
 use Rattle.mbox_record.proofs.Taken.{OnErr-any, OnErr-map}
 use Rattle.mbox_record.proofs.Written.{one_more, writes_held, fails_held, next_rest, none_held}
