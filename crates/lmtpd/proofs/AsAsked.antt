@@ -14,7 +14,7 @@ use Rattle.lmtpd_words.specs.Words.{named_site}
 use Rattle.lmtpd_words.specs.declared.words.ServeWords.{ServeWords}
 use Rattle.lmtpd_setup.specs.declared.fault.Fault.TheVariants as fault
 use Rattle.lmtpd_setup.specs.declared.stop.Stop.TheVariants as stop
-use Rattle.lmtpd_setup.specs.Faults.{first_fault}
+use Rattle.lmtpd_setup.specs.Faults.{site_fault}
 use Rattle.lmtpd.specs.Lacking.{house_refusal}
 use Rattle.lmtpd_listen.specs.Listening.{Names}
 use Rattle.lmtpd_listen.specs.declared.fault.ListenFault.TheVariants as listen
@@ -26,7 +26,7 @@ use Rattle.lmtpd_setup.specs.declared.stop.Stop.{Stop}
 use Rattle.lmtpd.specs.Program.{IsListenAddress, IsNotRun, IsNotServed, IsServedAsAsked, IsSizeAsked, sizes_asked}
 use Rattle.lmtpd.proofs.Unrun.{causes, unrun}
 
-not_run : (words : ServeWords) (cause : HouseFault) → words.check_words ≡ false → IsListenAddress words.listen.now → first_fault (named_site words.site) ≡ None
+not_run : (words : ServeWords) (cause : HouseFault) → words.check_words ≡ false → IsListenAddress words.listen.now → site_fault words.site ≡ None
     → (house_refusal cause ≡ fault.Memory) ⊎ IsNotRun (IsSizeAsked words) (house_refusal cause) → IsNotServed words (stop.Fault (house_refusal cause))
 not_run words cause served address sound (inl memory) = inl (ap stop.Fault memory)
 not_run words cause served address sound (inr why) = inr (inr (address, inr (sound, served, inr (inr why))))
@@ -54,7 +54,7 @@ size_of_sum x Good (inr good) = good
 pub served_as_asked : (L C E : Type 0) {G S : Type 0} (told : G → Option (List Entry)) (state : S → SpoolState) (words : ServeWords) (served : Served)
     (site : Site) (sizes : Sizes) (spools : List S)
     → words.check_words ≡ false
-    → IsListenAddress words.listen.now → (site ≡ named_site words.site) × (first_fault (named_site words.site) ≡ None) → sizes ≡ sizes_asked words
+    → IsListenAddress words.listen.now → (site ≡ named_site words.site) × (site_fault words.site ≡ None) → sizes ≡ sizes_asked words
     → length spools ≡ length words.site.boxes.items
     → (◌≡◌ {A = Result Served HouseFault} (Ok served) (Err house.Size)) ⊎ IsSize site sizes words.lanes (length spools) (length spools)
     → IsServerRun L C E site state told (record { lanes = words.lanes; capacity = sizes.capacity; quota = sizes.quota }) spools served
@@ -75,7 +75,7 @@ served_as_asked L C E told state words served site sizes spools serves address m
 
 pub no_server : (words : ServeWords) (cause : HouseFault) (site : Site) (sizes : Sizes) (count : ℕ)
     → words.check_words ≡ false
-    → IsListenAddress words.listen.now → (site ≡ named_site words.site) × (first_fault (named_site words.site) ≡ None) → sizes ≡ sizes_asked words
+    → IsListenAddress words.listen.now → (site ≡ named_site words.site) × (site_fault words.site ≡ None) → sizes ≡ sizes_asked words
     → count ≡ length words.site.boxes.items
     → (◌≡◌ {A = Result Served HouseFault} (Err cause) (Err house.Size) → IsSize site sizes words.lanes count count → ⊥)
     → (◌≡◌ {A = Result Served HouseFault} (Err cause) (Err house.Size)) ⊎ IsSize site sizes words.lanes count count
@@ -98,8 +98,8 @@ siteless words s address (inr (f, fault_of_site, said)) = inr (inr (address, inl
 pub unset : (words : ServeWords) (s : Stop) → words.check_words ≡ false → IsListenAddress words.listen.now → IsNotSetUp words s → IsNotServed words s
 unset words s served address (inl none) = siteless words s address none
 unset words s served address (inr (inl memory)) = inl memory
-unset words (stop.Unopened name) served address (inr (inr (sound, named))) = inr (inr (address, inr (sound, served, named)))
-unset words (stop.NoFolder name) served address (inr (inr (sound, named))) = inr (inr (address, inr (sound, served, named)))
+unset words (stop.Unopened name suffix) served address (inr (inr (sound, named))) = inr (inr (address, inr (sound, served, named)))
+unset words (stop.NoFolder name suffix) served address (inr (inr (sound, named))) = inr (inr (address, inr (sound, served, named)))
 unset words (stop.Fault f) served address (inr (inr (sound, is))) = inl (ap stop.Fault is)
 unset words (stop.Words refused) served address (inr (inr (sound, never))) = absurd never
 unset words (stop.Name f line) served address (inr (inr (sound, never))) = absurd never
@@ -107,7 +107,7 @@ unset words (stop.Unread path) served address (inr (inr (sound, never))) = absur
 
 -- what listens wasn't opened
 pub unopened : (words : ServeWords) (listen_address : ListenAddress) (f : Fault) → words.check_words ≡ false → Names words.listen.now listen_address
-    → first_fault (named_site words.site) ≡ None
+    → site_fault words.site ≡ None
     → IsUnopenedAt listen_address f → IsNotServed words (stop.Fault f)
 unopened words listen_address f served names sound (listen.Memory, is, why) = inl (ap stop.Fault is)
 unopened words listen_address f served names sound (listen.Listen reason, is, why) =

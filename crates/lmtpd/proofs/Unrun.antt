@@ -8,7 +8,7 @@ use Rattle.lmtp_house.specs.declared.house.fault.HouseFault.TheVariants as house
 use Rattle.lmtpd_setup.specs.declared.fault.Fault.TheVariants as fault
 use Rattle.lmtpd_words.specs.Words.{named_site}
 use Rattle.lmtpd_words.specs.declared.words.RehearseWords.{RehearseWords}
-use Rattle.lmtpd_setup.specs.Faults.{first_fault}
+use Rattle.lmtpd_setup.specs.Faults.{site_fault}
 use Rattle.lmtpd.specs.Lacking.{house_refusal}
 use Rattle.lmtpd.specs.Program.{IsNotRun, IsNotRehearsed}
 use Rattle.lmtpd_rehearse.specs.Rehearsal.{IsBlockCount}
@@ -62,7 +62,7 @@ causes a b c (inl e) = inl cc
 causes a b c (inr e) = inr cc
 
 -- the rehearsal that words ask for, where the server didn't run
-pub not_rehearsed : {X : Type 0} (words : RehearseWords) (cause : HouseFault) → first_fault (named_site words.site) ≡ None
+pub not_rehearsed : {X : Type 0} (words : RehearseWords) (cause : HouseFault) → site_fault words.site ≡ None
     → (◌≡◌ {A = Result X HouseFault} (Err cause) (Err house.Size) → IsBlockCount words.blocks → ⊥)
     → ((IsBlockCount words.blocks → ⊥)
     → (◌≡◌ {A = Result X HouseFault} (Err cause) (Err house.Size)) ⊎ (◌≡◌ {A = Result X HouseFault} (Err cause) (Err house.Memory)))

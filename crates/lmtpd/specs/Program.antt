@@ -24,7 +24,7 @@ use Rattle.lmtpd_listen.specs.declared.fault.ListenFault.{ListenFault}
 use Rattle.lmtpd_listen.specs.declared.listen_address.ListenAddress.{ListenAddress}
 use Rattle.lmtpd_setup.specs.Boxes.{IsUnfilled}
 use Rattle.lmtpd_setup.specs.Names.{IsRefusedBy}
-use Rattle.lmtpd_setup.specs.Faults.{first_fault, listen_refusal, stop_for, stop_status}
+use Rattle.lmtpd_setup.specs.Faults.{listen_refusal, site_fault, stop_for, stop_status}
 use Rattle.lmtpd_setup.specs.Lines.{line_after, status_after, stop_line}
 use Rattle.lmtpd_setup.specs.declared.fault.Fault.{Fault}
 use Rattle.lmtpd_setup.specs.declared.fault.Fault.TheVariants as fault
@@ -54,7 +54,7 @@ IsNotRun IsSize _ = ⊥
 -- A rehearsal that its words asked for was held: at the site that they name, at their moment, with as many blocks and
 -- under the quota that they say.
 pub record IsRehearsedAsAsked (words : RehearseWords) (old new : Streams) (ending : Ending) : Type 0 where
-  pub sound : first_fault (named_site words.site) ≡ None
+  pub sound : site_fault words.site ≡ None
   pub blocks : IsBlockCount words.blocks
   pub rehearsed : IsRehearsed (named_site words.site) words.quota words.time old new ending
 
@@ -62,8 +62,8 @@ pub record IsRehearsedAsAsked (words : RehearseWords) (old new : Streams) (endin
 -- run.
 abbrev pub IsNotRehearsed : RehearseWords → Fault → Type 0
 IsNotRehearsed words f = (f ≡ fault.Memory)
-    ⊎ ((first_fault (named_site words.site) ≡ Some f)
-    ⊎ ((first_fault (named_site words.site) ≡ None) × IsNotRun (IsBlockCount words.blocks) f))
+    ⊎ ((site_fault words.site ≡ Some f)
+    ⊎ ((site_fault words.site ≡ None) × IsNotRun (IsBlockCount words.blocks) f))
 
 -- Held once the file of its mailboxes was read: `Fills` says what their words are then.
 abbrev pub IsRehearsedFilled : (SiteWords → SiteWords → Type 0) → RehearseWords → Streams → Streams → Ending → Type 0
@@ -108,7 +108,7 @@ pub record IsServedAsAsked (L C E : Type 0) {G S : Type 0} (told : G → Option 
     (words : ServeWords) (served : ServedRun) : Type 0 where
   pub serves : words.check_words ≡ false
   pub listen_address : IsListenAddress words.listen.now
-  pub sound : first_fault (named_site words.site) ≡ None
+  pub sound : site_fault words.site ≡ None
   pub sizes : IsSizeAsked words
   pub spools : List S
   pub each_box : length spools ≡ length words.site.boxes.items
@@ -121,8 +121,10 @@ abbrev pub IsNotServedAt : ServeWords → Stop → Type 0
 IsNotServedAt words (stop.Words error) = ⊥
 IsNotServedAt words (stop.Unread path) = ⊥
 IsNotServedAt words (stop.Name f line) = ⊥
-IsNotServedAt words (stop.Unopened name) = (words.start_anyway ≡ false) × Contains words.site.boxes.items name
-IsNotServedAt words (stop.NoFolder name) = (words.start_anyway ≡ true) × Contains words.site.boxes.items name
+IsNotServedAt words (stop.Unopened name suffix) =
+    (words.start_anyway ≡ false) × Contains words.site.boxes.items name × (suffix ≡ words.site.mailbox_suffix)
+IsNotServedAt words (stop.NoFolder name suffix) =
+    (words.start_anyway ≡ true) × Contains words.site.boxes.items name × (suffix ≡ words.site.mailbox_suffix)
 IsNotServedAt words (stop.Fault f) = (f ≡ fault.Listen)
     ⊎ (((f ≡ fault.Port) × AsksInherited words.listen.now) ⊎ IsNotRun (IsSizeAsked words) f)
 
@@ -133,15 +135,15 @@ abbrev pub IsNotServed : ServeWords → Stop → Type 0
 IsNotServed words s = (s ≡ stop.Fault fault.Memory)
     ⊎ (((f : ListenFault) × (s ≡ stop.Fault (listen_refusal f)) × IsRefused words.listen.now f)
     ⊎ (IsListenAddress words.listen.now
-    × (((f : Fault) × (first_fault (named_site words.site) ≡ Some f) × IsRefusedBy words f s)
-    ⊎ ((first_fault (named_site words.site) ≡ None) × (words.check_words ≡ false) × IsNotServedAt words s))))
+    × (((f : Fault) × (site_fault words.site ≡ Some f) × IsRefusedBy words f s)
+    ⊎ ((site_fault words.site ≡ None) × (words.check_words ≡ false) × IsNotServedAt words s))))
 
 -- The words of a server alone were to be checked, and each of them can be used: the address and the site, with all of
 -- its names.
 pub record AreServeWords (words : ServeWords) : Type 0 where
   pub asked : words.check_words ≡ true
   pub listen_address : IsListenAddress words.listen.now
-  pub sound : first_fault (named_site words.site) ≡ None
+  pub sound : site_fault words.site ≡ None
 
 -- The same of a server, once the file of its mailboxes was read: `IsRun` says which runs its words ask for then.
 abbrev pub IsServedFilled : (SiteWords → SiteWords → Type 0) → (ServeWords → ServedRun → Type 0) → ServeWords

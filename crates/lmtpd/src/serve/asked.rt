@@ -5,7 +5,7 @@ ghost use Rattle.std.specs.Arc.{arc_value};
 ghost use Rattle.lmtpd_words.specs.Words.{named_site};
 ghost use Rattle.lmtpd_listen.specs.declared.server.ServerSocket.{ServerSocket};
 ghost use Rattle.lmtpd_setup.specs.declared.ends.ServerCurfew.{ServerCurfew};
-ghost use Rattle.lmtpd_setup.specs.Faults.{first_fault};
+ghost use Rattle.lmtpd_setup.specs.Faults.{site_fault};
 ghost use Rattle.lmtpd.specs.Program.{IsListenAddress, IsNotServed, IsServedAsAsked};
 
 use super::numbers::{bounds_asked, connections_asked, sizes_asked};
@@ -74,7 +74,7 @@ where
     requires served { words.now.check_words ≡ false }
     requires address { IsListenAddress words.now.listen.now }
     requires site { arc_value setup.site ≡ named_site words.now.site }
-    requires sound { first_fault (named_site words.now.site) ≡ None }
+    requires sound { site_fault words.now.site ≡ None }
     requires count { length setup.spools.items ≡ length words.now.site.boxes.items }
     ensures { MatchResult result
         (IsServedAsAsked ServerSocket H (ServerCurfew H) (⟦<LineLog<ServerLog<H>, H> as LaneLog>⟧.told)
