@@ -5,8 +5,8 @@
 # and `systemd-tmpfiles` is there, the folder of the mailboxes is made, and one that is there stays as it is. Where
 # `systemd-analyze` and `groff` are there, they must find nothing wrong with unit and page. Where Debian's dpkg-dev is,
 # the package of `make deb` has what was installed, is the same each time, and needs the packages of the program's
-# libraries; lintian, where it is, finds no error but one (tests/packaging/deb.py). LMTPD names a program that is built
-# already.
+# libraries; lintian, where it is, finds no error but one (tests/packaging/deb.py); without dpkg-dev the rest is looked
+# at, and the status is 77. LMTPD names a program that is built already.
 set -euo pipefail
 cd "$(dirname "$0")/.."
 . tests/needs bash gzip make python3

@@ -12,6 +12,7 @@ import tempfile
 from installed import INSTALLED, said_by
 
 LMTPD = os.environ["LMTPD"]
+ABSENT = 77  # the status by which the gate counts a script apart
 TOOLS = ["dpkg-deb", "dpkg-shlibdeps", "dpkg-gencontrol", "dpkg-parsechangelog", "strip"]
 FILES = sorted([*INSTALLED, "usr/share/doc/lmtpd/changelog.gz"])
 WORDS = {
@@ -119,7 +120,7 @@ def check_by_lintian(package):
 lacking = [name for name in TOOLS if shutil.which(name) is None]
 if lacking:
     print(f"no package was made: {', '.join(lacking)} isn't installed")
-    sys.exit(0)
+    sys.exit(ABSENT)
 with tempfile.TemporaryDirectory() as room:
     folder = pathlib.Path(room)
     package = made_in(folder / "one")

@@ -81,17 +81,32 @@ def heals_where_the_lock_file_fits(there):
 
 
 def heals_where_nothing_fits(there):
-    """The disk is filled while no server runs, so that none has made what lock files are linked from."""
+    """The disk is filled while no server runs, so that nothing is there that lock files are linked from."""
     sender = Sender(there)
     sender.delivers(3, 10)
-    equal(there.run("systemctl stop lmtpd")[0], 0)
+    stop_in_order(there)
     fill(there.mail, 0)
+    makes_no_file(there)
     sender.hears_451(10)
     make_room(there.mail)
     took = sender.delivers(3, HEALED_WITHIN)
     print(f"no lock file has room: {sender.story(took)}")
     equal(is_logged(there, "mailbox in use mailbox=anna reason="), True)
     sender.found_all()
+
+
+def stop_in_order(there):
+    """Once it has gone on for a second: before that a stop ends it by SIGTERM, and what it linked lock files from stays,
+    in whose room the next server makes its own."""
+    equal(there.run("systemctl start lmtpd")[0], 0)
+    equal(there.run("systemctl stop lmtpd")[0], 0)
+    equal([path.name for path in there.mail.glob("*.lock")], [])
+
+
+def makes_no_file(there):
+    """The server's user finds no room for a file."""
+    status, said = there.run(f"setpriv --reuid lmtpd --regid lmtpd --clear-groups touch {MAIL}/new")
+    equal((status, said), (1, f"touch: cannot touch '{MAIL}/new': No space left on device\n"))
 
 
 class Sender:

@@ -1,5 +1,5 @@
-"""Mailboxes in Debian's /var/mail, called as their users are, as docs/operating/MAILBOXES.md sets them up: users' programs
-without configuration, and Dovecot as Debian has it."""
+"""Mailboxes in Debian's /var/mail, called as their users are, as docs/operating/MAILBOXES.md sets them up: users'
+programs without configuration, and Dovecot as Debian has it."""
 
 import imaplib
 import pathlib
@@ -14,7 +14,7 @@ from in_a_machine import in_a_machine
 from machine import PATH
 from packages import program
 from pages import lines_of, type_lines
-from readers_delete import MUTT, ByMutt
+from readers_delete import MUTT, ByMailx, ByMutt
 from replies import stored
 from server import run
 from service import Service
@@ -26,7 +26,10 @@ HEADING = "### Mailboxes in /var/mail"
 ANNA = {"user": "anna", "group": "anna", "extra_groups": []}
 PROCMAIL, S_NAIL = [("procmail", "procmail")], [("s-nail", "s-nail")]
 # It finds her mailbox by itself; the first letter goes, and the lock file is made by Debian's mutt_dotlock.
-BY_MUTT = "mutt -n -F /dev/null -e 'set delete=yes move=no quit=yes' -e 'push 1<enter><delete-message><sync-mailbox><exit>'"
+BY_MUTT = (
+    "mutt -n -F /dev/null -e 'set delete=yes move=no quit=yes' "
+    "-e 'push 1<enter><delete-message><sync-mailbox><exit>'"
+)
 DOVECOT = """
 cat > /etc/dovecot/local.conf << 'END'
 mail_location = mbox:~/mail:INBOX=/var/mail/%u
@@ -68,8 +71,8 @@ class ServiceOfUsers(Service):
 
     def stands(self, *expected):
         """These letters stand in the mailbox, in this order; the folder, and owner, group and mode are as they were."""
-        found = [line.removeprefix("Subject: ") for line in MAILBOX.read_text().splitlines() if line.startswith("Subject: ")]
-        equal(found, list(expected))
+        found = [line for line in MAILBOX.read_text().splitlines() if line.startswith("Subject: ")]
+        equal(found, [f"Subject: {subject}" for subject in expected])
         equal(run(["check", MAILBOX]).said, [f"{MAILBOX} letters {len(expected)}"])
         equal((whose(FOLDER), whose(MAILBOX)), ("root mail 2775", "anna mail 660"))
         equal(self.lock_file("anna").exists(), False)
@@ -123,6 +126,22 @@ def mutt_deletes_while_letters_come(folder):
     equal((whose(FOLDER), whose(MAILBOX)), ("root mail 2775", "anna mail 660"))
 
 
+@case
+@in_a_machine(*S_NAIL)
+def s_nail_deletes_while_letters_come(folder):
+    """a mailbox /var/mail/anna, by the typed lines: beside clients that deliver without a pause s-nail as anna saves
+    and deletes; each letter is there once or was deleted once"""
+    beside = BesideUsers(folder)
+    beside.judge(beside.run({"snail": BySNail(beside)}, seconds=SECONDS))
+    equal((whose(FOLDER), whose(MAILBOX)), ("root mail 2775", "anna mail 660"))
+
+
+class BySNail(ByMailx):
+    def __init__(self, beside):
+        self.beside, self.command = beside, program("s-nail", "s-nail")
+        self.saved = beside.home / "saved"
+
+
 class BesideUsers(Beside):
     """She is a user of the machine, whose mailbox has her name."""
 
@@ -160,7 +179,12 @@ def dovecot_as_debian_has_it(_folder):
         equal((pathlib.Path("/home/anna/mail/Kept").owner(), service.restarts()), ("anna", 0))
 
 
-for one in [programs_find_it_by_themselves, mutt_deletes_while_letters_come, dovecot_as_debian_has_it]:
+for one in [
+    programs_find_it_by_themselves,
+    mutt_deletes_while_letters_come,
+    s_nail_deletes_while_letters_come,
+    dovecot_as_debian_has_it,
+]:
     one.seconds = SECONDS + 180
 
 

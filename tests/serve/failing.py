@@ -19,6 +19,8 @@ STORED, NOT_STORED = stored("anna"), not_stored("anna")
 LETTERS = 3
 # These on the mailbox change what stands in it, or are to keep it: a fault of one breaks the mailbox.
 BREAKING = ["write mailbox", "fdatasync mailbox"]
+CUTTING = ["ftruncate mailbox", "fdatasync mailbox"]
+GIVING_BACK = ["fcntl mailbox", "unlink lock"]
 # These on the lock file cost no copy: its name is the lock, and one that stays is removed by the next turn.
 HARMLESS = ["write lock", "unlink lock"]
 # These may cost that copy alone, or none: without a link the lock file is made, and what is looked at may be let go.
@@ -193,6 +195,30 @@ def one_sync_before_each_250(folder):
         client.quit()
         equal(server.end().said, [f"anna stored {len(lines)}"])
     equal(len(letters.messages(server.mailbox("anna"))), len(lines))
+
+
+@case
+def it_is_cut_under_both_locks(folder):
+    """where a write or the sync of a record fails, the mailbox is cut back, and that is synced, before either lock is
+    given back, and after the lock file was looked at"""
+    library, trial = built(folder), folder / "trial"
+    first = calls_of_a_turn(library, trial, 0)
+    for breaking in BREAKING:
+        turn = calls_of_a_turn(library, folder / breaking.split()[0], first.index(breaking) + 1)
+        rest = turn[turn.index(breaking) + 1 :]
+        seen = [call for call in rest if call in [*CUTTING, *GIVING_BACK]]
+        equal((breaking, seen[:2], sorted(seen[2:])), (breaking, CUTTING, GIVING_BACK))
+        equal("statx lock" in rest[: rest.index("ftruncate mailbox")], True)
+
+
+def calls_of_a_turn(library, folder, fails):
+    """The calls on a mailbox of a server that is told one letter, from its start, of which that one fails."""
+    folder.mkdir()
+    with environment(with_calls(library, folder, fails)), Server(folder, ["anna"], 1, "--lanes", 1) as server:
+        equal(deliver_one(server.address, ["anna"], "hello"), [NOT_STORED if fails else STORED])
+        turn = called(folder)
+        server.end()
+    return turn
 
 
 @case

@@ -1,4 +1,7 @@
-"""A server whose messages may have other sizes than the usual ones."""
+"""A server whose messages may have other sizes than the usual ones, and one with more room for them."""
+
+import pathlib
+import re
 
 from cases import case, equal
 from clients import Client
@@ -55,3 +58,28 @@ def blocks_that_hold_no_largest_message(folder):
         ended = server.end()
     line = f"[ERROR lmtpd] a largest message has no room room={room} limit={room + 1}"
     equal((ended.status, ended.errors), (0, [line]))
+
+
+@case
+def blocks_that_were_never_used_are_not_resident(folder):
+    """with 65,536 blocks, 256 MiB of room, less than 4 MiB more are resident than with 256, before the first letter and
+    after one of 1,000,000 bytes"""
+    resident = {}
+    for blocks in [256, 65_536]:
+        place = folder / str(blocks)
+        place.mkdir()
+        words = ["--lanes", 1, "--blocks", blocks]
+        with Server(place, ["anna"], 1, *words) as server, Client(server.address).greet() as client:
+            resident[blocks] = [kilobytes(server)]
+            equal(client.deliver(["anna"], *[LINE] * 15_625)[1], [stored("anna")])
+            resident[blocks].append(kilobytes(server))
+            client.quit()
+            equal(server.end().status, 0)
+    more = [many - few for few, many in zip(*resident.values(), strict=True)]
+    assert all(one < 4_096 for one in more), resident
+
+
+def kilobytes(server):
+    """What is resident of it."""
+    status = pathlib.Path(f"/proc/{server.process.pid}/status").read_text()
+    return int(re.search(r"VmRSS:\s+(\d+) kB", status)[1])

@@ -233,7 +233,8 @@ def what_the_machine_refuses(folder):
     with listener:
         for line, listen, more, boxes in LATER_ROWS:
             expects(words(folder, boxes, 1, *more, listen=listen.replace("PORT", f"127.0.0.1:{port}")), 1, line)
-    equal(sorted(path.name for path in folder.iterdir()), ["anna.mail", "anna.mbox", "ben.mail", "ben.mbox", "dora", "dora.mbox"])
+    made = ["anna.mail", "anna.mbox", "ben.mail", "ben.mbox", "dora", "dora.mbox"]
+    equal(sorted(path.name for path in folder.iterdir()), made)
 
 
 @case
@@ -281,7 +282,8 @@ def the_ends_of_what_a_lock_is_waited_for_and_of_a_mode(folder):
     taken += [("--session-time", value) for value in [1, 3_600, 86_400]]
     taken += [("--stop-file", "0"), ("--socket-mode", "0600"), ("--socket-mode", "0777")]
     taken += [("--mailbox-mode", value) for value in ["0", "7", "600", "0600", "0777", "777", "0000", "660"]]
-    taken += [("--mailbox-suffix", value) for value in ["", ".", "x", "-", "_", "x" * 32, ".A-z_0.9", ".lock.x", ".mbox"]]
+    suffixes = ["", ".", "x", "-", "_", "x" * 32, ".A-z_0.9", ".lock.x", ".mbox"]
+    taken += [("--mailbox-suffix", value) for value in suffixes]
     for name, value in taken:
         expects(words(folder, ["anna"], 1, name, value, listen=BAD), 2, "bad address")
 

@@ -16,6 +16,7 @@ import limits  # noqa: F401
 import logs  # noqa: F401
 import pipelining  # noqa: F401
 import readers  # noqa: F401
+import reasons  # noqa: F401
 import refusals  # noqa: F401
 import sockets  # noqa: F401
 import stopping  # noqa: F401

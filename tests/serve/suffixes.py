@@ -20,8 +20,8 @@ SUFFIXES = [
 
 @case
 def files_are_called_by_the_suffix(folder):
-    """--mailbox-suffix: the file of anna is FOLDER/anna and that text, an empty one too, and so are its lock file's name
-    and what that is linked from; two letters are read there, and no other file is made"""
+    """--mailbox-suffix: the file of anna is FOLDER/anna and that text, an empty one too, and so is what its lock file
+    is linked from; two letters are read there, and no other file is made"""
     for number, (given, suffix) in enumerate(SUFFIXES):
         place = folder / str(number)
         place.mkdir()

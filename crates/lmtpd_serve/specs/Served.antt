@@ -1,6 +1,6 @@
 -- What a server says on standard output and on standard error, and what its run comes to.
-use Rattle.std.specs.Prelude.{◌≡◌, ◌==◌, ◌||◌, ◌<◌, ◌^◌, ℕ, List, [], ◌∷◌, ◌++◌, length, codes, decimal, if◌then◌else◌, map}
-use Rattle.std.specs.Prelude.{Bool, true, false, Option, Some}
+use Rattle.std.specs.Prelude.{◌≡◌, ◌==◌, ◌||◌, ◌<◌, ◌^◌, ℕ, List, [], ◌∷◌, ◌++◌, length, codes, decimal, map}
+use Rattle.std.specs.Prelude.{if◌then◌else◌, Bool, true, false, Option, Some}
 use Rattle.std.specs.Io.KnownBytes.{Keeps}
 use Rattle.std.specs.Arc.{arc_value}
 use Rattle.std.specs.List.{AllByRecursion, list_any}
@@ -14,8 +14,8 @@ use Rattle.lmtp_threads.specs.declared.tally.Tally.{Tally}
 use Rattle.lmtp_house.specs.Handed.{HandedBack}
 use Rattle.lmtp_house.specs.House.{HasRun}
 use Rattle.lmtp_house.specs.declared.house.sizes.Sizes.{Sizes}
-use Rattle.lmtp_lane.specs.TcpVisits.{IsLaneOf, IsNewcomer, connections_left, conversations_ended, has_failed, is_over, shares}
-use Rattle.lmtp_lane.specs.TcpVisits.{was_stopped}
+use Rattle.lmtp_lane.specs.TcpVisits.{IsLaneOf, IsNewcomer, connections_left, conversations_ended, has_failed}
+use Rattle.lmtp_lane.specs.TcpVisits.{is_over, shares, was_stopped}
 use Rattle.lmtp_talk.specs.Entries.{Entry}
 use Rattle.lmtpd_log.specs.Logged.{listener_in, visits_in, log_in, told_with_log}
 use Rattle.lmtpd_log.specs.declared.listener.CountedListener.{CountedListener}
@@ -123,7 +123,13 @@ pub record IsServerRun (C : Type 0) {L E S G : Type 0} (site : Site) (state : S 
         finished = λ v. told_with_log told v;
         over = λ v. is_over (visits_in v);
       })
-      state (record { visits = visits; spools = spools; capacity = serving.sizes.capacity; quota = serving.sizes.quota })
+      state
+      (record {
+        visits = visits;
+        spools = spools;
+        capacity = serving.sizes.capacity;
+        quota = serving.sizes.quota;
+      })
       back
   pub room : (back.blocks ≡ serving.sizes.blocks) × (back.slots ≡ serving.sizes.slots)
   pub same_site : arc_value served.site ≡ site

@@ -83,11 +83,7 @@ fn are_counts_cut<W: Write>(site: &Site, tallies: &[Tally], writer: &mut W) -> b
 }
 
 #[tactic(auto, using(lmtpd_words::proofs::Handed::whole_kept, lmtpd_words::proofs::Handed::whole_cut))]
-fn say_counts<W: Write>(
-    site: &Site,
-    tallies: &[Tally],
-    writer: &mut W,
-) -> Result<(), WriteFault>
+fn say_counts<W: Write>(site: &Site, tallies: &[Tally], writer: &mut W) -> Result<(), WriteFault>
     requires { length tallies.now ≡ length site.now.boxes }
     ensures ok { OnOk result (Appends (W.contents writer.old) (W.contents writer.new)
         (counts_text site.now.boxes tallies.now)) }

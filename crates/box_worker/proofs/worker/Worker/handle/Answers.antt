@@ -2,6 +2,7 @@ use Rattle.std.proofs.Common.{◌≡◌, ◌∙◌, ℕ, List, [], ◌∷◌, �
 use Rattle.lmtp_text.specs.Calendar.{civil_at}
 use Rattle.mail_world.specs.declared.Txn.{Txn}
 use Rattle.mail_world.specs.Records.{record_of}
+use Rattle.mail_world.specs.Site.{Site}
 use Rattle.mail_post.specs.Copies.{envelope_of}
 use Rattle.mail_post.specs.InTime.{clock_of}
 use Rattle.mail_post.specs.Offered.{IsOffered, any_gone}
@@ -18,7 +19,7 @@ use Rattle.box_worker.proofs.worker.Worker.handle.Goals as goal
 
 pub returns : goal.returns
 returns g c quota worker copies old before was timed x =
-    let site : List ℕ = c.args.site.now in
+    let site : Site = c.args.site.now in
     let self = c.args.self.now in
     let took = c.take-outcome in
     let told = c.tell in
