@@ -3,7 +3,8 @@
 # that does the same work (bench/streams/loops.rs, by `rustc -O`):
 #   lines    `Wire::command`, in pieces of 4,096 bytes
 #   data     `Dot::feed`, in pieces of 4,096 bytes
-#   record   `RecordWriter::piece`, in pieces of 512 bytes, to a spool that only counts
+#   record   `RecordWriter::piece`, in pieces of 512 bytes, to a spool that only counts; and small letters that are all
+#            head, the worst for a site that has marks renamed, at such a site and at another
 # Prints the best of RUNS times of each (9 if it isn't set) and the loop's time over ours, and the appends that a piece
 # of a record makes. Fails where the counts differ or a ratio is below 1.0.
 # Both run by turns, so that a ratio means something on a machine that does other work.
@@ -12,7 +13,7 @@ set -euo pipefail
 cd "$(dirname "$0")/.."
 . tests/needs rustc python3
 . bench/program
-make_program streams streams "mail_world lmtp_wire mbox_record anyhow" "${1:-}"
+make_program streams streams "mail_world lmtp_wire lmtp_text mbox_record anyhow" "${1:-}"
 
 python3 -B - out/streams "$folder/loops" "${RUNS:-9}" <<'PYTHON'
 import sys
@@ -31,6 +32,8 @@ for name in ["lines", "data", "record"]:
     print(f"{name}: {us:.4f} s, loop {loop:.4f} s, ratio {loop / us:.2f} (at least 1.0)")
     slow = slow or loop < us
 
+small, renamed = best(ours, "letters"), best(ours, "renamed")
+print(f"letters of 2 KiB that are all head: {small / renamed:.2f} of it with marks renamed")
 appends, pieces = ours[0]["calls"]
 print(f"record: {appends / int(pieces.removeprefix('pieces=')):.2f} appends a piece")
 sys.exit(1 if slow else 0)

@@ -100,7 +100,7 @@ def without_the_word(_):
 def made(chance):
     """A message of parts that marks are made of, whole or broken, anywhere in the lane's reads."""
     parts = [b"Subject: x%s\r\n" % (b"x" * chance.randrange(1100))] if chance.random() < 0.4 else []
-    for _ in range(chance.choice([0, 1, 2, 5, 12])):
+    for _ in range(chance.choice([0, 1, 2, 3, 5, 12])):
         parts.append(part(chance))
     text = bytearray(b"".join(parts))
     for _ in range(chance.choice([0, 0, 1, 3])):
@@ -123,8 +123,8 @@ def part(chance):
     if chance.random() < 0.1:
         before = before[: chance.randrange(len(before) + 1)] or b"x-was-"
     after = chance.choice([b":", b": RO", b" : 7", b" ", b"\t1", b"", b"\r", b"From x", b"s: 1", b": a\r\n Status: b"])
-    end = chance.choice([b"\r\n", b"\r\n", b"\r\n", b"\n", b"\r", b"\r\r\n", b"\r\n\r\n", b"\n\n", b"\r\n\r\r\n", b""])
-    return chance.choice([b"", b"", b"", b" ", b">", b"From "]) + before + bytes(name) + after + end
+    end = chance.choice([*8 * [b"\r\n"], b"\n", b"\r", b"\r\r\n", b"\r\n\r\n", b"\n\n", b"\r\n\r\r\n", b""])
+    return chance.choice([*9 * [b""], b" ", b">", b"From "]) + before + bytes(name) + after + end
 
 
 @case
