@@ -6,8 +6,8 @@
 #   by 4      4 holders that take turns, each at a place of its own
 #   by 16     16 of them
 # and a byte of it by one holder beside a byte of a message of 64 MiB.
-# Prints the median of RUNS times of each (5 if it isn't set), and the ratios. Fails where one of put or copy_on is above
-# 3.0, or another above 1.3.
+# Prints the median of RUNS times of each (5 if it isn't set), and the ratios. Fails where one of put or copy_on is
+# above 3.0, or another above 1.3.
 # usage: bench/arena.sh [--build | --try]: with a word it only makes its programs, proved or unproved (bench/program)
 set -euo pipefail
 cd "$(dirname "$0")/.."

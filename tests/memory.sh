@@ -23,11 +23,11 @@ add_tests
 mkdir -p "$folder/crates/msg_depot/src/tests"
 cp "$refused" "$folder/crates/msg_depot/src/tests/refused.rt"
 printf '\nmod refused;\n' >> "$folder/crates/msg_depot/src/tests.rt"
-# refused CRATE FILE..: in each test of these files of that crate the allocation of number REFUSED, which the first of
-# them names, is refused.
+# refused SAID ONLY CRATE FILE..: in each test of these files of that crate, whose path has the text ONLY, the allocation
+# of number REFUSED, which the first of the files names, is refused.
 refused() {
-    local crate=$1 number expected status=0
-    shift
+    local said=$1 only=$2 crate=$3 number expected status=0
+    shift 3
     cd "$folder/crates/$crate"
     number=$(sed -nE 's/^const REFUSED: u32 = ([0-9]+);$/\1/p' "$1")
     expected=$(cat "$@" | grep -cE '^#\[test\]')
@@ -37,10 +37,9 @@ refused() {
         echo "FAILED: of $expected tests that have an allocation refused"
         exit 1
     fi
-    echo "ok: in $expected tests $what"
+    echo "ok: in $expected tests $said"
 }
 
-only=refused what='makers alone take memory' refused msg_depot src/tests/refused.rt
+refused 'makers alone take memory' refused msg_depot src/tests/refused.rt
 (add_crate called "$folder/called" 'mail_world lmtp_text mbox_record box_worker lmtp_house lmtpd_rehearse')
-only='' what='a server and a rehearsal answer for each allocation' \
-    refused called src/lib.rt src/house.rt src/rehearsal.rt
+refused 'a server and a rehearsal answer for each allocation' '' called src/lib.rt src/house.rt src/rehearsal.rt

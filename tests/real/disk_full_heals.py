@@ -96,8 +96,8 @@ def heals_where_nothing_fits(there):
 
 
 def stop_in_order(there):
-    """Once it has gone on for a second: before that a stop ends it by SIGTERM, and what it linked lock files from stays,
-    in whose room the next server makes its own."""
+    """Once it has gone on for a second: before that a stop ends it by SIGTERM, and what it linked lock files from
+    stays, in whose room the next server makes its own."""
     equal(there.run("systemctl start lmtpd")[0], 0)
     equal(there.run("systemctl stop lmtpd")[0], 0)
     equal([path.name for path in there.mail.glob("*.lock")], [])
