@@ -1,3 +1,4 @@
-pub mod MailboxFile
 pub mod Holder
+pub mod MailboxFile
 pub mod MailboxSource
+pub mod StdFile

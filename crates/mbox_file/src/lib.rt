@@ -21,5 +21,6 @@ pub use file_lock::FileLock;
 pub use mailbox_file::MailboxFile;
 pub use mailbox_source::MailboxSource;
 pub use memory_file::MemoryFile;
+pub use plain::remove_open;
 pub use range_lock::{LockKind, RangeLock};
-pub use std_file::{StdMailboxFile, remove_open};
+pub use std_file::StdMailboxFile;

@@ -89,11 +89,44 @@ fn names_plain<R: Files>(rt: &R, path: &str, taken: Taken) -> Result<bool, InUse
     }
 }
 
+/// Removes what the path names, if it is still that file.
+pub(crate) fn remove_node<R: Files>(rt: &R, path: &str, node: Node) -> io::Result<()> {
+    match fs::symlink_metadata(rt, path) {
+        Ok(found) if node_of(&found) == node => fs::remove_file(rt, path),
+        Ok(_) => Ok(()),
+        Err(error) if error.kind() == ErrorKind::NotFound => Ok(()),
+        Err(error) => Err(error),
+    }
+}
+
+/// Removes what the path names, if it is still the open file.
+pub fn remove_open<R: Files>(rt: &R, path: &str, file: &R::File) {
+    if let Ok(metadata) = file.metadata() {
+        let _ = remove_node(rt, path, node_of(&metadata));
+    }
+}
+
+/// A number may be given again to a file that is made after another one was removed.
+pub(crate) fn is_same(again: &Metadata, found: &Metadata) -> bool {
+    node_of(again) == node_of(found)
+        && again.mtime() == found.mtime()
+        && again.mtime_nsec() == found.mtime_nsec()
+}
+
 /// What the system said, by its number.
 pub(crate) fn system_fault(error: io::Error) -> InUse {
     match (error.raw_os_error(), error.kind()) {
         (Some(code), _) => InUse::System(code),
         (None, ErrorKind::OutOfMemory) => InUse::System(libc::ENOMEM),
         (None, _) => InUse::System(libc::EIO),
+    }
+}
+
+/// What a file that can't be opened for a turn is at the start.
+pub(crate) fn error_of(in_use: InUse) -> io::Error {
+    match in_use {
+        InUse::System(code) => io::Error::from_raw_os_error(code),
+        InUse::Locked => io::Error::from(ErrorKind::WouldBlock),
+        InUse::NotPlain => io::Error::new(ErrorKind::PermissionDenied, "not plain"),
     }
 }

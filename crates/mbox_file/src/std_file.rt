@@ -2,13 +2,17 @@
 //!
 //! A lock file is linked from one that is made at the start and stays, `PATH.source.lock`: to make a file and write to
 //! it for each turn takes ten times as long. Where there can be no link it is made.
+ghost use Rattle.std.specs.Prelude.{◌≡◌, None, Some, IfOk};
 ghost use Rattle.std.specs.Io.{ReadsAtMost};
 ghost use Rattle.std.specs.Io.KnownBytes.{ReadConsumes};
+ghost use Rattle.mbox_file.specs.StdFile.{file_mode, file_path, mode_made};
 
 use crate::file::{FileEnd, end_of_file, sync_folder};
 use crate::mailbox_file::MailboxFile;
 use crate::mailbox_source::MailboxSource;
-use crate::plain::{Node, OpenNode, Taken, node_of, open_plain, system_fault};
+use crate::plain::{
+    Node, OpenNode, Taken, error_of, is_same, node_of, open_plain, remove_node, remove_open, system_fault,
+};
 use crate::range_lock::{LockKind, RangeLock};
 use crate::stale::{is_stale, owner_text};
 use mbox_record::InUse;
@@ -85,18 +89,24 @@ where
     /// Opens the plain file at that path. Where it is missing it is made with these permission bits. Neither lock is
     /// held, and a lock file that was left behind is gone. An error says why it can't be used, of
     /// `ErrorKind::OutOfMemory` where memory is lacking.
-    pub fn open(rt: R, alloc: Global, path: &str, mode: u32) -> io::Result<StdMailboxFile<R>> {
+    pub fn open(rt: R, alloc: Global, path: &str, mode: u32) -> io::Result<StdMailboxFile<R>>
+        ensures path { IfOk result (λ file. file_path file ≡ path.now) }
+        ensures mode { IfOk result (λ file. file_mode file ≡ Some mode) }
+    {
         let mut file = StdMailboxFile::unopened(rt, alloc, path, mode)?;
-        file.reopen().map_err(error_of)?;
+        file.open_named().map_err(error_of)?;
         let _ = file.remove_stale();
         Ok(file)
     }
 
     /// Opens the plain file at that path, whosever it is and for root too, and makes none. Neither lock is held. Its lock
     /// file is made and not linked, since it is taken once.
-    pub fn existing(rt: R, alloc: Global, path: &str) -> io::Result<StdMailboxFile<R>> {
+    pub fn existing(rt: R, alloc: Global, path: &str) -> io::Result<StdMailboxFile<R>>
+        ensures path { IfOk result (λ file. file_path file ≡ path.now) }
+        ensures mode { IfOk result (λ file. file_mode file ≡ None) }
+    {
         let mut file = StdMailboxFile::taking(rt, alloc, path, Taken::Anybodys)?;
-        file.reopen().map_err(error_of)?;
+        file.open_named().map_err(error_of)?;
         Ok(file)
     }
 
@@ -107,7 +117,10 @@ where
         alloc: Global,
         path: &str,
         mode: u32,
-    ) -> Result<StdMailboxFile<R>, AllocError> {
+    ) -> Result<StdMailboxFile<R>, AllocError>
+        ensures path { IfOk result (λ file. file_path file ≡ path.now) }
+        ensures mode { IfOk result (λ file. file_mode file ≡ Some mode) }
+    {
         StdMailboxFile::taking(rt, alloc, path, Taken::Own(mode))
     }
 
@@ -116,7 +129,10 @@ where
         alloc: Global,
         path: &str,
         taken: Taken,
-    ) -> Result<StdMailboxFile<R>, AllocError> {
+    ) -> Result<StdMailboxFile<R>, AllocError>
+        ensures path { IfOk result (λ file. file_path file ≡ path.now) }
+        ensures mode { IfOk result (λ file. file_mode file ≡ mode_made taken) }
+    {
         Ok(StdMailboxFile {
             path: format!(in alloc; "{path}")?,
             taken,
@@ -273,8 +289,56 @@ where
         Ok(())
     }
 
+    // Whether the path names the open file.
+    fn names_open(&self) -> Result<bool, InUse> {
+        match fs::symlink_metadata(&self.rt, self.path.as_str()) {
+            Ok(found) if !self.taken.is_plain(&found) => Err(InUse::NotPlain),
+            Ok(found) => Ok(Some(node_of(&found)) == self.open_node()),
+            Err(error) if error.kind() == ErrorKind::NotFound => Ok(false),
+            Err(error) => Err(system_fault(error)),
+        }
+    }
+
+    // Opens the file that the path names.
+    fn open_named(&mut self) -> Result<(), InUse>
+        ensures path { file_path self.new ≡ file_path self.old }
+        ensures mode { file_mode self.new ≡ file_mode self.old }
+    {
+        let named = open_plain(&self.rt, self.path.as_str(), self.taken)?;
+        // it is compared while both are open, since a closed file's number may be given again
+        let is_same = self.open_node() == Some(named.node);
+        let is_first = self.open.is_none();
+        self.is_folder_synced = self.is_folder_synced && is_same;
+        self.open = Some(named);
+        if is_first && self.has_source() {
+            self.source = self.make_source().ok();
+        }
+        Ok(())
+    }
+
+    fn lock_open(&self) -> Result<(), InUse> {
+        let Some(open) = &self.open else {
+            // a look at what the path names is next, which opens it
+            return Ok(());
+        };
+        match open.file.try_lock_bytes(LockKind::Exclusive) {
+            Ok(()) => Ok(()),
+            Err(error) if error.kind() == ErrorKind::WouldBlock => Err(InUse::Locked),
+            Err(error) => Err(system_fault(error)),
+        }
+    }
+
+    fn unlock_open(&self) {
+        if let Some(open) = &self.open {
+            let _ = open.file.unlock_bytes();
+        }
+    }
+
     // Removes a lock file that was left behind. True: there is none now.
-    fn remove_stale(&mut self) -> Result<bool, InUse> {
+    fn remove_stale(&mut self) -> Result<bool, InUse>
+        ensures path { file_path self.new ≡ file_path self.old }
+        ensures mode { file_mode self.new ≡ file_mode self.old }
+    {
         let found = match fs::symlink_metadata(&self.rt, self.lock_path.as_str()) {
             Ok(found) => found,
             Err(error) if error.kind() == ErrorKind::NotFound => return Ok(true),
@@ -283,19 +347,19 @@ where
         if !self.is_left(self.lock_path.as_str(), &found) {
             return Ok(false);
         }
-        if !self.is_named()? {
-            self.reopen()?;
+        if !self.names_open()? {
+            self.open_named()?;
         }
-        self.try_range_lock()?;
+        self.lock_open()?;
         let removed = self.remove_same(&found);
-        self.unlock_range();
+        self.unlock_open();
         removed
     }
 
     // Under the lock on the bytes of the file that the path names nobody else removes what was left behind, and what
     // was found is looked at again.
-    fn remove_same(&mut self, found: &Metadata) -> Result<bool, InUse> {
-        if !self.is_named()? {
+    fn remove_same(&self, found: &Metadata) -> Result<bool, InUse> {
+        if !self.names_open()? {
             return Ok(false);
         }
         let removed = match fs::symlink_metadata(&self.rt, self.lock_path.as_str()) {
@@ -317,39 +381,6 @@ fn has_two_names<F: OpenFile>(file: &F) -> bool {
     match file.metadata() {
         Ok(metadata) => metadata.nlink() == 2,
         Err(_) => false,
-    }
-}
-
-// Removes what the path names, if it is still that file.
-fn remove_node<R: Files>(rt: &R, path: &str, node: Node) -> io::Result<()> {
-    match fs::symlink_metadata(rt, path) {
-        Ok(found) if node_of(&found) == node => fs::remove_file(rt, path),
-        Ok(_) => Ok(()),
-        Err(error) if error.kind() == ErrorKind::NotFound => Ok(()),
-        Err(error) => Err(error),
-    }
-}
-
-/// Removes what the path names, if it is still the open file.
-pub fn remove_open<R: Files>(rt: &R, path: &str, file: &R::File) {
-    if let Ok(metadata) = file.metadata() {
-        let _ = remove_node(rt, path, node_of(&metadata));
-    }
-}
-
-// A number may be given again to a file that is made after another one was removed.
-fn is_same(again: &Metadata, found: &Metadata) -> bool {
-    node_of(again) == node_of(found)
-        && again.mtime() == found.mtime()
-        && again.mtime_nsec() == found.mtime_nsec()
-}
-
-// What a file that can't be opened for a turn is at the start.
-fn error_of(in_use: InUse) -> io::Error {
-    match in_use {
-        InUse::System(code) => io::Error::from_raw_os_error(code),
-        InUse::Locked => io::Error::from(ErrorKind::WouldBlock),
-        InUse::NotPlain => io::Error::new(ErrorKind::PermissionDenied, "not plain"),
     }
 }
 
@@ -378,43 +409,19 @@ where
     }
 
     fn try_range_lock(&mut self) -> Result<(), InUse> {
-        let Some(open) = &self.open else {
-            // a look at what the path names is next, which opens it
-            return Ok(());
-        };
-        match open.file.try_lock_bytes(LockKind::Exclusive) {
-            Ok(()) => Ok(()),
-            Err(error) if error.kind() == ErrorKind::WouldBlock => Err(InUse::Locked),
-            Err(error) => Err(system_fault(error)),
-        }
+        self.lock_open()
     }
 
     fn unlock_range(&mut self) {
-        if let Some(open) = &self.open {
-            let _ = open.file.unlock_bytes();
-        }
+        self.unlock_open();
     }
 
     fn is_named(&mut self) -> Result<bool, InUse> {
-        match fs::symlink_metadata(&self.rt, self.path.as_str()) {
-            Ok(found) if !self.taken.is_plain(&found) => Err(InUse::NotPlain),
-            Ok(found) => Ok(Some(node_of(&found)) == self.open_node()),
-            Err(error) if error.kind() == ErrorKind::NotFound => Ok(false),
-            Err(error) => Err(system_fault(error)),
-        }
+        self.names_open()
     }
 
     fn reopen(&mut self) -> Result<(), InUse> {
-        let named = open_plain(&self.rt, self.path.as_str(), self.taken)?;
-        // it is compared while both are open, since a closed file's number may be given again
-        let is_same = self.open_node() == Some(named.node);
-        let is_first = self.open.is_none();
-        self.is_folder_synced = self.is_folder_synced && is_same;
-        self.open = Some(named);
-        if is_first && self.has_source() {
-            self.source = self.make_source().ok();
-        }
-        Ok(())
+        self.open_named()
     }
 
     /// Of a file whose entry the folder keeps through a crash.
