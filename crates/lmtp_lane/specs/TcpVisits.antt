@@ -1,6 +1,7 @@
 -- What contracts see of the clients that connect to a listener, and how they are shared out among lanes.
 use Rattle.std.specs.Prelude.{◌≡◌, ◌+◌, ◌/◌, ◌%◌, ◌⊎◌, ◌↔◌, ℕ, Bool, true, false, List, map}
 use Rattle.std.specs.Prelude.{nat_lt, if◌then◌else◌, Option, None, is_none, is_some, IsNone, IfSome}
+use Rattle.std.specs.Arc.{arc_value}
 use Rattle.std.specs.List.{range_with_len}
 use Rattle.lmtp_talk.specs.declared.tcp.peer.Bounds.{Bounds}
 use Rattle.lmtp_talk.specs.declared.tcp.peer.TcpPeer.{TcpPeer}
@@ -51,6 +52,15 @@ pub record IsReady {L E : Type 0} (count : ℕ) (each : Bounds) (v : TcpVisits L
   pub bounds : bounds_each v ≡ each
   pub none_ended : conversations_ended v ≡ 0
   pub none_out : is_out v ≡ false
+  pub not_failed : has_failed v ≡ false
+  pub not_stopped : was_stopped v ≡ false
+
+-- One of the lanes that share a listener: its clients are those of that listener, within these bounds and until that
+-- curfew, and of it nothing has failed or was stopped yet.
+pub record IsLaneOf {L E : Type 0} (listener : L) (each : Bounds) (curfew : E) (v : TcpVisits L E) : Type 0 where
+  pub listens : arc_value v.listener ≡ listener
+  pub bounds : bounds_each v ≡ each
+  pub until : arc_value v.curfew ≡ curfew
   pub not_failed : has_failed v ≡ false
   pub not_stopped : was_stopped v ≡ false
 

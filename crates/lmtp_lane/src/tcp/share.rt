@@ -2,7 +2,8 @@
 
 ghost use Rattle.std.specs.Prelude.{◌≡◌, ◌<◌, false, IfOk, length, map, sum};
 ghost use Rattle.std.specs.List.{AllByRecursion};
-ghost use Rattle.lmtp_lane.specs.TcpVisits.{connections_left, bounds_each, conversations_ended, is_out, share, shares};
+ghost use Rattle.std.specs.Arc.{arc_value};
+ghost use Rattle.lmtp_lane.specs.TcpVisits.{IsLaneOf, connections_left, conversations_ended, is_out, share, shares};
 
 use crate::tcp::visits::TcpVisits;
 use lmtp_talk::{Bounds, ReadBuffer};
@@ -25,16 +26,16 @@ pub fn tcp_visits<L: Drop, E: Drop>(
     ensures none_ended { IfOk result (λ visits. AllByRecursion (λ v. conversations_ended v ≡ 0) visits.items) }
     ensures shares { IfOk result (λ visits. map connections_left visits.items ≡ shares connections lanes) }
     ensures all { IfOk result (λ visits. 0 < lanes → sum (map connections_left visits.items) ≡ connections) }
-    ensures bounds { IfOk result (λ visits. AllByRecursion (λ v. bounds_each v ≡ bounds) visits.items) }
+    ensures each { IfOk result (λ visits. AllByRecursion (IsLaneOf listener bounds (arc_value curfew)) visits.items) }
 {
     let listener = Arc::new(alloc, listener)?;
     let mut visits = Vec::new(alloc);
     for lane in 0..lanes {
         let buffer = ReadBuffer::new(alloc)?;
-        let listener = Arc::try_clone(&listener)?;
-        let curfew = Arc::try_clone(&curfew)?;
+        let shared = Arc::try_clone(&listener)?;
+        let until = Arc::try_clone(&curfew)?;
         let connections = share_of(connections, lanes, lane);
-        visits.push(TcpVisits::new(listener, connections, bounds, curfew, buffer))?;
+        visits.push(TcpVisits::new(shared, connections, bounds, until, buffer))?;
     }
     Ok(visits)
 }

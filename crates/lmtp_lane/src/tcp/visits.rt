@@ -46,6 +46,7 @@ impl<L: Drop, E: Drop> TcpVisits<L, E> {
         buffer: ReadBuffer,
     ) -> TcpVisits<L, E>
         ensures ready { IsReady connections bounds result }
+        ensures listener { result.listener ≡ listener }
         ensures curfew { result.curfew ≡ curfew }
     {
         TcpVisits {

@@ -12,7 +12,7 @@ loop-lane-preserved g c = record {
   shares = ap (map connections_left) c.in_ok-push.ensures.items
       ∙ map-push connections_left (share c.args.connections c.args.lanes) c.loop-lane.visits.items c.new-in-loop-lane-2.result c.loop-lane.lane
       c.loop-lane.invariant.shares (c.new-in-loop-lane-2.ensures.ready.connections ∙ c.share_of-connections.ensures);
-  bounds = search (rules, all_push);
+  each = search (rules, all_push);
 }
 
 pub returns-clause-all : goal.returns-clause-all
