@@ -102,11 +102,18 @@ module _ {V S C : Type 0} (May : C → ℕ → Type 0) (view : VisitsView V) (st
           can_settle (length handed.spools) (length handed.visits) owed_slips p.slip_rows p.slips lanes.inboxes slips_closed p.slips_new lanes_ran.as_many.2
           (λ k x y e f. let t = lanes_ran.heard k x y e f in (t.channel, t.lanes)) slips_shut
 
-      pub run_is : HaveTimes lanes.rows mail_closed → HaveTimes boxes.rows slips_closed
+      pub run_is : (blocks slots : ℕ) → HaveTimes lanes.rows mail_closed → HaveTimes boxes.rows slips_closed
           → AllZip (IsSettled (λ (n : Note). n.txn.lane)) boxes.inboxes mail_closed
           → AllZip (IsSettled (λ (s : Slip). s.worker)) lanes.inboxes slips_closed
           → HasRun site (May clock) view state handed
-          (record { visits = lanes.lent; spools = boxes.lent; conversations = lanes.tallies; tallies = boxes.tallies })
-      run_is mail_times slips_times mail_settled slips_settled =
+          (record {
+            visits = lanes.lent;
+            spools = boxes.lent;
+            conversations = lanes.tallies;
+            tallies = boxes.tallies;
+            blocks = blocks;
+            slots = slots;
+          })
+      run_is blocks slots mail_times slips_times mail_settled slips_settled =
           has_run site (May clock) view state lanes_given lanes boxes_given boxes mail_closed slips_closed p.mail_new p.slips_new lanes_ran boxes_ran
-          mail_shut slips_shut mail_times slips_times mail_settled slips_settled p.each_box p.some_boxes
+          mail_shut slips_shut mail_times slips_times mail_settled slips_settled p.each_box p.some_boxes blocks slots

@@ -106,7 +106,7 @@ module _ {V S : Type 0} {capacity room : ℕ} (site : Site) (May : ℕ → Type 
     (mail_times : HaveTimes new_lanes.rows mail_closed) (slips_times : HaveTimes new_boxes.rows slips_closed)
     (mail_settled : AllZip (IsSettled (λ (n : Note). n.txn.lane)) new_boxes.inboxes mail_closed)
     (slips_settled : AllZip (IsSettled (λ (s : Slip). s.worker)) new_lanes.inboxes slips_closed)
-    (each_box : length old_boxes.spools ≡ length site.boxes) (some_boxes : 0 < length old_boxes.spools) where
+    (each_box : length old_boxes.spools ≡ length site.boxes) (some_boxes : 0 < length old_boxes.spools) (blocks slots : ℕ) where
   abbrev owed_by : ℕ → ℕ → List Note
   owed_by k b = due site k b (conversations_of (lanes.works k).visits)
 
@@ -174,6 +174,8 @@ module _ {V S : Type 0} {capacity room : ℕ} (site : Site) (May : ℕ → Type 
     spools = new_boxes.lent;
     conversations = new_lanes.tallies;
     tallies = new_boxes.tallies;
+    blocks = blocks;
+    slots = slots;
   }
 
   exchanged : HaveExchanged site state lanes.works boxes.works handed back

@@ -10,12 +10,15 @@ pub record HandedIn (V S : Type 0) : Type 0 where
   pub capacity : ℕ
   pub quota : Option ℕ
 
--- what is handed back, and what is told of it: how many conversations each lane held, and what each worker did
+-- what is handed back, and what is told of it: how many conversations each lane held, what each worker did, and how
+-- many blocks and slots the messages had
 pub record HandedBack (V S : Type 0) : Type 0 where
   pub visits : List V
   pub spools : List S
   pub conversations : List ℕ
   pub tallies : List Tally
+  pub blocks : ℕ
+  pub slots : ℕ
 
 -- what is handed in, part by part
 abbrev pub handed_in : {V S : Type 0} → List V → List S → ℕ → Option ℕ → HandedIn V S

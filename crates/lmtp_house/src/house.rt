@@ -3,6 +3,7 @@
 mod channels;
 pub mod fault;
 mod handed;
+mod memory;
 mod plan;
 pub mod report;
 pub mod run;
@@ -10,6 +11,6 @@ mod serving;
 pub mod sizes;
 
 pub use fault::HouseFault;
-pub use report::{HouseReport, has_failed};
+pub use report::{HouseReport, Room, has_failed};
 pub use run::run_house;
 pub use sizes::{Sizes, is_size};

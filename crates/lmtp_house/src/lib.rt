@@ -7,7 +7,7 @@
 
 mod house;
 
-pub use house::{HouseFault, HouseReport, Sizes, has_failed, is_size, run_house};
+pub use house::{HouseFault, HouseReport, Room, Sizes, has_failed, is_size, run_house};
 pub use lmtp_lane::{
     Client, Clock, Desk, Endpoint, LaneReport, Listener, SystemClock, TcpVisits, Visits, WAIT_MS,
     lane_run, lane_run_at, tcp_visits,

@@ -9,7 +9,7 @@ ghost use Rattle.lmtp_house.specs.HousePlan.{IsPlanned, MayRun, HasRunAll};
 use crate::house::channels::{Channels, Closings};
 use crate::house::fault::HouseFault;
 use crate::house::handed::HandedIn;
-use crate::house::report::HouseReport;
+use crate::house::report::{HouseReport, Room};
 use crate::house::serving::{Ended, serve_all};
 use box_worker::Gate;
 use lmtp_lane::{Clock, Visits};
@@ -99,14 +99,16 @@ where
         })
     }
 
-    /// Runs the workers and the lanes, until the lanes have no more clients.
+    /// Runs the workers and the lanes, until the lanes have no more clients. The depot has that room.
     pub fn run<R: Threads + Wait + Copy + Send + 'static>(
         self,
         rt: R,
         depot: &Depot<N>,
+        room: Room,
     ) -> Result<HouseReport<V, S, G>, HouseFault>
         requires { MayRun V.out self }
         ensures ran { IfOk result (HasRunAll C.May (visits_view V.MayGive V.finished V.over) S.state self) }
+        ensures room { IfOk result (λ report. (report.blocks ≡ room.blocks) × (report.slots ≡ room.slots)) }
         ensures not_size { result ≢ Err HouseFault.Size }
     {
         let Plan {
@@ -136,6 +138,7 @@ where
             gates,
             conversations: ends.tallies,
             tallies: done.tallies,
+            room,
             free_blocks: depot.free_blocks(&rt),
         })
     }

@@ -13,6 +13,13 @@ pub fn has_failed(tallies: &[Tally]) -> bool
     tallies.iter().any(|tally| tally.faulty)
 }
 
+/// How many blocks there are for messages on their way, and how many of these there may be.
+#[derive(Clone, Copy, Debug, PartialEq, Eq)]
+pub struct Room {
+    pub blocks: u32,
+    pub slots: u32,
+}
+
 /// All that was handed in, by lane and by mailbox, and what became of it.
 #[derive(Drop)]
 pub struct HouseReport<V, S, G> {
@@ -22,6 +29,8 @@ pub struct HouseReport<V, S, G> {
     /// How many conversations each lane held; a count stays at its largest value.
     pub conversations: Vec<u64>,
     pub tallies: Vec<Tally>,
+    /// How many blocks there were for messages, and how many messages there could be.
+    pub room: Room,
     /// The blocks that hold no message.
     pub free_blocks: u32,
 }
@@ -36,5 +45,7 @@ impl<V, S, G> Model for HouseReport<V, S, G> {
       spools = r.spools.items;
       conversations = r.conversations.items;
       tallies = r.tallies.items;
+      blocks = r.room.blocks;
+      slots = r.room.slots;
     } };
 }

@@ -10,22 +10,24 @@ ghost use Rattle.lmtp_house.specs.House.{HasRun, IsSize};
 
 use crate::house::fault::HouseFault;
 use crate::house::handed::HandedIn;
+use crate::house::memory::Memory;
 use crate::house::plan::Plan;
-use crate::house::report::HouseReport;
+use crate::house::report::{HouseReport, Room};
 use crate::house::sizes::{Sizes, is_size};
 use box_worker::Gate;
 use lmtp_lane::{Clock, Visits};
 use lmtp_text::Site;
 use lmtp_threads::Shared;
 use mbox_record::Spool;
-use msg_depot::{Blank, DepotName};
+use msg_depot::DepotName;
 use std::alloc::Global;
 use std::marker::Brand;
 use std::sync::{Arc, Wait};
 use std::thread::Threads;
 
 /// Runs a server until its lanes have no more clients: a lane for each of the visits, and for each mailbox of the site
-/// a worker with its spool and its gate, each in a thread of its own. All memory is taken first.
+/// a worker with its spool and its gate, each in a thread of its own. All memory is taken first; the messages have the
+/// blocks and slots of the sizes.
 pub fn run_house<V, S, G, C, R>(
     rt: R,
     alloc: Global,
@@ -47,6 +49,7 @@ where
     ensures ran { IfOk result (HasRun (arc_value site) (C.May clock)
         (visits_view V.MayGive V.finished V.over) S.state
         (handed_in visits.items spools.items sizes.capacity sizes.quota)) }
+    ensures room { IfOk result (λ report. (report.blocks ≡ sizes.blocks) × (report.slots ≡ sizes.slots)) }
     ensures size { result ≡ Err HouseFault.Size
         ↔ ¬ IsSize (arc_value site) sizes (length visits.items) (length spools.items) (length gates.items) }
 {
@@ -54,7 +57,11 @@ where
         return Err(HouseFault::Size);
     }
     let clock = Arc::new(alloc, clock)?;
-    let blank = Blank::new(alloc, sizes.blocks, sizes.slots)?;
+    let room = Room {
+        blocks: sizes.blocks,
+        slots: sizes.slots,
+    };
+    let memory = Memory::new(alloc, room)?;
     let handed = HandedIn {
         visits,
         spools,
@@ -62,14 +69,14 @@ where
         capacity: sizes.capacity as usize,
         quota: sizes.quota,
     };
-    run_at::<Brand, V, S, G, C, R>(rt, alloc, blank, site, clock, handed)
+    run_at::<Brand, V, S, G, C, R>(rt, alloc, memory, site, clock, handed)
 }
 
-// Runs a server over the depot of this name.
+// Runs a server over the depot of this name, in that memory.
 fn run_at<N, V, S, G, C, R>(
     rt: R,
     alloc: Global,
-    blank: Blank,
+    memory: Memory,
     site: Arc<Site>,
     clock: Arc<C>,
     handed: HandedIn<V, S, G>,
@@ -82,15 +89,18 @@ where
     G: Gate + Drop + Send + 'static,
     C: Clock + Send + Sync + 'static,
     R: Threads + Wait + Copy + Send + 'static,
-    requires name { blank.table ≡ N.table }
+    requires name { memory.blank.table ≡ N.table }
     requires capacity { 0 < handed.capacity }
     requires lanes { (0 < length handed.visits) × (length handed.visits ≤ LANE_LIMIT) }
     requires spools { (0 < length handed.spools) × (length handed.spools ≡ length (arc_value site).boxes) }
     requires none_out { AllByRecursion (λ v. V.out v ≡ false) handed.visits }
     ensures ran { IfOk result (HasRun (arc_value site) (C.May (arc_value clock))
         (visits_view V.MayGive V.finished V.over) S.state handed) }
+    ensures room { IfOk result
+        (λ report. (report.blocks ≡ memory.room.blocks) × (report.slots ≡ memory.room.slots)) }
     ensures not_size { result ≢ Err HouseFault.Size }
 {
+    let Memory { blank, room } = memory;
     let shared = Shared {
         alloc,
         site,
@@ -98,5 +108,5 @@ where
         depot: Arc::new(alloc, blank.open::<N>())?,
     };
     let plan = Plan::new(&shared, handed)?;
-    plan.run(rt, &shared.depot)
+    plan.run(rt, &shared.depot, room)
 }

@@ -44,4 +44,4 @@ returns-clause-ran g c site clock handed planned =
     let served = served_as g.C.Clock.May _ _ _ _ c.ends.view_is c.in_ok-ends.ensures.served in
     let worked = worked_as g.S.Spool.state _ _ _ _ c.done.view_is c.in_ok-ends.ensures.working c.finish-done.ensures c.if-done.false in
     run_is g.C.Clock.May _ g.S.Spool.state _ site clock handed p _ served _ worked _ c.close-closed.ensures.sent
-    _ c.close-slips_closed.ensures.sent c.close-closed.ensures.times c.close-slips_closed.ensures.times c.settle_all.ensures c.settle_all-2.ensures
+    _ c.close-slips_closed.ensures.sent c.args.room.blocks c.args.room.slots c.close-closed.ensures.times c.close-slips_closed.ensures.times c.settle_all.ensures c.settle_all-2.ensures
