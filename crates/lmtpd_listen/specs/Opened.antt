@@ -1,5 +1,5 @@
 -- What contracts see of what was opened, and of what wasn't.
-use Rattle.std.specs.Prelude.{◌≡◌, ℕ, List, Option, Some, None, string_bytes}
+use Rattle.std.specs.Prelude.{◌≡◌, ℕ, List, Option, Some, None, bit_and, string_bytes}
 use Rattle.lmtp_lane.specs.declared.tcp.listener.Client.{Client}
 use Rattle.lmtp_lane.specs.declared.tcp.listener.Client.TheVariants as who
 use Rattle.lmtp_lane.specs.declared.tcp.listener.Endpoint.{Endpoint}
@@ -15,6 +15,7 @@ use Rattle.lmtpd_listen.specs.declared.listen_address.ListenAddress.TheVariants 
 use Rattle.lmtpd_listen.specs.declared.server.Listening.{Listening}
 use Rattle.lmtpd_listen.specs.declared.server.Listening.TheVariants as listening
 use Rattle.lmtpd_listen.specs.declared.server.ServerSocket.{ServerSocket}
+use Rattle.lmtpd_listen.specs.declared.unix.TheConstants.{MODE_BITS}
 use Rattle.lmtpd_listen.specs.declared.socket_file.Made.{Made}
 use Rattle.lmtpd_listen.specs.declared.socket_file.SocketFile.{SocketFile}
 
@@ -34,6 +35,19 @@ path_made (Some made) = Some made.path.now
 abbrev pub file_path : SocketFile → Option (List ℕ)
 file_path file = path_made file.made
 
+abbrev mode_found : Option Made → Option ℕ
+mode_found None = None
+mode_found (Some made) = Some made.mode
+
+-- the permission bits that this file had when it was looked at last, before the socket listened; none where none was
+-- made
+abbrev pub file_mode : SocketFile → Option ℕ
+file_mode file = mode_found file.made
+
+-- the permission bits of a number
+abbrev pub permissions : ℕ → ℕ
+permissions mode = bit_and mode MODE_BITS
+
 -- whom a socket accepts: over TCP one with an address, over a Unix socket one without
 abbrev pub IsClient : Option (List ℕ) → ClientSocket → Client → Type 0
 IsClient None (client.Tcp stream) (who.Ip address) = Unit {0}
@@ -45,13 +59,19 @@ abbrev pub IsEndpoint : Option (List ℕ) → Endpoint → Type 0
 IsEndpoint path (endpoint.Ip address) = path ≡ None
 IsEndpoint path (endpoint.Unix name) = path ≡ Some name.now
 
--- What was opened is of the kind that was asked for: a Unix socket that was made listens at its path, and its file is
--- removed at the end; any other is left where it is.
-abbrev pub IsOpenedFor : ListenAddress → Opened → Type 0
-IsOpenedFor (listen_address.Tcp address) opened = (socket_path opened.socket ≡ None) × (file_path opened.file ≡ None)
-IsOpenedFor (listen_address.Unix path) opened = (socket_path opened.socket ≡ Some path.now)
-    × (file_path opened.file ≡ Some path.now)
-IsOpenedFor listen_address.Inherited opened = file_path opened.file ≡ None
+-- a Unix socket that listens at that path, whose file there had just that mode and is removed at the end
+pub record IsMadeAt (path : List ℕ) (bits : ℕ) (opened : Opened) : Type 0 where
+  pub listens : socket_path opened.socket ≡ Some path
+  pub removed : file_path opened.file ≡ Some path
+  pub mode : file_mode opened.file ≡ Some bits
+
+-- What was opened is of the kind that was asked for: a Unix socket that was made is at its path, with the permission
+-- bits of that mode; any other is left where it is.
+abbrev pub IsOpenedFor : ListenAddress → ℕ → Opened → Type 0
+IsOpenedFor (listen_address.Tcp address) mode opened =
+    (socket_path opened.socket ≡ None) × (file_path opened.file ≡ None)
+IsOpenedFor (listen_address.Unix path) mode opened = IsMadeAt path.now (permissions mode) opened
+IsOpenedFor listen_address.Inherited mode opened = file_path opened.file ≡ None
 
 -- nothing could be opened at an address, and the log says why
 abbrev pub IsListenFault : ListenFault → Type 0

@@ -33,7 +33,7 @@ pub fn open<'a, R>(
 where
     R: Files + Net<Listener = TcpListener, Stream = TcpStream> + Env + Clock,
     R::File: FileLock,
-    ensures { MatchResult result (IsOpenedFor listen_address.entry) (IsUnopened listen_address.entry) }
+    ensures { MatchResult result (IsOpenedFor listen_address.entry mode) (IsUnopened listen_address.entry) }
 {
     let socket = match listen_address {
         ListenAddress::Unix(path) => return open_unix(rt, alloc, path, mode),

@@ -1,7 +1,7 @@
 //! The file of a Unix socket that was made.
 
 ghost use Rattle.std.specs.Prelude.{◌≡◌, Some, None};
-ghost use Rattle.lmtpd_listen.specs.Opened.{IsListenFault, file_path};
+ghost use Rattle.lmtpd_listen.specs.Opened.{IsListenFault, file_mode, file_path};
 ghost use Rattle.std.specs.Prelude.{IfErr};
 
 use crate::fault::{ListenFault, Reason};
@@ -17,10 +17,12 @@ pub struct SocketFile<'a> {
     made: Option<Made<'a>>,
 }
 
+/// A file that was made, and the permission bits that it had when it was looked at last.
 #[derive(Clone, Copy)]
-struct Made<'a> {
-    path: &'a str,
-    mark: Mark,
+pub(crate) struct Made<'a> {
+    pub path: &'a str,
+    pub mark: Mark,
+    pub mode: u32,
 }
 
 /// Which file it is. A file that is made after another was removed may get its number, and is younger.
@@ -50,18 +52,18 @@ pub(crate) fn mark_of(found: &Metadata) -> Result<Mark, ListenFault>
 impl<'a> SocketFile<'a> {
     /// Where no file was made.
     pub(crate) fn none() -> SocketFile<'a>
-        ensures { file_path result ≡ None }
+        ensures path { file_path result ≡ None }
+        ensures mode { file_mode result ≡ None }
     {
         SocketFile { made: None }
     }
 
-    /// The file that was made at that path.
-    pub(crate) fn at(path: &'a str, mark: Mark) -> SocketFile<'a>
-        ensures { file_path result ≡ Some path.now }
+    /// The file that was made.
+    pub(crate) fn of(made: Made<'a>) -> SocketFile<'a>
+        ensures path { file_path result ≡ Some made.entry.path.now }
+        ensures mode { file_mode result ≡ Some made.entry.mode }
     {
-        SocketFile {
-            made: Some(Made { path, mark }),
-        }
+        SocketFile { made: Some(made) }
     }
 
     /// Removes the file, where it is still the one that was made. What can't be looked at or removed stays: a server

@@ -1,14 +1,14 @@
 //! A Unix socket at a path.
 
 ghost use Rattle.std.specs.Prelude.{◌≡◌, IfErr, MatchResult, Some, string_bytes};
-ghost use Rattle.lmtpd_listen.specs.Opened.{IsListenFault, IsOpenedFor, IsUnopened, socket_path};
+ghost use Rattle.lmtpd_listen.specs.Opened.{IsListenFault, IsMadeAt, IsOpenedFor, IsUnopened, socket_path};
 ghost use Rattle.lmtpd_listen.specs.declared.listen_address.ListenAddress.TheVariants as listen_address;
 
 use crate::fault::{ListenFault, Reason, last_fault};
 use crate::folder::lock_folder;
 use crate::opened::Opened;
 use crate::server::ServerSocket;
-use crate::socket_file::{Mark, SocketFile, mark_of, remove_made};
+use crate::socket_file::{Made, Mark, SocketFile, mark_of, remove_made};
 use libc::net::listen;
 use mbox_file::FileLock;
 use std::alloc::Global;
@@ -37,14 +37,13 @@ pub(crate) fn open_unix<'a, R: Files + Net + Clock>(
 ) -> Result<Opened<'a>, ListenFault>
 where
     R::File: FileLock,
-    ensures { MatchResult result (IsOpenedFor (listen_address.Unix path.entry))
+    ensures { MatchResult result (IsOpenedFor (listen_address.Unix path.entry) mode)
         (IsUnopened (listen_address.Unix path.entry)) }
 {
-    let mode = mode & MODE_BITS;
     let name = format!(in alloc; "{path}")?;
     let address = SocketAddr::from_pathname(path)?;
     let _folder = lock_folder(rt, path)?;
-    open_locked(rt, path, name, &address, mode)
+    open_locked(rt, path, name, &address, mode & MODE_BITS)
 }
 
 // Makes the socket of that name, which is its path, while the folder of its file is locked.
@@ -56,15 +55,15 @@ fn open_locked<'a, R: Files + Net>(
     mode: u32,
 ) -> Result<Opened<'a>, ListenFault>
     requires { string_bytes name ≡ path.now }
-    ensures { MatchResult result (IsOpenedFor (listen_address.Unix path.entry))
+    ensures { MatchResult result (IsMadeAt path.now mode)
         (IsUnopened (listen_address.Unix path.entry)) }
 {
     make_room(rt, path)?;
     let socket = unbound(rt, name)?;
-    let mark = make_file(rt, &socket, path, address, mode)?;
+    let made = make_file(rt, &socket, path, address, mode)?;
     Ok(Opened {
         socket,
-        file: SocketFile::at(path, mark),
+        file: SocketFile::of(made),
     })
 }
 
@@ -100,19 +99,19 @@ fn remove_unused<R: Files + Net>(rt: &R, path: &str, mark: Mark) -> Result<(), L
 }
 
 // Gives the socket its file, and has it listen. Where that fails, the file is removed.
-fn make_file<R: Files>(
+fn make_file<'a, R: Files>(
     rt: &R,
     socket: &ServerSocket,
-    path: &str,
+    path: &'a str,
     address: &SocketAddr,
     mode: u32,
-) -> Result<Mark, ListenFault>
-    ensures { IfErr result IsListenFault }
+) -> Result<Made<'a>, ListenFault>
+    ensures { MatchResult result (λ made. (made.path.now ≡ path.now) × (made.mode ≡ mode)) IsListenFault }
 {
     bind(rt, socket, address, mode)?;
     let mark = mark_of(&fs::symlink_metadata(rt, path)?)?;
     match expose(rt, socket, path, mark, mode) {
-        Ok(()) => Ok(mark),
+        Ok(mode) => Ok(Made { path, mark, mode }),
         Err(fault) => {
             let _ = remove_made(rt, path, mark);
             Err(fault)
@@ -135,35 +134,46 @@ fn bind<R: Files>(
     Ok(rt.bind_unix(socket.as_fd(), address)?)
 }
 
-// Gives the file just that mode, and has the socket listen.
+// Gives the file just that mode, and has the socket listen; it answers the mode that the file has then.
 fn expose<R: Files>(
     rt: &R,
     socket: &ServerSocket,
     path: &str,
     mark: Mark,
     mode: u32,
-) -> Result<(), ListenFault>
-    ensures { IfErr result IsListenFault }
+) -> Result<u32, ListenFault>
+    ensures { MatchResult result (λ found. found ≡ mode) IsListenFault }
 {
-    if !has_mode(rt, path, mark, mode)? {
-        fs::set_permissions(rt, path, Permissions::from_mode(mode))?;
-        if !has_mode(rt, path, mark, mode)? {
-            return Err(ListenFault::Listen(Reason::Changed));
-        }
-    }
+    let found = set_mode(rt, path, mark, mode)?;
     if listen(socket.as_raw_fd(), BACKLOG) < 0 {
         return Err(last_fault());
     }
-    Ok(())
+    Ok(found)
 }
 
-// Whether the file has that mode. It fails where the path names another one.
-fn has_mode<R: Files>(rt: &R, path: &str, mark: Mark, mode: u32) -> Result<bool, ListenFault>
+// Gives the file just that mode, unless it has it, and answers the mode that it has then.
+fn set_mode<R: Files>(rt: &R, path: &str, mark: Mark, mode: u32) -> Result<u32, ListenFault>
+    ensures { MatchResult result (λ found. found ≡ mode) IsListenFault }
+{
+    let found = mode_of(rt, path, mark)?;
+    if found == mode {
+        return Ok(found);
+    }
+    fs::set_permissions(rt, path, Permissions::from_mode(mode))?;
+    let found = mode_of(rt, path, mark)?;
+    if found != mode {
+        return Err(ListenFault::Listen(Reason::Changed));
+    }
+    Ok(found)
+}
+
+// The mode of the file. It fails where the path names another one.
+fn mode_of<R: Files>(rt: &R, path: &str, mark: Mark) -> Result<u32, ListenFault>
     ensures { IfErr result IsListenFault }
 {
     let found = fs::symlink_metadata(rt, path)?;
     if mark_of(&found)? != mark {
         return Err(ListenFault::Listen(Reason::Changed));
     }
-    Ok(found.mode() & MODE_BITS == mode)
+    Ok(found.mode() & MODE_BITS)
 }
