@@ -1,13 +1,13 @@
 //! The line of a file, with what was found of it, and that of one that was read without its lock.
 
 ghost use Rattle.std.specs.Prelude.{◌≡◌, OnOk, OnErr};
-ghost use Rattle.std.specs.Io.KnownBytes.{Appends, Keeps};
+ghost use Rattle.std.specs.Io.KnownBytes.{Appends};
 ghost use Rattle.lmtpd_words.specs.Output.{IsCutOff};
 ghost use Rattle.lmtpd_check.specs.Checked.{bad_line, finding_line, number_line, unlocked_line, unlocked_lines};
 
 use crate::checked::Finding;
 use itoa::Buffer;
-use lmtpd_words::{WriteFault, write_each};
+use lmtpd_words::{WriteFault, hand_on, write_each};
 use mbox_check::BadForm;
 use std::io::Write;
 
@@ -34,7 +34,7 @@ fn write_unlocked<E: Write>(error: &mut E, name: &str) -> Result<(), WriteFault>
 }
 
 /// Writes a file's line, and has the writer hand it on. After a fault the writer has gained a prefix of the line.
-#[tactic(auto, using(crate::proofs::Handed::whole_kept, crate::proofs::Handed::whole_cut))]
+#[tactic(auto, using(lmtpd_words::proofs::Handed::whole_kept, lmtpd_words::proofs::Handed::whole_cut))]
 pub fn write_finding<W: Write>(
     writer: &mut W,
     name: &str,
@@ -46,17 +46,8 @@ pub fn write_finding<W: Write>(
         (finding_line name.now finding)) }
 {
     write_line(writer, name, finding)?;
+    // what it holds back would be told too late where a large file follows
     hand_on(writer)
-}
-
-// What a writer holds back would be told too late where a large file follows.
-fn hand_on<W: Write>(writer: &mut W) -> Result<(), WriteFault>
-    ensures { Keeps (W.contents writer.old) (W.contents writer.new) }
-{
-    match writer.flush() {
-        Ok(()) => Ok(()),
-        Err(_) => Err(WriteFault),
-    }
 }
 
 fn write_line<W: Write>(writer: &mut W, name: &str, finding: Finding) -> Result<(), WriteFault>

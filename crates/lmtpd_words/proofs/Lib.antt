@@ -1,4 +1,5 @@
 pub mod Written
+pub mod Handed
 pub mod LineNames
 pub mod Listed
 mod Escapes

@@ -1,7 +1,7 @@
 //! All of the bytes to a writer, or a prefix of them and a failure.
 
 ghost use Rattle.std.specs.Prelude.{◌≡◌, ◌++◌, length, flat_map, OnOk, OnErr};
-ghost use Rattle.std.specs.Io.KnownBytes.{Appends};
+ghost use Rattle.std.specs.Io.KnownBytes.{Appends, Keeps};
 ghost use Rattle.lmtpd_words.specs.Output.{IsCutOff};
 
 use std::io::Write;
@@ -39,4 +39,14 @@ pub fn write_each<W: Write>(writer: &mut W, pieces: &[&[u8]]) -> Result<(), Writ
         write_bytes(writer, piece)?;
     }
     Ok(())
+}
+
+/// Has the writer hand on what it holds back.
+pub fn hand_on<W: Write>(writer: &mut W) -> Result<(), WriteFault>
+    ensures { Keeps (W.contents writer.old) (W.contents writer.new) }
+{
+    match writer.flush() {
+        Ok(()) => Ok(()),
+        Err(_) => Err(WriteFault),
+    }
 }

@@ -20,7 +20,7 @@ mod values;
 mod words;
 
 pub use boxes::{count_names, line_of_name};
-pub use bytes::{WriteFault, write_bytes, write_each};
+pub use bytes::{WriteFault, hand_on, write_bytes, write_each};
 pub use escaped::printable;
 pub use journal::{is_journal, names_stream};
 pub use lines::{ErrorLines, priority_in};
