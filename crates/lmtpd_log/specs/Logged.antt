@@ -15,6 +15,10 @@ use Rattle.lmtpd_log.specs.declared.listener.CountedListener.{CountedListener}
 use Rattle.lmtpd_log.specs.declared.mailbox.LoggedMailbox.{LoggedMailbox}
 use Rattle.lmtpd_log.specs.declared.visits.LoggedVisits.{LoggedVisits}
 
+-- the listener whose streams are counted
+abbrev pub listener_in : {L C : Type 0} → CountedListener L C → L
+listener_in l = l.listener
+
 -- the clients that are handed out
 abbrev pub visits_in : {L G C E : Type 0} → LoggedVisits L G C E → TcpVisits (CountedListener L C) E
 visits_in v = v.visits

@@ -1,6 +1,7 @@
 //! What a lane's log is told, as a trait that a proof can speak of.
 
-ghost use Rattle.std.specs.Prelude.{◌≡◌, [], ◌∷◌, IfOk, List, Option, length};
+ghost use Rattle.std.specs.Prelude.{◌≡◌, [], ◌∷◌, Bool, IfOk, List, Option, length};
+ghost use Rattle.std.specs.List.{AllByRecursion};
 ghost use Rattle.lmtp_talk.specs.Entries.{Entry, OfLine, OfCopy, OfEnd, with_entries};
 
 use crate::stream::Traffic;
@@ -13,6 +14,9 @@ use std::alloc::{AllocError, Global};
 pub trait LaneLog: Drop {
     // what it was told, where it says that
     ghost told: { Self → Option (List Entry) };
+
+    // whether its lines show addresses
+    ghost addresses: { Self → Bool };
 
     /// The reply to a command line, which has no line end, and is empty where it was too long.
     fn command(&mut self, line: &[u8], reply: Reply)
@@ -41,8 +45,12 @@ pub trait LaneLogs {
     /// A lane's log.
     type Log: LaneLog;
 
+    // whether the lines of these logs show addresses
+    ghost addresses: { Self → Bool };
+
     /// The log of that lane, counted from 0. It takes no memory after that.
-    fn log(&self, alloc: Global, lane: u32) -> Result<Self::Log, AllocError>;
+    fn log(&self, alloc: Global, lane: u32) -> Result<Self::Log, AllocError>
+        ensures { IfOk result (λ log. Self.Log.addresses log ≡ addresses self.now) };
 }
 
 /// The logs of the lanes from 0 on.
@@ -51,7 +59,9 @@ pub fn lane_logs<M: LaneLogs>(
     logs: &M,
     lanes: u32,
 ) -> Result<Vec<M::Log>, AllocError>
-    ensures { IfOk result (λ made. length made.items ≡ lanes) }
+    ensures count { IfOk result (λ made. length made.items ≡ lanes) }
+    ensures addresses { IfOk result
+        (λ made. AllByRecursion (λ log. M.Log.addresses log ≡ M.addresses logs.now) made.items) }
 {
     let mut made = Vec::with_capacity(alloc, lanes as usize)?;
     for lane in 0..lanes {

@@ -5,7 +5,7 @@ ghost use Rattle.std.specs.Prelude.{◌≡◌, ◌≤◌, ◌+◌, [], IfOk, get
 ghost use Rattle.std.specs.Option.{IfSome};
 ghost use Rattle.lmtpd_log.specs.Kept.{kept_texts};
 ghost use Rattle.lmtpd_log.specs.Letters.{after_copy, after_line};
-ghost use Rattle.lmtpd_log.specs.Lines.{letter_in, shows_addresses};
+ghost use Rattle.lmtpd_log.specs.Lines.{letter_in};
 ghost use Rattle.lmtpd_log.specs.Logged.{cause_text, outcome_word, is_refusal};
 ghost use Rattle.lmtpd_log.specs.declared.addresses.TheConstants.{KEPT_LIMIT};
 
@@ -89,9 +89,9 @@ pub struct LineLog<G: Drop, C: Drop> {
 impl<G: Log + Copy + Drop, C: Clock + Copy + Drop> LaneLogs for LineSetting<G, C> {
     type Log = LineLog<G, C>;
 
-    fn log(&self, alloc: Global, lane: u32) -> Result<LineLog<G, C>, AllocError>
-        ensures { IfOk result (λ log. shows_addresses log ≡ self.now.addresses) }
-    {
+    ghost addresses = { λ setting. setting.addresses };
+
+    fn log(&self, alloc: Global, lane: u32) -> Result<LineLog<G, C>, AllocError> {
         let addresses = if self.addresses {
             Some(Addresses::new(alloc)?)
         } else {
@@ -274,8 +274,11 @@ impl<G: Log + Drop, C: Clock + Drop> LineLog<G, C> {
 
 impl<G: Log + Drop, C: Clock + Drop> LaneLog for LineLog<G, C> {
     ghost use Rattle.std.specs.Prelude.{None};
+    ghost use Rattle.lmtpd_log.specs.Lines.{shows_addresses};
 
     ghost told = { λ _. None };
+
+    ghost addresses = { λ log. shows_addresses log };
 
     /// A line for a command that was refused.
     fn command(&mut self, line: &[u8], reply: Reply)

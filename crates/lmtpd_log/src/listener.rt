@@ -1,6 +1,7 @@
 //! A listener whose streams are counted.
 
 ghost use Rattle.std.specs.Prelude.{◌≡◌};
+ghost use Rattle.lmtpd_log.specs.Logged.{listener_in};
 
 use crate::stream::CountedStream;
 use lmtp_lane::{Client, Endpoint, Listener};
@@ -17,7 +18,7 @@ pub struct CountedListener<L, C> {
 impl<L, C> CountedListener<L, C> {
     /// Over the listener; the clock is asked as a client is accepted.
     pub fn new(listener: L, clock: C) -> CountedListener<L, C>
-        ensures over { result.listener ≡ listener }
+        ensures over { listener_in result ≡ listener }
         ensures clock { result.clock ≡ clock }
     {
         CountedListener { listener, clock }
