@@ -2,3 +2,4 @@ mod SiteRows
 pub mod Orders
 mod Whole
 pub mod WrongNames
+pub mod Pushed

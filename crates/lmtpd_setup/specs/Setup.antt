@@ -1,11 +1,13 @@
 -- What a server has before it listens, and why it hasn't.
-use Rattle.std.specs.Prelude.{◌≡◌, ◌⊎◌, None}
+use Rattle.std.specs.Prelude.{◌≡◌, ◌⊎◌, ◌*◌, List, None, map, nat_lt, Bool}
+use Rattle.mail_world.specs.declared.limits.TheConstants.{BLOCK_SIZE}
 use Rattle.lmtpd_words.specs.Words.{named_site}
 use Rattle.lmtpd_words.specs.declared.words.ServeWords.{ServeWords}
 use Rattle.lmtpd_listen.specs.Opened.{IsUnopened}
 use Rattle.lmtpd_listen.specs.declared.fault.ListenFault.{ListenFault}
 use Rattle.lmtpd_listen.specs.declared.listen_address.ListenAddress.{ListenAddress}
 use Rattle.lmtpd_setup.specs.Faults.{first_fault, listen_refusal}
+use Rattle.lmtpd_setup.specs.Mailboxes.{Held, held_at}
 use Rattle.lmtpd_setup.specs.Names.{IsNoSite}
 use Rattle.lmtpd_setup.specs.Unopened.{AreNotOpen}
 use Rattle.lmtpd_setup.specs.declared.ends.Ends.{Ends}
@@ -28,6 +30,14 @@ access_asked words = record {
   mode = words.mailbox_mode;
   anyway = words.start_anyway;
 }
+
+-- how the mailboxes are to be had, in the order of the site
+abbrev pub mailboxes_asked : ServeWords → List Held
+mailboxes_asked words = map (held_at (access_asked words)) words.site.boxes.items
+
+-- all blocks together can't hold one largest message
+abbrev pub is_short : ServeWords → Bool
+is_short words = nat_lt (words.blocks * BLOCK_SIZE) words.site.message_limit
 
 -- why a server isn't set up: it has no site, memory is lacking, or, its site being sound, one of its mailboxes' files
 -- can't be opened, or only their folder can't where it is to start anyway

@@ -1,7 +1,7 @@
 //! What ends a server though its clients aren't done: a file that an administrator makes, and a mailbox that failed.
 
-ghost use Rattle.std.specs.Prelude.{◌≡◌, ◌*◌, IfOk};
-ghost use Rattle.std.specs.Duration.{as_nanos};
+ghost use Rattle.std.specs.Prelude.{◌≡◌, IfOk, option_map, string_bytes};
+ghost use Rattle.lmtpd_setup.specs.Curfew.{IsCurfewOf};
 
 use lmtp_talk::{Curfew, has_passed};
 use std::alloc::{AllocError, Global};
@@ -50,22 +50,27 @@ pub struct ServerCurfew<R> {
 impl<R: Drop> ServerCurfew<R> {
     /// Nothing has ended the server yet. From here on it takes no memory.
     pub fn new(rt: R, alloc: Global, ends: Ends<'_>) -> Result<ServerCurfew<R>, AllocError>
-        ensures session { IfOk result (λ curfew. as_nanos curfew.session ≡ ends.entry.session_time * 1_000_000_000) }
-        ensures heals { IfOk result (λ curfew. curfew.heals ≡ ends.entry.heals) }
+        ensures { IfOk result (IsCurfewOf ends.entry) }
     {
-        let stop_file = match ends.stop_file {
-            Some(path) => Some(format!(in alloc; "{path}")?),
-            None => None,
-        };
         Ok(ServerCurfew {
             rt,
-            stop_file,
+            stop_file: kept_path(alloc, ends.stop_file)?,
             heals: ends.heals,
             session: Duration::from_secs(u64::from(ends.session_time)),
             looked: AtomicU64::new(0),
             failed: AtomicU64::new(NEVER),
             asked: AtomicU64::new(NEVER),
         })
+    }
+}
+
+// The path that is looked at, where there is one.
+fn kept_path(alloc: Global, path: Option<&str>) -> Result<Option<String>, AllocError>
+    ensures { IfOk result (λ kept. option_map string_bytes kept ≡ option_map (λ p. p.now) path.entry) }
+{
+    match path {
+        Some(path) => Ok(Some(format!(in alloc; "{path}")?)),
+        None => Ok(None),
     }
 }
 

@@ -1,6 +1,7 @@
 //! The log of a server.
 
 ghost use Rattle.std.specs.Prelude.{◌≡◌, IfErr, IfOk};
+ghost use Rattle.log.specs.Handle.{max_level};
 
 use crate::fault::Fault;
 use lmtp_text::Site;
@@ -17,7 +18,9 @@ use std::time::{Clock, Duration};
 pub type ServerLog<H> = Logged<H, ErrorLines<H>>;
 
 /// The log of the threads, with lines up to that level. By `rt` it is seen whether standard error is the journal.
-pub fn server_log<P: Files + Env, H: Copy>(rt: &P, threads: H, level: LevelFilter) -> ServerLog<H> {
+pub fn server_log<P: Files + Env, H: Copy>(rt: &P, threads: H, level: LevelFilter) -> ServerLog<H>
+    ensures { max_level result ≡ level }
+{
     let lines = ErrorLines::new(threads, is_journal(rt));
     Logged::new(threads, level, lines)
 }
@@ -31,6 +34,7 @@ pub fn line_setting<H: Clock + Copy>(
     site: &Arc<Site>,
 ) -> Result<LineSetting<ServerLog<H>, H>, Fault>
     ensures memory { IfErr result (λ f. f ≡ Fault.Memory) }
+    ensures log { IfOk result (λ setting. setting.log ≡ log) }
     ensures addresses { IfOk result (λ setting. setting.addresses ≡ words.now.log_addresses) }
 {
     Ok(LineSetting {

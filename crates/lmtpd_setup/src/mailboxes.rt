@@ -1,7 +1,9 @@
 //! The files of a server's mailboxes.
 
-ghost use Rattle.std.specs.Prelude.{◌≡◌, length, vec_len, IfOk, IfErr};
+ghost use Rattle.std.specs.Prelude.{◌≡◌, Some, length, map, vec_len, IfOk, IfErr};
+ghost use Rattle.mbox_file.specs.StdFile.{file_mode, file_path};
 ghost use Rattle.lmtpd_log.specs.Logged.{file_in, spool_in};
+ghost use Rattle.lmtpd_setup.specs.Mailboxes.{held_as, held_at, held_in, path_at};
 ghost use Rattle.lmtpd_setup.specs.Unopened.{AreNotOpen, IsNotOpen};
 
 use crate::ends::ServerCurfew;
@@ -56,6 +58,7 @@ where
     R::File: RangeLock,
     G: Log + Copy + Drop,
     ensures count { IfOk result (λ spools. vec_len spools ≡ length names.now) }
+    ensures held { IfOk result (λ spools. map held_as spools.items ≡ map (held_at access.entry) names.now) }
     ensures refused { IfErr result (AreNotOpen access.entry.anyway names.now) }
 {
     let mut spools = match Vec::with_capacity(alloc, names.len()) {
@@ -97,7 +100,8 @@ where
     R: Files + Clock + Copy + Drop,
     R::File: RangeLock,
     G: Log + Drop,
-    ensures { IfErr result (IsNotOpen access.entry.anyway name.entry) }
+    ensures ok { IfOk result (λ spool. held_in spool ≡ held_at access.entry name.entry) }
+    ensures err { IfErr result (IsNotOpen access.entry.anyway name.entry) }
 {
     let file = open_file(rt, alloc, access, name, &log)?;
     let file = logged_file(alloc, WatchedFile::new(file, shared(curfew)?), name, log)?;
@@ -118,7 +122,9 @@ fn open_file<'a, R: Files + Clock + Copy + Drop, G: Log>(
 ) -> Result<StdMailboxFile<R>, Stop<'a>>
 where
     R::File: RangeLock,
-    ensures { IfErr result (IsNotOpen access.entry.anyway name.entry) }
+    ensures path { IfOk result (λ file. file_path file ≡ path_at access.entry name.entry) }
+    ensures mode { IfOk result (λ file. file_mode file ≡ Some access.entry.mode) }
+    ensures err { IfErr result (IsNotOpen access.entry.anyway name.entry) }
 {
     let folder = access.folder;
     let shown = printable(name);

@@ -27,7 +27,7 @@ where
     R: Files + Net<Listener = TcpListener, Stream = TcpStream> + Env + Clock,
     R::File: FileLock,
     G: Log,
-    ensures { MatchResult result (IsOpenedFor listen_address.entry) (IsUnopenedAt listen_address.entry) }
+    ensures { MatchResult result (IsOpenedFor listen_address.entry mode) (IsUnopenedAt listen_address.entry) }
 {
     match open(rt, alloc, listen_address, mode) {
         Ok(opened) => Ok(opened),

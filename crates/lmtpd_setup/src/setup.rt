@@ -1,10 +1,13 @@
 //! What a server has before it listens.
 
-ghost use Rattle.std.specs.Prelude.{◌≡◌, length, None, IfOk, IfErr};
+ghost use Rattle.std.specs.Prelude.{◌≡◌, length, map, None, IfOk, IfErr};
 ghost use Rattle.std.specs.Arc.{arc_value};
+ghost use Rattle.log.specs.Handle.{max_level};
 ghost use Rattle.lmtpd_words.specs.Words.{named_site};
+ghost use Rattle.lmtpd_setup.specs.Curfew.{IsCurfewOf};
 ghost use Rattle.lmtpd_setup.specs.Faults.{first_fault};
-ghost use Rattle.lmtpd_setup.specs.Setup.{IsNotSetUp, access_asked, ends_asked};
+ghost use Rattle.lmtpd_setup.specs.Mailboxes.{held_as};
+ghost use Rattle.lmtpd_setup.specs.Setup.{IsNotSetUp, access_asked, ends_asked, mailboxes_asked};
 
 use crate::ends::{Ends, ServerCurfew};
 use crate::fault::Fault;
@@ -56,6 +59,11 @@ where
     ensures site { IfOk result (λ setup. arc_value setup.site ≡ named_site words.now.site) }
     ensures sound { IfOk result (λ setup. first_fault (named_site words.now.site) ≡ None) }
     ensures count { IfOk result (λ setup. length setup.spools.items ≡ length words.now.site.boxes.items) }
+    ensures mailboxes { IfOk result (λ setup. map held_as setup.spools.items ≡ mailboxes_asked words.now) }
+    ensures ends { IfOk result (λ setup. IsCurfewOf (ends_asked words.now) (arc_value setup.curfew)) }
+    ensures level { IfOk result (λ setup. max_level setup.log ≡ words.now.log) }
+    ensures lines { IfOk result (λ setup. setup.logs.log ≡ setup.log) }
+    ensures addresses { IfOk result (λ setup. setup.logs.addresses ≡ words.now.log_addresses) }
     ensures refused { IfErr result (IsNotSetUp words.now) }
 {
     let alloc = rt.alloc();
@@ -93,7 +101,8 @@ fn shared_curfew<H: Drop>(
     alloc: Global,
     words: &ServeWords<'_>,
 ) -> Result<Arc<ServerCurfew<H>>, Fault>
-    ensures { IfErr result (λ f. f ≡ Fault.Memory) }
+    ensures ends { IfOk result (λ curfew. IsCurfewOf (ends_asked words.now) (arc_value curfew)) }
+    ensures err { IfErr result (λ f. f ≡ Fault.Memory) }
 {
     let curfew = ServerCurfew::new(threads, alloc, ends_asked(words))?;
     Ok(Arc::new(alloc, curfew)?)

@@ -1,5 +1,10 @@
-use Rattle.std.proofs.Common.{◌≡◌, ◌≤◌, length, vec_capacity, vec_len}
+use Rattle.std.proofs.Common.{◌≡◌, ◌≤◌, length, map, take, vec_capacity, vec_len}
+use Rattle.lmtpd_setup.specs.Mailboxes.{held_as, held_at}
 use Rattle.lmtpd_setup.proofs.mailboxes.open_mailboxes.Given as goal
 
 abbrev pub invariant-loop-name : goal.invariant-loop-name
-invariant-loop-name g l = (vec_len l.spools ≡ l.name-index) × (length l.names ≤ vec_capacity l.spools)
+invariant-loop-name g l = record {
+  count : vec_len l.spools ≡ l.name-index;
+  room : length l.names ≤ vec_capacity l.spools;
+  held : map held_as l.spools.items ≡ map (held_at l.access) (take l.name-index l.names);
+}
