@@ -1,2 +1,3 @@
 mod TroubleLines
 mod Unmapped
+pub mod Said

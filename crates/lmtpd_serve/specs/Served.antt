@@ -1,6 +1,7 @@
 -- What a server says on standard output and on standard error, and what its run comes to.
-use Rattle.std.specs.Prelude.{◌≡◌, ◌==◌, ◌<◌, ◌^◌, ℕ, List, [], ◌∷◌, ◌++◌, length, codes, decimal, if◌then◌else◌, map}
-use Rattle.std.specs.Prelude.{Option, Some}
+use Rattle.std.specs.Prelude.{◌≡◌, ◌==◌, ◌||◌, ◌<◌, ◌^◌, ℕ, List, [], ◌∷◌, ◌++◌, length, codes, decimal, map}
+use Rattle.std.specs.Prelude.{if◌then◌else◌, Bool, true, false, Option, Some}
+use Rattle.std.specs.Io.KnownBytes.{Keeps}
 use Rattle.std.specs.Arc.{arc_value}
 use Rattle.std.specs.List.{AllByRecursion, list_any}
 use Rattle.std.specs.Net.Text.{socket_text}
@@ -12,11 +13,15 @@ use Rattle.mbox_record.specs.Spool.{SpoolState}
 use Rattle.lmtp_threads.specs.declared.tally.Tally.{Tally}
 use Rattle.lmtp_house.specs.Handed.{HandedBack}
 use Rattle.lmtp_house.specs.House.{HasRun}
-use Rattle.lmtp_lane.specs.TcpVisits.{conversations_ended, IsNewcomer, is_over}
+use Rattle.lmtp_house.specs.declared.house.sizes.Sizes.{Sizes}
+use Rattle.lmtp_lane.specs.TcpVisits.{IsLaneOf, IsNewcomer, connections_left, conversations_ended, has_failed}
+use Rattle.lmtp_lane.specs.TcpVisits.{is_over, shares, was_stopped}
 use Rattle.lmtp_talk.specs.Entries.{Entry}
-use Rattle.lmtpd_log.specs.Logged.{visits_in, log_in, told_with_log}
+use Rattle.lmtpd_log.specs.Logged.{listener_in, visits_in, log_in, told_with_log}
+use Rattle.lmtpd_log.specs.declared.listener.CountedListener.{CountedListener}
 use Rattle.lmtpd_log.specs.declared.visits.LoggedVisits.{LoggedVisits}
-use Rattle.lmtpd_words.specs.Output.{pair_texts}
+use Rattle.lmtpd_words.specs.Output.{IsListed, pair_texts}
+use Rattle.lmtpd_serve.specs.declared.conversations.Conversations.{Conversations}
 use Rattle.lmtpd_serve.specs.declared.lines.Trouble.{Trouble}
 use Rattle.lmtpd_serve.specs.declared.lines.Trouble.TheVariants.{InUse, OverQuota}
 use Rattle.lmtpd_serve.specs.declared.served.Served.{Served}
@@ -57,25 +62,60 @@ trouble_lines_of trouble served = pair_texts (trouble_told trouble) (arc_value s
 abbrev pub trouble_lines : Served → List ℕ
 trouble_lines served = trouble_lines_of InUse served ++ trouble_lines_of OverQuota served
 
--- how many lanes a server has, how many copies may wait for a mailbox's worker, and the limit of bytes for each mailbox
-pub record Extent : Type 0 where
-  pub lanes : ℕ
-  pub capacity : ℕ
-  pub quota : Option ℕ
+-- the text that says where a server listens, where its listener can tell that
+abbrev pub IsAnnouncement : Bool → List ℕ → Type 0
+IsAnnouncement true text = text ≡ []
+IsAnnouncement false text = (endpoint : Endpoint) × (text ≡ endpoint_line endpoint)
 
--- each of these visits has a log
-abbrev pub HaveLogs : {L G C E : Type 0} → List (LoggedVisits L G C E) → Type 0
-HaveLogs {L} {G} visits = (logs : List G) × (map log_in visits ≡ map (λ log. Some log) logs)
+-- it was said where the server listens, unless its listener can't tell that, up to a write that failed
+pub record IsAnnounced (unknown : Bool) (before after : Option (List ℕ)) (cut : Bool) : Type 0 where
+  pub text : List ℕ
+  pub announces : IsAnnouncement unknown text
+  pub listed : IsListed text before after cut
 
--- A server of this extent ran for the site, over clients of a listener, of whom it is told how many were handed back,
--- and these spools; each lane has a log, `told` says what one was told, and a lane's log was told the entries of its
--- conversations; what is told of each mailbox is what its worker counted, and it is faulty exactly where a worker is.
-pub record IsServerRun (L C E : Type 0) {S G : Type 0} (site : Site) (state : S → SpoolState)
-    (told : G → Option (List Entry)) (extent : Extent) (spools : List S) (served : Served) : Type 0 where
+-- a further text was said, unless a write had failed before
+pub record ListsOn (was_cut : Bool) (text : List ℕ) (before after : Option (List ℕ)) (cut : Bool) : Type 0 where
+  pub over : was_cut ≡ true → (cut ≡ true) × Keeps before after
+  pub listed : was_cut ≡ false → IsListed text before after cut
+
+-- what a server is run with: its sizes, its conversations, what it listens on, and whether its lines show addresses
+pub record Serving (L E : Type 0) : Type 0 where
+  pub sizes : Sizes
+  pub conversations : Conversations E
+  pub listener : L
+  pub addresses : Bool
+
+-- Each of these visits has a log, whose lines show addresses just where that is asked for.
+pub record HaveLogs {L G C E : Type 0} (shows : G → Bool) (addresses : Bool) (visits : List (LoggedVisits L G C E))
+    : Type 0 where
+  pub logs : List G
+  pub each : map log_in visits ≡ map (λ log. Some log) logs
+  pub shown : AllByRecursion (λ log. shows log ≡ addresses) logs
+
+-- The clients of the lanes are those of this listener, within the bounds and until the curfew of the conversations,
+-- whose count the lanes share; of none has anything failed or was stopped yet.
+pub record AreLanesFor {L G C E : Type 0} (listener : L) (conversations : Conversations E)
+    (visits : List (LoggedVisits L G C E)) : Type 0 where
+  pub counted : CountedListener L C
+  pub over : listener_in counted ≡ listener
+  pub each : AllByRecursion
+      (λ v. IsLaneOf counted conversations.bounds (arc_value conversations.curfew) (visits_in v)) visits
+  pub count : length visits ≡ conversations.lanes
+  pub share : map (λ v. connections_left (visits_in v)) visits ≡ shares conversations.count conversations.lanes
+
+-- A server ran for the site with what it was to be run with, over clients of its listener, of whom it is told how many
+-- were handed back, and these spools; each lane has a log, `told` says what one was told and `shows` whether its lines
+-- show addresses, and a lane's log was told the entries of its conversations; what is told of each mailbox is what its
+-- worker counted, and it is faulty exactly where a worker is; it failed exactly where its listener can't tell where it
+-- listens or a lane's accept failed, and was stopped exactly where a lane was; and where it listens and what was stored
+-- was said, up to a write that failed.
+pub record IsServerRun (C : Type 0) {L E S G : Type 0} (site : Site) (state : S → SpoolState)
+    (told : G → Option (List Entry)) (shows : G → Bool) (serving : Serving L E) (spools : List S)
+    (before after : Option (List ℕ)) (served : Served) : Type 0 where
   pub visits : List (LoggedVisits L G C E)
   pub back : HandedBack (LoggedVisits L G C E) S
-  pub each_lane : length visits ≡ extent.lanes
-  pub logs : HaveLogs visits
+  pub lanes : AreLanesFor serving.listener serving.conversations visits
+  pub logs : HaveLogs shows serving.addresses visits
   pub none_ended : AllByRecursion (λ v. conversations_ended (visits_in v) ≡ 0) visits
   pub ran : HasRun site (λ moment. moment < 2 ^ 32)
       (record {
@@ -83,7 +123,21 @@ pub record IsServerRun (L C E : Type 0) {S G : Type 0} (site : Site) (state : S 
         finished = λ v. told_with_log told v;
         over = λ v. is_over (visits_in v);
       })
-      state (record { visits = visits; spools = spools; capacity = extent.capacity; quota = extent.quota }) back
+      state
+      (record {
+        visits = visits;
+        spools = spools;
+        capacity = serving.sizes.capacity;
+        quota = serving.sizes.quota;
+      })
+      back
+  pub room : (back.blocks ≡ serving.sizes.blocks) × (back.slots ≡ serving.sizes.slots)
   pub same_site : arc_value served.site ≡ site
   pub tallies : served.tallies.items ≡ back.tallies
   pub faulty : served.ending.faulty ≡ list_any (λ tally. tally.faulty) back.tallies
+  pub unknown : Bool
+  pub failed : served.ending.failed ≡ unknown || list_any (λ v. has_failed (visits_in v)) back.visits
+  pub stopped : served.ending.stopped ≡ list_any (λ v. was_stopped (visits_in v)) back.visits
+  pub announcement : List ℕ
+  pub announces : IsAnnouncement unknown announcement
+  pub said : IsListed (announcement ++ counts_text site.boxes back.tallies) before after served.ending.cut

@@ -8,6 +8,7 @@ mod busy;
 mod conversations;
 mod lines;
 mod run;
+mod saying;
 mod served;
 
 pub use conversations::Conversations;

@@ -1,24 +1,23 @@
 //! A server's run, from the line that says where it listens to the lines that say what was stored.
 
-ghost use Rattle.std.specs.Prelude.{◌≡◌, ◌↔◌, ◌⊎◌, IfOk, Err, length, false};
+ghost use Rattle.std.specs.Prelude.{◌≡◌, ◌↔◌, ◌⊎◌, ◌||◌, IfOk, Err, length, false};
 ghost use Rattle.std.specs.List.{AllByRecursion, list_any};
 ghost use Rattle.std.specs.Arc.{arc_value};
-ghost use Rattle.lmtp_lane.specs.TcpVisits.{conversations_ended, is_out};
+ghost use Rattle.lmtp_lane.specs.TcpVisits.{conversations_ended, has_failed, is_out, was_stopped};
 ghost use Rattle.lmtp_house.specs.House.{IsSize};
 ghost use Rattle.lmtpd_log.specs.Logged.{visits_in};
-ghost use Rattle.lmtpd_serve.specs.Served.{IsServerRun, HaveLogs};
+ghost use Rattle.lmtpd_serve.specs.Served.{AreLanesFor, HaveLogs, IsAnnounced, IsServerRun, ListsOn, counts_text};
 
 use super::busy::RestGate;
 use super::conversations::Conversations;
-use super::lines::{endpoint_line, write_counts};
+use super::saying::{Announced, announce, is_cut};
 use super::served::{Served, ServerEnding};
 use lmtp_house::{
-    ClientStream, Curfew, HouseFault, HouseReport, Listener, Sizes, SystemClock, Tally, has_failed,
+    ClientStream, Curfew, HouseFault, HouseReport, Listener, Sizes, SystemClock, has_failed,
     is_size, run_house, tcp_visits,
 };
 use lmtp_text::Site;
 use lmtpd_log::{CountedListener, LaneLogs, LoggedVisits, lane_logs, logged_visits};
-use lmtpd_words::write_bytes;
 use mbox_record::Spool;
 use std::alloc::{AllocError, Global};
 use std::io::{Read, Write};
@@ -39,7 +38,7 @@ pub fn serve_run<L, E, S, G, W, H>(
     listener: L,
     spools: Vec<S>,
     logs: G,
-    mut writer: W,
+    writer: &mut W,
 ) -> Result<Served, HouseFault>
 where
     L: Listener + Drop + Send + Sync + 'static,
@@ -48,14 +47,20 @@ where
     S: Spool + Drop + Send + 'static,
     G: LaneLogs + Drop,
     G::Log: Send + 'static,
-    W: Write + Drop,
+    W: Write,
     H: Threads + Wait + Clock + Copy + Drop + Send + Sync + 'static,
     ensures size { let count = length spools.items in
         result ≡ Err HouseFault.Size ↔ ¬ IsSize (arc_value site) sizes conversations.lanes count count }
     ensures sized { let count = length spools.items in
         (result ≡ Err HouseFault.Size) ⊎ IsSize (arc_value site) sizes conversations.lanes count count }
-    ensures ran { IfOk result (IsServerRun L H E (arc_value site) S.state G.Log.told
-        (record { lanes = conversations.lanes; capacity = sizes.capacity; quota = sizes.quota }) spools.items) }
+    ensures ran { IfOk result (IsServerRun H (arc_value site) S.state G.Log.told G.Log.addresses
+        (record {
+          sizes = sizes;
+          conversations = conversations;
+          listener = listener;
+          addresses = G.addresses logs;
+        })
+        spools.items (W.contents writer.old) (W.contents writer.new)) }
 {
     let lanes = conversations.lanes as usize;
     if !is_size(&site, sizes, lanes, spools.len(), spools.len()) {
@@ -70,7 +75,7 @@ where
         conversations,
         listener,
     };
-    run_sized(rt, alloc, house, clients, &logs, &mut writer)
+    run_sized(rt, alloc, house, clients, &logs, writer)
 }
 
 /// The site that is served, its sizes, and the spool of each mailbox.
@@ -117,9 +122,14 @@ where
     requires { let count = length house.spools.items in
         IsSize (arc_value house.site) house.sizes clients.conversations.lanes count count }
     ensures sized { result ≡ Err HouseFault.Size → ⊥ }
-    ensures ran { IfOk result (IsServerRun L H E (arc_value house.site) S.state G.Log.told
-        (record { lanes = clients.conversations.lanes; capacity = house.sizes.capacity; quota = house.sizes.quota })
-        house.spools.items) }
+    ensures ran { IfOk result (IsServerRun H (arc_value house.site) S.state G.Log.told G.Log.addresses
+        (record {
+          sizes = house.sizes;
+          conversations = clients.conversations;
+          listener = clients.listener;
+          addresses = G.addresses logs.now;
+        })
+        house.spools.items (W.contents writer.old) (W.contents writer.new)) }
 {
     let ServedHouse {
         site,
@@ -156,12 +166,17 @@ where
     W: Write,
     H: Clock + Copy + Drop,
     ensures gates { IfOk result (λ prepared. length prepared.gates.items ≡ boxes) }
-    ensures each_lane { IfOk result (λ prepared. length prepared.visits.items ≡ clients.conversations.lanes) }
+    ensures lanes { IfOk result
+        (λ prepared. AreLanesFor clients.listener clients.conversations prepared.visits.items) }
     ensures none_ended { IfOk result
         (λ prepared. AllByRecursion (λ v. conversations_ended (visits_in v) ≡ 0) prepared.visits.items) }
     ensures none_out { IfOk result
         (λ prepared. AllByRecursion (λ v. is_out (visits_in v) ≡ false) prepared.visits.items) }
-    ensures logs { IfOk result (λ prepared. HaveLogs prepared.visits.items) }
+    ensures logs { IfOk result
+        (λ prepared. HaveLogs G.Log.addresses (G.addresses logs.now) prepared.visits.items) }
+    ensures announced { IfOk result
+        (λ prepared. IsAnnounced prepared.announced.is_unknown (W.contents writer.old) (W.contents writer.new)
+        prepared.announced.is_cut) }
 {
     let gates = vec![in alloc; RestGate::new(rt); boxes]?;
     let announced = announce(alloc, &clients.listener, writer)?;
@@ -188,11 +203,16 @@ fn served_by<L: Drop, G: Drop, H: Drop, E: Drop, S: Drop, W: Write>(
     ensures site { arc_value result.site ≡ arc_value site }
     ensures tallies { result.tallies.items ≡ report.tallies }
     ensures faulty { result.ending.faulty ≡ list_any (λ tally. tally.faulty) report.tallies }
+    ensures failed { result.ending.failed
+        ≡ announced.is_unknown || list_any (λ v. has_failed (visits_in v)) report.visits }
+    ensures stopped { result.ending.stopped ≡ list_any (λ v. was_stopped (visits_in v)) report.visits }
+    ensures said { ListsOn announced.is_cut (counts_text (arc_value site).boxes report.tallies)
+        (W.contents writer.old) (W.contents writer.new) result.ending.cut }
 {
     let ending = ServerEnding {
         faulty: has_failed(&report.tallies),
-        failed: announced.is_unknown || report.visits.iter().any(|visits| visits.failed()),
-        stopped: report.visits.iter().any(|visits| visits.stopped()),
+        failed: announced.is_unknown | has_one_failed(&report.visits),
+        stopped: is_one_stopped(&report.visits),
         cut: is_cut(announced.is_cut, &site, &report.tallies, writer),
     };
     Served {
@@ -200,6 +220,20 @@ fn served_by<L: Drop, G: Drop, H: Drop, E: Drop, S: Drop, W: Write>(
         site,
         tallies: report.tallies,
     }
+}
+
+// Whether a lane's accept failed.
+fn has_one_failed<L: Drop, G: Drop, H: Drop, E: Drop>(visits: &[LoggedVisits<L, G, H, E>]) -> bool
+    ensures { result ≡ list_any (λ v. has_failed (visits_in v)) visits.now }
+{
+    visits.iter().any(|visits| visits.failed())
+}
+
+// Whether a lane found that the server's end was asked for.
+fn is_one_stopped<L: Drop, G: Drop, H: Drop, E: Drop>(visits: &[LoggedVisits<L, G, H, E>]) -> bool
+    ensures { result ≡ list_any (λ v. was_stopped (visits_in v)) visits.now }
+{
+    visits.iter().any(|visits| visits.stopped())
 }
 
 // The clients of all lanes.
@@ -210,11 +244,11 @@ fn visits_of<L: Drop, E: Drop, G: LaneLogs, H: Copy + Drop>(
     listener: L,
     logs: &G,
 ) -> Result<Vec<LoggedVisits<L, G::Log, H, E>>, AllocError>
-    ensures each_lane { IfOk result (λ visits. length visits.items ≡ conversations.lanes) }
+    ensures lanes { IfOk result (λ visits. AreLanesFor listener conversations visits.items) }
     ensures none_ended { IfOk result
         (λ visits. AllByRecursion (λ v. conversations_ended (visits_in v) ≡ 0) visits.items) }
     ensures none_out { IfOk result (λ visits. AllByRecursion (λ v. is_out (visits_in v) ≡ false) visits.items) }
-    ensures logs { IfOk result (λ visits. HaveLogs visits.items) }
+    ensures logs { IfOk result (λ visits. HaveLogs G.Log.addresses (G.addresses logs.now) visits.items) }
 {
     let Conversations {
         lanes,
@@ -227,40 +261,4 @@ fn visits_of<L: Drop, E: Drop, G: LaneLogs, H: Copy + Drop>(
     let logs = lane_logs(alloc, logs, lanes)?;
     let logged = logged_visits(alloc, visits, logs)?;
     Ok(logged)
-}
-
-/// What came of saying where the server listens.
-#[derive(Clone, Copy)]
-struct Announced {
-    /// The listener can't tell where it listens.
-    is_unknown: bool,
-    /// A write failed.
-    is_cut: bool,
-}
-
-// Says where the server listens, before a client is taken.
-fn announce<L: Listener, W: Write>(
-    alloc: Global,
-    listener: &L,
-    writer: &mut W,
-) -> Result<Announced, AllocError> {
-    let Ok(endpoint) = listener.endpoint() else {
-        return Ok(Announced {
-            is_unknown: true,
-            is_cut: false,
-        });
-    };
-    let line = endpoint_line(alloc, endpoint)?;
-    let is_cut = write_bytes(writer, line.as_bytes()).is_err() || writer.flush().is_err();
-    Ok(Announced {
-        is_unknown: false,
-        is_cut,
-    })
-}
-
-// Says what was stored, unless a write has failed before, and says whether one has failed now.
-fn is_cut<W: Write>(was_cut: bool, site: &Site, tallies: &[Tally], writer: &mut W) -> bool
-    requires { length tallies.now ≡ length site.now.boxes }
-{
-    was_cut || write_counts(writer, site, tallies).is_err() || writer.flush().is_err()
 }
