@@ -11,8 +11,14 @@ returns-clause-way g c =
     let note : Note = copy_at self.lane (sent_as c.args.mark.number session c.args.mark.moment c.args.hold.bytes) c.args.place
     (slice_index session.recipients c.args.place) in
     let is : c.new-post.result ≡ note =
-    c.new-post.ensures ∙ rw (c.new-envelope.ensures, c.txn-txn.ensures, c.sender.ensures.text, c.client.ensures.text, c.utf8-2.ensures,
-    c.recipient-mailbox.ensures.mailbox)
+    c.new-post.ensures ∙ rw (
+      c.new-envelope.ensures,
+      c.txn-txn.ensures,
+      c.sender.ensures.text,
+      c.client.ensures.text,
+      c.utf8-2.ensures,
+      c.recipient-mailbox.ensures.mailbox,
+    )
     refl in
     let Goes : Note → Type 0 = λ post. Continues post.txn (post ∷ []) (sending_of self) (sending_of c.offer.new.self) in
     subst Goes is c.offer.ensures.way
