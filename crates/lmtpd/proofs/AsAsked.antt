@@ -1,5 +1,8 @@
 -- A server that words ask for: what it comes to, and why it didn't run, cause by cause.
-use Rattle.std.proofs.Common.{◌≡◌, ◌⊎◌, inl, inr, ℕ, false, List, Option, length, None, ap, sym, subst}
+use Rattle.std.proofs.Common.{◌≡◌, ◌∙◌, ◌⊎◌, inl, inr, ℕ, Bool, false, List, Option, length, map, None, ap, sym, subst}
+use Rattle.std.specs.Arc.{arc_value}
+use Rattle.std.specs.declared.alloc.Global.{Global}
+use Rattle.std.specs.declared.sync.Arc.{Arc}
 use Rattle.std.specs.Prelude.{Err, Ok, Result}
 use Rattle.mail_world.specs.Site.{Site}
 use Rattle.lmtp_talk.specs.Entries.{Entry}
@@ -7,7 +10,8 @@ use Rattle.mbox_record.specs.Spool.{SpoolState}
 use Rattle.lmtp_house.specs.House.{IsSize}
 use Rattle.lmtp_house.specs.declared.house.sizes.Sizes.{Sizes}
 use Rattle.lmtpd_serve.specs.declared.served.Served.{Served}
-use Rattle.lmtpd_serve.specs.Served.{IsServerRun}
+use Rattle.lmtp_talk.specs.declared.tcp.peer.Bounds.{Bounds}
+use Rattle.lmtpd_serve.specs.Served.{IsServerRun, Serving}
 use Rattle.lmtp_house.specs.declared.house.fault.HouseFault.{HouseFault}
 use Rattle.lmtp_house.specs.declared.house.fault.HouseFault.TheVariants as house
 use Rattle.lmtpd_words.specs.Words.{named_site}
@@ -20,10 +24,16 @@ use Rattle.lmtpd_listen.specs.Listening.{Names}
 use Rattle.lmtpd_listen.specs.declared.fault.ListenFault.TheVariants as listen
 use Rattle.lmtpd_listen.specs.declared.listen_address.ListenAddress.{ListenAddress}
 use Rattle.lmtpd_setup.specs.declared.fault.Fault.{Fault}
+use Rattle.lmtpd_listen.specs.declared.opened.Opened.{Opened}
+use Rattle.lmtpd_listen.specs.declared.server.ServerSocket.{ServerSocket}
+use Rattle.lmtpd_setup.specs.Curfew.{IsCurfewOf}
+use Rattle.lmtpd_setup.specs.Mailboxes.{Held}
 use Rattle.lmtpd_setup.specs.Names.{IsNoSite}
-use Rattle.lmtpd_setup.specs.Setup.{IsNotSetUp, IsUnopenedAt}
+use Rattle.lmtpd_setup.specs.Setup.{IsNotSetUp, IsUnopenedAt, ends_asked, mailboxes_asked}
+use Rattle.lmtpd_setup.specs.declared.ends.ServerCurfew.{ServerCurfew}
 use Rattle.lmtpd_setup.specs.declared.stop.Stop.{Stop}
-use Rattle.lmtpd.specs.Program.{IsListenAddress, IsNotRun, IsNotServed, IsServedAsAsked, IsSizeAsked, sizes_asked}
+use Rattle.lmtpd.specs.Program.{IsListenAddress, IsListenedAt, IsNotRun, IsNotServed, IsServedAsAsked, IsSizeAsked, bounds_asked}
+use Rattle.lmtpd.specs.Program.{connections_asked, serving_asked, sizes_asked}
 use Rattle.lmtpd.proofs.Unrun.{causes, unrun}
 
 not_run : (words : ServeWords) (cause : HouseFault) → words.check_words ≡ false → IsListenAddress words.listen.now → first_fault (named_site words.site) ≡ None
@@ -51,26 +61,52 @@ size_of_sum : {X : Type 0} (x : X) (Good : Type 0) → (◌≡◌ {A = Result X 
 size_of_sum x Good (inl e) = cc
 size_of_sum x Good (inr good) = good
 
-pub served_as_asked : (L C E : Type 0) {G S : Type 0} (told : G → Option (List Entry)) (state : S → SpoolState) (words : ServeWords) (served : Served)
-    (site : Site) (sizes : Sizes) (spools : List S)
+-- what a server is run with, part by part
+abbrev serving_with : {C : Type 0} → ServeWords → ServerSocket → Arc (ServerCurfew C) Global → Sizes → ℕ → Bounds → Bool
+    → Serving ServerSocket (ServerCurfew C)
+serving_with words socket curfew sizes count bounds addresses = record {
+  sizes = sizes;
+  conversations = record { lanes = words.lanes; count = count; bounds = bounds; curfew = curfew };
+  listener = socket;
+  addresses = addresses;
+}
+
+pub serving_is : {C : Type 0} (words : ServeWords) (socket : ServerSocket) (curfew : Arc (ServerCurfew C) Global) (sizes : Sizes) (count : ℕ)
+    (bounds : Bounds) (addresses : Bool)
+    → sizes ≡ sizes_asked words → count ≡ connections_asked words → bounds ≡ bounds_asked words → addresses ≡ words.log_addresses
+    → serving_with words socket curfew sizes count bounds addresses ≡ serving_asked words socket curfew
+serving_is words socket curfew sizes count bounds addresses a b c d =
+    ap (λ (z : Sizes). serving_with words socket curfew z count bounds addresses) a
+    ∙ ap (λ (n : ℕ). serving_with words socket curfew (sizes_asked words) n bounds addresses) b
+    ∙ ap (λ (each : Bounds). serving_with words socket curfew (sizes_asked words) (connections_asked words) each addresses) c
+    ∙ ap (λ (t : Bool). serving_with words socket curfew (sizes_asked words) (connections_asked words) (bounds_asked words) t) d
+
+pub served_as_asked : (C : Type 0) {G S : Type 0} (told : G → Option (List Entry)) (shows : G → Bool) (state : S → SpoolState) (held : S → Held)
+    (words : ServeWords) (before after : Option (List ℕ)) (served : Served) (site : Site) (serving : Serving ServerSocket (ServerCurfew C)) (opened : Opened)
+    (curfew : Arc (ServerCurfew C) Global) (spools : List S)
     → words.check_words ≡ false
-    → IsListenAddress words.listen.now → (site ≡ named_site words.site) × (first_fault (named_site words.site) ≡ None) → sizes ≡ sizes_asked words
-    → length spools ≡ length words.site.boxes.items
-    → (◌≡◌ {A = Result Served HouseFault} (Ok served) (Err house.Size)) ⊎ IsSize site sizes words.lanes (length spools) (length spools)
-    → IsServerRun L C E site state told (record { lanes = words.lanes; capacity = sizes.capacity; quota = sizes.quota }) spools served
-    → IsServedAsAsked L C E told state words served
-served_as_asked L C E told state words served site sizes spools serves address made asked boxes good ran = record {
+    → IsListenedAt words opened → (site ≡ named_site words.site) × (first_fault (named_site words.site) ≡ None)
+    → serving ≡ serving_asked words opened.socket curfew
+    → (length spools ≡ length words.site.boxes.items) × (map held spools ≡ mailboxes_asked words)
+    → IsCurfewOf (ends_asked words) (arc_value curfew)
+    → (◌≡◌ {A = Result Served HouseFault} (Ok served) (Err house.Size)) ⊎ IsSize site serving.sizes words.lanes (length spools) (length spools)
+    → IsServerRun C site state told shows serving spools before after served
+    → IsServedAsAsked C told shows state held words before after served
+served_as_asked C told shows state held words before after served site serving opened curfew spools serves listens made asked boxes ends good ran = record {
   serves = serves;
-  listen_address = address;
+  opened = opened;
+  listens = listens;
   sound = made.1;
-  sizes = size_asked words site sizes (length spools) made.0 asked boxes
-      (size_of_sum served (IsSize site sizes words.lanes (length spools) (length spools)) good);
+  sizes = size_asked words site serving.sizes (length spools) made.0 (ap (λ s. s.sizes) asked) boxes.0
+      (size_of_sum served (IsSize site serving.sizes words.lanes (length spools) (length spools)) good);
+  curfew = curfew;
+  ends = ends;
   spools = spools;
-  each_box = boxes;
+  each_box = boxes.0;
+  mailboxes = boxes.1;
   ran =
-      let R : Site → Sizes → Type 0 = λ s z.
-      IsServerRun L C E s state told (record { lanes = words.lanes; capacity = z.capacity; quota = z.quota }) spools served in
-      subst (λ z. R (named_site words.site) z) asked (subst (λ s. R s sizes) made.0 ran);
+      let R : Site → Serving ServerSocket (ServerCurfew C) → Type 0 = λ s z. IsServerRun C s state told shows z spools before after served in
+      subst (λ z. R (named_site words.site) z) asked (subst (λ s. R s serving) made.0 ran);
 }
 
 pub no_server : (words : ServeWords) (cause : HouseFault) (site : Site) (sizes : Sizes) (count : ℕ)

@@ -1,6 +1,9 @@
 -- What a run of the program comes to: the words say what is asked for, and then come what was done, the lines on
 -- standard error and the status.
-use Rattle.std.specs.Prelude.{◌≡◌, ◌⊎◌, ◌*◌, ◌-◌, ◌^◌, min, ℕ, Bool, true, false, List, [], ◌++◌, length, Option, Some, None, Contains}
+use Rattle.std.specs.Prelude.{◌≡◌, ◌⊎◌, ◌*◌, ◌-◌, ◌^◌, min, ℕ, Bool, true, false, List, [], ◌++◌, length, map, Option, Some, None, Contains}
+use Rattle.std.specs.Arc.{arc_value}
+use Rattle.std.specs.declared.sync.Arc.{Arc}
+use Rattle.std.specs.declared.alloc.Global.{Global}
 use Rattle.std.specs.Option.{option_map_or}
 use Rattle.clap.specs.Words.{Text, kind_of, subcommand_of, takes}
 use Rattle.clap.specs.declared.error.Error.{Error}
@@ -22,7 +25,14 @@ use Rattle.lmtpd_words.specs.declared.words.Words.TheVariants.{Rehearse, Serve, 
 use Rattle.lmtpd_listen.specs.Listening.{AsksInherited, IsRefused, Names}
 use Rattle.lmtpd_listen.specs.declared.fault.ListenFault.{ListenFault}
 use Rattle.lmtpd_listen.specs.declared.listen_address.ListenAddress.{ListenAddress}
+use Rattle.lmtpd_listen.specs.Opened.{IsOpenedFor}
+use Rattle.lmtpd_listen.specs.declared.opened.Opened.{Opened}
+use Rattle.lmtpd_listen.specs.declared.server.ServerSocket.{ServerSocket}
 use Rattle.lmtpd_setup.specs.Boxes.{IsUnfilled}
+use Rattle.lmtpd_setup.specs.Curfew.{IsCurfewOf}
+use Rattle.lmtpd_setup.specs.Mailboxes.{Held}
+use Rattle.lmtpd_setup.specs.Setup.{ends_asked, mailboxes_asked}
+use Rattle.lmtpd_setup.specs.declared.ends.ServerCurfew.{ServerCurfew}
 use Rattle.lmtpd_setup.specs.Names.{IsRefusedBy}
 use Rattle.lmtpd_setup.specs.Faults.{first_fault, listen_refusal, stop_for, stop_status}
 use Rattle.lmtpd_setup.specs.Lines.{line_after, status_after, stop_line}
@@ -34,7 +44,7 @@ use Rattle.lmtpd_check.specs.Checked.{IsChecked, unlocked_lines}
 use Rattle.lmtpd_check.specs.declared.checked.Checked.{Checked as CheckedFiles}
 use Rattle.lmtpd_rehearse.specs.Rehearsal.{IsBlockCount, IsRehearsed, Streams}
 use Rattle.lmtpd_rehearse.specs.declared.ending.Ending.{Ending}
-use Rattle.lmtpd_serve.specs.Served.{IsServerRun, trouble_lines}
+use Rattle.lmtpd_serve.specs.Served.{IsServerRun, Serving, trouble_lines}
 use Rattle.lmtpd_serve.specs.declared.served.Served.{Served as ServedRun}
 use Rattle.lmtpd.specs.Lacking.{check_fault, check_status, rehearsal_fault, server_fault}
 use Rattle.lmtpd.specs.Copied.{copy_line, copy_status}
@@ -76,6 +86,11 @@ IsNotRehearsedFilled Fills words s = IsUnfilled words.site s
     ⊎ ((site : SiteWords) × Fills words.site site
     × ((f : Fault) × (s ≡ stop.Fault f) × IsNotRehearsed (record words { site = site }) f))
 
+-- what a server was opened on is what its words name, with the mode that they say
+abbrev pub IsListenedAt : ServeWords → Opened → Type 0
+IsListenedAt words opened = (listen_address : ListenAddress) × Names words.listen.now listen_address
+    × IsOpenedFor listen_address words.socket_mode opened
+
 -- an address that a server may listen at
 abbrev pub IsListenAddress : List ℕ → Type 0
 IsListenAddress text = (listen_address : ListenAddress) × Names text listen_address
@@ -97,23 +112,45 @@ connections_asked words = option_map_or (λ count. count) words.connections (2 ^
 abbrev pub bounds_asked : ServeWords → Bounds
 bounds_asked words = record { reads = words.reads; waits = min (words.timeout * 2) (2 ^ 32 - 1) }
 
+-- what a server is run with that its words ask for, on that socket and until that curfew
+abbrev pub serving_asked : {C : Type 0} → ServeWords → ServerSocket → Arc (ServerCurfew C) Global
+    → Serving ServerSocket (ServerCurfew C)
+serving_asked words socket curfew = record {
+  sizes = sizes_asked words;
+  conversations = record {
+    lanes = words.lanes;
+    count = connections_asked words;
+    bounds = bounds_asked words;
+    curfew = curfew;
+  };
+  listener = socket;
+  addresses = words.log_addresses;
+}
+
 abbrev pub IsSizeAsked : ServeWords → Type 0
 IsSizeAsked words =
     IsSize (named_site words.site) (sizes_asked words) words.lanes (length words.site.boxes.items)
     (length words.site.boxes.items)
 
--- A server that its words asked for ran: where they say, at the site that they name, with their sizes, over a spool for
--- each mailbox.
-pub record IsServedAsAsked (L C E : Type 0) {G S : Type 0} (told : G → Option (List Entry)) (state : S → SpoolState)
-    (words : ServeWords) (served : ServedRun) : Type 0 where
+-- A server that its words asked for ran: where they say, at the site that they name, with their sizes, for as many
+-- conversations within their bounds, until the end that they say, with addresses in its lines just where they say so,
+-- and over a spool for each mailbox, which is had as they say (`held` is how one is). `before` and `after` are what
+-- standard output held.
+pub record IsServedAsAsked (C : Type 0) {G S : Type 0} (told : G → Option (List Entry)) (shows : G → Bool)
+    (state : S → SpoolState) (held : S → Held) (words : ServeWords) (before after : Option (List ℕ))
+    (served : ServedRun) : Type 0 where
   pub serves : words.check_words ≡ false
-  pub listen_address : IsListenAddress words.listen.now
+  pub opened : Opened
+  pub listens : IsListenedAt words opened
   pub sound : first_fault (named_site words.site) ≡ None
   pub sizes : IsSizeAsked words
+  pub curfew : Arc (ServerCurfew C) Global
+  pub ends : IsCurfewOf (ends_asked words) (arc_value curfew)
   pub spools : List S
   pub each_box : length spools ≡ length words.site.boxes.items
-  pub ran : IsServerRun L C E (named_site words.site) state told
-      (record { lanes = words.lanes; capacity = words.capacity; quota = words.quota }) spools served
+  pub mailboxes : map held spools ≡ mailboxes_asked words
+  pub ran : IsServerRun C (named_site words.site) state told shows (serving_asked words opened.socket curfew) spools
+      before after served
 
 -- why none ran though its site is sound: a mailbox's file, or only their folder where it is to start anyway, what it
 -- listens on, or the server; a port that none may have is seen only now where the socket was passed
@@ -144,19 +181,19 @@ pub record AreServeWords (words : ServeWords) : Type 0 where
   pub sound : first_fault (named_site words.site) ≡ None
 
 -- The same of a server, once the file of its mailboxes was read: `IsRun` says which runs its words ask for then.
-abbrev pub IsServedFilled : (SiteWords → SiteWords → Type 0) → (ServeWords → ServedRun → Type 0) → ServeWords
-    → ServedRun → Type 0
-IsServedFilled Fills IsRun words served =
-    (site : SiteWords) × Fills words.site site × IsRun (record words { site = site }) served
+abbrev pub IsServedFilled : {W : Type 0} → (SiteWords → SiteWords → Type 0) → (ServeWords → W → ServedRun → Type 0)
+    → ServeWords → W → ServedRun → Type 0
+IsServedFilled Fills IsRun words writer served =
+    (site : SiteWords) × Fills words.site site × IsRun (record words { site = site }) writer served
 
 -- the same of words that were checked
 abbrev pub IsCheckedFilled : (SiteWords → SiteWords → Type 0) → ServeWords → Type 0
 IsCheckedFilled Fills words = (site : SiteWords) × Fills words.site site × AreServeWords (record words { site = site })
 
 -- what the words of a server came to
-abbrev pub IsServeDone : (SiteWords → SiteWords → Type 0) → (ServeWords → ServedRun → Type 0) → ServeWords → ServeDone
-    → Type 0
-IsServeDone Fills IsRun words (done.Served it) = IsServedFilled Fills IsRun words it
+abbrev pub IsServeDone : {W : Type 0} → (SiteWords → SiteWords → Type 0) → (ServeWords → W → ServedRun → Type 0)
+    → ServeWords → ServeDone W → Type 0
+IsServeDone Fills IsRun words (done.Served it writer) = IsServedFilled Fills IsRun words writer it
 IsServeDone Fills IsRun words done.WordsChecked = IsCheckedFilled Fills words
 
 abbrev pub IsNotServedFilled : (SiteWords → SiteWords → Type 0) → ServeWords → Stop → Type 0
@@ -190,15 +227,16 @@ streams_of remaining contents reader writer = record { unread = remaining reader
 -- says what the words of a site are once the file of its mailboxes was read, `IsRun` which runs of a server its words
 -- ask for then, `IsCheck` which checks of files, and `IsCopy` which copies.
 module _ {R W : Type 0} where
-  abbrev pub IsDoneAsAsked : (R → W → Streams) → (SiteWords → SiteWords → Type 0) → (ServeWords → ServedRun → Type 0)
+  abbrev pub IsDoneAsAsked : (R → W → Streams) → (SiteWords → SiteWords → Type 0)
+      → (ServeWords → W → ServedRun → Type 0)
       → (CheckWords → CheckedFiles W → Type 0) → (CopyWords → CopiedFile → Type 0) → List Text → Streams → Done R W
       → Type 0
   IsDoneAsAsked streams Fills IsRun IsCheck IsCopy texts old (Rehearsed it) =
       (words : RehearseWords) × IsAsked (subcommand_of program_app texts) (Rehearse words)
       × IsRehearsedFilled Fills words old (streams it.reader it.writer) it.ending
-  IsDoneAsAsked streams Fills IsRun IsCheck IsCopy texts old (Served it) =
+  IsDoneAsAsked streams Fills IsRun IsCheck IsCopy texts old (Served it writer) =
       (words : ServeWords) × IsAsked (subcommand_of program_app texts) (Serve words)
-      × IsServedFilled Fills IsRun words it
+      × IsServedFilled Fills IsRun words writer it
   IsDoneAsAsked streams Fills IsRun IsCheck IsCopy texts old WordsChecked =
       (words : ServeWords) × IsAsked (subcommand_of program_app texts) (Serve words) × IsCheckedFilled Fills words
   IsDoneAsAsked streams Fills IsRun IsCheck IsCopy texts old (Checked it) =
@@ -211,7 +249,7 @@ module _ {R W : Type 0} where
   -- that are sound, and for help
   abbrev pub exit_status : Done R W → ℕ
   exit_status (Rehearsed it) = status_after (rehearsal_fault it.ending)
-  exit_status (Served it) = status_after (server_fault it.ending)
+  exit_status (Served it writer) = status_after (server_fault it.ending)
   exit_status WordsChecked = 0
   exit_status (Checked it) = check_status it.findings.items it.cut
   exit_status (Copied it) = copy_status it.fault
@@ -222,7 +260,7 @@ module _ {R W : Type 0} where
   -- told the priority of what ends the program.
   abbrev pub exit_lines : Bool → Done R W → List ℕ
   exit_lines is_journal (Rehearsed it) = line_after is_journal (rehearsal_fault it.ending)
-  exit_lines is_journal (Served it) = trouble_lines it ++ line_after is_journal (server_fault it.ending)
+  exit_lines is_journal (Served it writer) = trouble_lines it ++ line_after is_journal (server_fault it.ending)
   exit_lines is_journal WordsChecked = []
   exit_lines is_journal (Checked it) = unlocked_lines it.unlocked.items ++ line_after is_journal (check_fault it.cut)
   exit_lines is_journal (Copied it) = copy_line is_journal it.file.now it.to.now it.fault

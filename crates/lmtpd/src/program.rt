@@ -1,10 +1,9 @@
 //! What the program does with its words, the lines that it says on standard error, and its status.
 
 ghost use Rattle.std.specs.Prelude.{◌≡◌};
-ghost use Rattle.lmtpd_listen.specs.declared.server.ServerSocket.{ServerSocket};
-ghost use Rattle.lmtpd_setup.specs.declared.ends.ServerCurfew.{ServerCurfew};
 ghost use Rattle.lmtpd_words.specs.Words.{as_texts};
 ghost use Rattle.lmtpd_setup.specs.Boxes.{IsFilled};
+ghost use Rattle.lmtpd_setup.specs.Mailboxes.{held_as};
 ghost use Rattle.lmtpd.specs.Program.{IsCheckedAsAsked, IsDoneAsAsked, IsServedAsAsked, exit_lines, exit_status};
 ghost use Rattle.lmtpd.specs.Program.{streams_of};
 ghost use Rattle.lmtpd.specs.Copied.{IsCopiedAsAsked};
@@ -35,7 +34,8 @@ use std::time::Clock;
 #[derive(Drop)]
 pub enum Done<'a, R, W> {
     Rehearsed(Rehearsed<R, W>),
-    Served(Served),
+    /// A server ran, and said this on standard output.
+    Served(Served, W),
     /// The words of a server alone were to be checked, and each can be used.
     WordsChecked,
     Checked(Checked<'a, W>),
@@ -76,8 +76,9 @@ where
     W: Write + Drop + Send + 'static,
     E: Write,
     ensures done { IsDoneAsAsked (streams_of R.remaining W.contents) (IsFilled P.File.remaining)
-        (IsServedAsAsked ServerSocket H (ServerCurfew H) (⟦<LineLog<ServerLog<H>, H> as LaneLog>⟧.told)
-        (⟦<ServedMailbox<H, ServerLog<H>> as Spool>⟧.state))
+        (λ asked after. IsServedAsAsked H (⟦<LineLog<ServerLog<H>, H> as LaneLog>⟧.told)
+        (⟦<LineLog<ServerLog<H>, H> as LaneLog>⟧.addresses) (⟦<ServedMailbox<H, ServerLog<H>> as Spool>⟧.state)
+        held_as asked (W.contents writer) (W.contents after))
         (IsCheckedAsAsked P.File.remaining W.contents (W.contents writer))
         (IsCopiedAsAsked (⟦<StdMailboxFile<H> as MailboxSource>⟧.unread)
         (⟦<TargetFile<'static, H> as CopyTarget>⟧.state)) (as_texts words.entry.now)
@@ -114,8 +115,9 @@ where
     R: Read + Drop + Send + 'static,
     W: Write + Drop + Send + 'static,
     ensures { IsDoneAsAsked (streams_of R.remaining W.contents) (IsFilled P.File.remaining)
-        (IsServedAsAsked ServerSocket H (ServerCurfew H) (⟦<LineLog<ServerLog<H>, H> as LaneLog>⟧.told)
-        (⟦<ServedMailbox<H, ServerLog<H>> as Spool>⟧.state))
+        (λ asked after. IsServedAsAsked H (⟦<LineLog<ServerLog<H>, H> as LaneLog>⟧.told)
+        (⟦<LineLog<ServerLog<H>, H> as LaneLog>⟧.addresses) (⟦<ServedMailbox<H, ServerLog<H>> as Spool>⟧.state)
+        held_as asked (W.contents writer) (W.contents after))
         (IsCheckedAsAsked P.File.remaining W.contents (W.contents writer))
         (IsCopiedAsAsked (⟦<StdMailboxFile<H> as MailboxSource>⟧.unread)
         (⟦<TargetFile<'static, H> as CopyTarget>⟧.state)) (as_texts words.entry.now)
@@ -129,7 +131,7 @@ where
             }
         }
         Ok(Words::Serve(asked)) => match serve_filled(rt, threads, asked, room, writer) {
-            Ok(ServeDone::Served(served)) => Done::Served(served),
+            Ok(ServeDone::Served(served, writer)) => Done::Served(served, writer),
             Ok(ServeDone::WordsChecked) => Done::WordsChecked,
             Err(stop) => Done::Stopped(stop),
         },
@@ -154,7 +156,7 @@ where
         Done::Rehearsed(rehearsed) => {
             report_fault(rehearsal_fault(rehearsed.ending), is_journal, error)
         }
-        Done::Served(served) => report_served(served, is_journal, error),
+        Done::Served(served, _) => report_served(served, is_journal, error),
         Done::WordsChecked => report_fault(None, is_journal, error),
         Done::Checked(checked) => report_checked(checked, is_journal, error),
         Done::Copied(copied) => report_copied(copied, is_journal, error),

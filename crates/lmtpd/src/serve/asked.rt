@@ -1,12 +1,13 @@
 //! The server that the program's words ask for.
 
-ghost use Rattle.std.specs.Prelude.{◌≡◌, false, length, None, MatchResult};
+ghost use Rattle.std.specs.Prelude.{◌≡◌, false, length, map, None, MatchResult};
 ghost use Rattle.std.specs.Arc.{arc_value};
 ghost use Rattle.lmtpd_words.specs.Words.{named_site};
-ghost use Rattle.lmtpd_listen.specs.declared.server.ServerSocket.{ServerSocket};
-ghost use Rattle.lmtpd_setup.specs.declared.ends.ServerCurfew.{ServerCurfew};
+ghost use Rattle.lmtpd_setup.specs.Curfew.{IsCurfewOf};
 ghost use Rattle.lmtpd_setup.specs.Faults.{first_fault};
-ghost use Rattle.lmtpd.specs.Program.{IsListenAddress, IsNotServed, IsServedAsAsked};
+ghost use Rattle.lmtpd_setup.specs.Mailboxes.{held_as};
+ghost use Rattle.lmtpd_setup.specs.Setup.{ends_asked, mailboxes_asked};
+ghost use Rattle.lmtpd.specs.Program.{IsListenedAt, IsNotServed, IsServedAsAsked};
 
 use super::numbers::{bounds_asked, connections_asked, sizes_asked};
 use crate::lacking::house_fault;
@@ -30,7 +31,7 @@ pub fn serve_asked<'a, P, H, W>(
     rt: &P,
     threads: H,
     words: &ServeWords<'a>,
-    writer: W,
+    writer: &mut W,
 ) -> Result<Served, Stop<'a>>
 where
     P: AllocGlobal + Files + Net<Listener = TcpListener, Stream = TcpStream> + Env + Clock,
@@ -38,11 +39,13 @@ where
     H::File: RangeLock + Send + 'static,
     H::Dir: Send + 'static,
     H: Threads + Wait + Clock + Files + Eprint + Copy + Drop + Send + Sync + 'static,
-    W: Write + Drop,
+    W: Write,
     requires { words.now.check_words ≡ false }
     ensures { MatchResult result
-        (IsServedAsAsked ServerSocket H (ServerCurfew H) (⟦<LineLog<ServerLog<H>, H> as LaneLog>⟧.told)
-        (⟦<ServedMailbox<H, ServerLog<H>> as Spool>⟧.state) words.now)
+        (IsServedAsAsked H (⟦<LineLog<ServerLog<H>, H> as LaneLog>⟧.told)
+        (⟦<LineLog<ServerLog<H>, H> as LaneLog>⟧.addresses)
+        (⟦<ServedMailbox<H, ServerLog<H>> as Spool>⟧.state) held_as words.now
+        (W.contents writer.old) (W.contents writer.new))
         (IsNotServed words.now) }
 {
     let _input = null(rt);
@@ -62,7 +65,7 @@ fn serve_opened<'a, P, H, W>(
     words: &ServeWords<'a>,
     setup: ServerSetup<H>,
     opened: Opened<'a>,
-    writer: W,
+    writer: &mut W,
 ) -> Result<Served, Stop<'a>>
 where
     P: AllocGlobal + Files + Clock,
@@ -70,15 +73,20 @@ where
     H::File: RangeLock + Send + 'static,
     H::Dir: Send + 'static,
     H: Threads + Wait + Clock + Files + Eprint + Copy + Drop + Send + Sync + 'static,
-    W: Write + Drop,
+    W: Write,
     requires served { words.now.check_words ≡ false }
-    requires address { IsListenAddress words.now.listen.now }
+    requires opened { IsListenedAt words.now opened }
     requires site { arc_value setup.site ≡ named_site words.now.site }
     requires sound { first_fault (named_site words.now.site) ≡ None }
     requires count { length setup.spools.items ≡ length words.now.site.boxes.items }
+    requires mailboxes { map held_as setup.spools.items ≡ mailboxes_asked words.now }
+    requires ends { IsCurfewOf (ends_asked words.now) (arc_value setup.curfew) }
+    requires addresses { setup.logs.addresses ≡ words.now.log_addresses }
     ensures { MatchResult result
-        (IsServedAsAsked ServerSocket H (ServerCurfew H) (⟦<LineLog<ServerLog<H>, H> as LaneLog>⟧.told)
-        (⟦<ServedMailbox<H, ServerLog<H>> as Spool>⟧.state) words.now)
+        (IsServedAsAsked H (⟦<LineLog<ServerLog<H>, H> as LaneLog>⟧.told)
+        (⟦<LineLog<ServerLog<H>, H> as LaneLog>⟧.addresses)
+        (⟦<ServedMailbox<H, ServerLog<H>> as Spool>⟧.state) held_as words.now
+        (W.contents writer.old) (W.contents writer.new))
         (IsNotServed words.now) }
 {
     let alloc = rt.alloc();

@@ -1,9 +1,8 @@
 //! The server that the program's words ask for, with the mailboxes that their file lists.
 
 ghost use Rattle.std.specs.Prelude.{MatchResult};
-ghost use Rattle.lmtpd_listen.specs.declared.server.ServerSocket.{ServerSocket};
-ghost use Rattle.lmtpd_setup.specs.declared.ends.ServerCurfew.{ServerCurfew};
 ghost use Rattle.lmtpd_setup.specs.Boxes.{IsFilled};
+ghost use Rattle.lmtpd_setup.specs.Mailboxes.{held_as};
 ghost use Rattle.lmtpd.specs.Program.{IsNotServedFilled, IsServeDone, IsServedAsAsked};
 
 use super::asked::serve_asked;
@@ -23,8 +22,9 @@ use std::time::Clock;
 
 /// What became of the words of a server.
 #[derive(Drop)]
-pub enum ServeDone {
-    Served(Served),
+pub enum ServeDone<W> {
+    /// It ran, and said this on standard output.
+    Served(Served, W),
     /// They alone were to be checked, and each can be used.
     WordsChecked,
 }
@@ -35,8 +35,8 @@ pub fn serve_filled<'a, P, H, W>(
     threads: H,
     mut words: ServeWords<'a>,
     room: &'a mut Vec<u8>,
-    writer: W,
-) -> Result<ServeDone, Stop<'a>>
+    mut writer: W,
+) -> Result<ServeDone<W>, Stop<'a>>
 where
     P: AllocGlobal + Files + Net<Listener = TcpListener, Stream = TcpStream> + Env + Clock,
     P::File: FileLock,
@@ -46,8 +46,9 @@ where
     W: Write + Drop,
     ensures { MatchResult result
         (IsServeDone (IsFilled P.File.remaining)
-        (IsServedAsAsked ServerSocket H (ServerCurfew H) (⟦<LineLog<ServerLog<H>, H> as LaneLog>⟧.told)
-        (⟦<ServedMailbox<H, ServerLog<H>> as Spool>⟧.state)) words.entry)
+        (λ asked after. IsServedAsAsked H (⟦<LineLog<ServerLog<H>, H> as LaneLog>⟧.told)
+        (⟦<LineLog<ServerLog<H>, H> as LaneLog>⟧.addresses) (⟦<ServedMailbox<H, ServerLog<H>> as Spool>⟧.state)
+        held_as asked (W.contents writer) (W.contents after)) words.entry)
         (IsNotServedFilled (IsFilled P.File.remaining) words.entry) }
 {
     fill(rt, &mut words.site, room)?;
@@ -55,6 +56,6 @@ where
         check_words(rt.alloc(), &words)?;
         return Ok(ServeDone::WordsChecked);
     }
-    let served = serve_asked(rt, threads, &words, writer)?;
-    Ok(ServeDone::Served(served))
+    let served = serve_asked(rt, threads, &words, &mut writer)?;
+    Ok(ServeDone::Served(served, writer))
 }

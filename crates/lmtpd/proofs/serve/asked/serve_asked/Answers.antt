@@ -2,8 +2,9 @@ use Rattle.std.proofs.lemmas.Result.{err_from_is_err_and}
 use Rattle.lmtpd.proofs.AsAsked.{unopened, unset}
 use Rattle.lmtpd.proofs.serve.asked.serve_asked.Goals as goal
 
-pub serve_opened-requires-clause-address : goal.serve_opened-requires-clause-address
-serve_opened-requires-clause-address g c κs within = (c.in_ok-listen_address.listen_address, c.in_ok-listen_address.ensures)
+pub serve_opened-requires-clause-opened : goal.serve_opened-requires-clause-opened
+serve_opened-requires-clause-opened g c κs within =
+    (c.in_ok-listen_address.listen_address, c.in_ok-listen_address.ensures, c.in_ok-opened.ensures)
 
 pub returns-in_err-setup : goal.returns-in_err-setup
 returns-in_err-setup g c =
