@@ -11,7 +11,8 @@ use crate::file::{FileEnd, end_of_file, sync_folder};
 use crate::mailbox_file::MailboxFile;
 use crate::mailbox_source::MailboxSource;
 use crate::plain::{
-    Node, OpenNode, Taken, error_of, is_same, node_of, open_plain, remove_node, remove_open, system_fault,
+    Node, OpenNode, Taken, error_of, is_same, node_of, open_plain, remove_node, remove_open,
+    system_fault,
 };
 use crate::range_lock::{LockKind, RangeLock};
 use crate::stale::{is_stale, owner_text};
