@@ -83,8 +83,8 @@ def check_install(folder):
     unit = (folder / "usr/lib/systemd/system/lmtpd.service").read_text()
     for line in [
         "Documentation=man:lmtpd(8) file:/usr/share/doc/lmtpd/OPERATING.md",
-        "ExecStart=/usr/lib/lmtpd/start --rename-marks --smtputf8",
-        "ExecReload=/usr/lib/lmtpd/start --check-words --rename-marks --smtputf8",
+        "ExecStart=/usr/lib/lmtpd/start --rename-marks",
+        "ExecReload=/usr/lib/lmtpd/start --check-words --rename-marks",
         "LogRateLimitIntervalSec=1s",
         "LogRateLimitBurst=1000000",
         "SyslogFacility=mail",

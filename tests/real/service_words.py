@@ -11,7 +11,7 @@ from replies import not_stored, stored
 from service import CONF, Service, systemctl
 
 FIXED = ["--stop-file", "/run/lmtpd/stop", "--heal", "--start-anyway", "--log", "info"]
-OF_THE_UNIT = ["--rename-marks", "--smtputf8"]
+OF_THE_UNIT = ["--rename-marks"]
 # The file of the package before it had DOMAINS, DELIMITER, FOLDER and OPTIONS, as an upgrade leaves it.
 OF_BEFORE = "HOST=mx.example\nMESSAGE_LIMIT=26214400\nBOXES=--boxes /etc/lmtpd.boxes\n"
 OLD = ["--host", "mx.example", "--listen", "inherited", "--dir", "/var/mail/lmtpd", "--message-limit", "26214400"]
@@ -92,6 +92,7 @@ def another_folder(_folder):
 RECIPES = [
     ("SETUP.md", "### Another folder", ["--dir", "/srv/mail"]),
     ("SETUP.md", "### A second domain", ["--domains", "two.example"]),
+    ("SETUP.md", "### Addresses in UTF-8", ["--smtputf8"]),
     ("MAILBOXES.md", "## Quota", ["--quota", "1000000000"]),
     ("LOG.md", "### Addresses", ["--log-addresses"]),
     ("MAILBOXES.md", "### Users' own programs on their own files", ["--mailbox-mode", "0660"]),

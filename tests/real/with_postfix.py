@@ -14,7 +14,6 @@ from service import Service
 
 NAMES = ["anna", "ben"]
 UMLAUT = "c\u00e4rl@a.example"
-DROP_IN = "/etc/systemd/system/lmtpd.service.d/marks.conf"
 SITE = """
 postconf -e virtual_mailbox_domains=mx.example 'virtual_mailbox_maps=inline:{anna@mx.example=x,ben@mx.example=x}'
 postconf -e virtual_transport=lmtp:unix:private/lmtpd lmtp_destination_concurrency_limit=4
@@ -78,13 +77,12 @@ def recipients_of_letters(_folder):
 @case
 @in_a_machine()
 def letters_as_written(_folder):
-    """Postfix by the typed lines of 'Letters as their senders wrote them', beside a service without its marks' and its
-    UTF-8's word: a head in UTF-8, a long line, and no lines by which programs mark letters"""
+    """Postfix by the typed lines of 'Letters as their senders wrote them', beside a service without the marks' word by
+    those of 'Marks': a head in UTF-8, a long line, and no lines by which programs mark letters"""
     long = "x" * 5000
     marks = [f"{name}: 1" for name in ["Status", "X-Status", "X-Keywords", "X-UID", "X-IMAP", "X-IMAPbase"]]
     with Service(NAMES) as service:
         type_lines(lines_of("SETUP.md", "### Marks"))
-        type_lines(f"sed -i 's/ --smtputf8//' {DROP_IN}; systemctl daemon-reload; systemctl restart lmtpd")
         type_lines(SITE)
         send("anna@mx.example", subject="gr\u00fc\u00dfe")
         wait_for(r"to=<anna@mx\.example>.* status=bounced .*SMTPUTF8 is required")
@@ -102,11 +100,12 @@ def letters_as_written(_folder):
 @case
 @in_a_machine()
 def utf8_through_postfix(_folder):
-    """Postfix as Debian has it, beside the installed service: a subject in UTF-8 by sendmail, a sender in UTF-8 and a
-    recipient whose detail is, and the same sender by swaks; each is stored with its address, by UTF8LMTP where Postfix
-    asked for it"""
+    """Postfix as Debian has it, beside the installed service by the typed line of 'Addresses in UTF-8': a subject in
+    UTF-8 by sendmail, a sender in UTF-8 and a recipient whose detail is, and the same sender by swaks; each is stored
+    with its address, by UTF8LMTP where Postfix asked for it"""
     swaks = program("swaks", "swaks")
     with Service(NAMES) as service:
+        type_lines(lines_of("SETUP.md", "### Addresses in UTF-8"))
         type_lines(SITE)
         send("anna@mx.example", subject="gr\u00fc\u00dfe")
         equal(subjects(service, "anna", 1), ["gr\u00fc\u00dfe"])
