@@ -72,7 +72,7 @@ def check_files(package, root, version):
     assert told(str(program), "--version") == told(LMTPD, "--version")
     changelog = gzip.decompress((root / "usr/share/doc/lmtpd/changelog.gz").read_bytes()).decode()
     assert changelog.startswith(f"lmtpd ({version}) "), changelog
-    assert "ExecStart=/usr/lib/lmtpd/start\n" in (root / "usr/lib/systemd/system/lmtpd.service").read_text()
+    assert "ExecStart=/usr/lib/lmtpd/start --rename-marks --smtputf8\n" in (root / "usr/lib/systemd/system/lmtpd.service").read_text()
     assert 'exec /usr/sbin/lmtpd serve "$@"\n' in (root / "usr/lib/lmtpd/start").read_text()
 
 

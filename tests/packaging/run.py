@@ -23,13 +23,13 @@ def help_of(command):
     examples = re.findall(r"^  (?:printf .* \| )?lmtpd (.*)$", said, re.MULTILINE)
     assert examples and all(example.startswith(command) for example in examples), examples
     assert re.findall(r"^  ([0-9])  ", said.split("Exit status:\n")[1], re.MULTILINE) == ["0", "1", "2"], said
-    found = re.findall(r"^ +(?:-[hV], )?(--[a-z-]+)(?: <[^>]*>)? +(.*)$", said, re.MULTILINE)
+    found = re.findall(r"^ +(?:-[hV], )?(--[a-z0-9-]+)(?: <[^>]*>)? +(.*)$", said, re.MULTILINE)
     return dict(found)
 
 
 def options_of_page(letter):
     """The options that the page lists for that command, with their texts."""
-    item = r"^\.It Fl -([a-z-]+)(?: Ar [^\n]*)?\n\.Pq ([sr, ]+)\n(.*?)(?=^\.It|^\.El)"
+    item = r"^\.It Fl -([a-z0-9-]+)(?: Ar [^\n]*)?\n\.Pq ([sr, ]+)\n(.*?)(?=^\.It|^\.El)"
     listed = re.findall(item, PAGE, re.MULTILINE | re.DOTALL)
     return {f"--{name}": text for name, letters, text in listed if letter in letters.split(", ")}
 
@@ -55,7 +55,7 @@ def check_words():
             assert not missing, (command, option, missing)
         assert completed(f"lmtpd {command} --") == set(told), command
         synopsis = PAGE.split(f".Cm {command}\n")[1].split(".Nm")[0].split(".Sh")[0]
-        assert set(re.findall(r"Fl -([a-z-]+)", synopsis)) == {name[2:] for name in expected}, command
+        assert set(re.findall(r"Fl -([a-z0-9-]+)", synopsis)) == {name[2:] for name in expected}, command
     assert set(help_of("")) == {"--help", "--version"}
     assert completed("lmtpd ") == {"serve", "rehearse", "check", "copy", "help", "--help", "--version"}
     assert completed("lmtpd s") == {"serve"}

@@ -120,6 +120,8 @@ def git_takes_the_letters_with_their_names(folder):
 
 def opened(folder, path):
     """A Dovecot whose inbox is a copy of that file."""
+    # its processes pass through the folder
+    folder.chmod(0o755)
     place = folder / f"dovecot-{path.parent.name}"
     place.mkdir(exist_ok=True)
     shutil.rmtree(place / "dovecot", ignore_errors=True)

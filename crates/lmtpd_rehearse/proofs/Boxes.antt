@@ -105,10 +105,10 @@ no_prefix : (prefix rest : List ℕ) → [] ≡ prefix ++ rest → prefix ≡ []
 no_prefix [] rest e = refl
 no_prefix (x ∷ prefix) rest e = cc
 
-pub is_full : (site : Site) (calendar : Calendar) (site : Site) (spool : MemorySpool) (notes : List Note) (stored over : ℕ) (faulty : Bool)
+pub is_full : (site : Site) (calendar : Calendar) (spool : MemorySpool) (notes : List Note) (stored over : ℕ) (faulty : Bool)
     → HasStored calendar site notes (state_of (empty_spool site)) (mailbox_of (state_of spool) stored over faulty) → faulty ≡ true
     → length spool.bytes ≡ mailbox_room site.message_limit
-is_full site calendar site spool notes stored over faulty h e =
+is_full site calendar spool notes stored over faulty h e =
     let P : Option ℕ → Type 0 = λ limit. IsFull limit (Some spool.bytes) in
     let full : length spool.bytes ≡ 0 + mailbox_room site.message_limit = subst P h.limited (h.full e) in
     omega (arith, full)
@@ -151,7 +151,7 @@ module _ (site : Site) (quota : Option ℕ) (b start : ℕ) (notes : List Note) 
   next_kept h = elim (h.next refl) [
     | inl none ↦ (
         let broken = none.1.failed in
-        let full = is_full site civil_at site spool all stored over true (spool_has true h) refl in
+        let full = is_full site civil_at spool all stored over true (spool_has true h) refl in
         let nothing : broken.prefix ≡ [] = no_prefix broken.prefix broken.rest (sym none.1.is ∙ broken.whole) in
         let empty : length spool.bytes ≡ 0 = ap length (broken.appended ∙ nothing) in
         let some = le-max_left 2097152 (2 * site.message_limit) in absurd (omega (arith, full, empty, some))
@@ -215,7 +215,7 @@ module _ (site : Site) (quota : Option ℕ) (b start : ℕ) (notes : List Note) 
         }
         )
     | inr none ↦ (
-        let full = is_full site civil_at site spool all stored over true (spool_has true h) refl in
+        let full = is_full site civil_at spool all stored over true (spool_has true h) refl in
         let nothing : none.0 ≡ [] = no_prefix none.0 none.3.rest none.3.whole in
         let empty : length spool.bytes ≡ 0 = ap length (none.2 ∙ nothing) in
         let some = le-max_left 2097152 (2 * site.message_limit) in absurd (omega (arith, full, empty, some))

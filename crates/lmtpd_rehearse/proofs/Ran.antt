@@ -212,7 +212,7 @@ module _ (site : Site) (quota : Option ℕ) (b : ℕ) (work : BoxWork) (spool : 
       subst P (sym tells) (holds_settled site quota b acc.start work.taken spool acc.stored acc.over tally.faulty acc.settled)
 
   fills : tally.faulty ≡ true → length spool.bytes ≡ mailbox_room site.message_limit
-  fills = is_full site civil_at site spool _ acc.stored acc.over tally.faulty
+  fills = is_full site civil_at spool _ acc.stored acc.over tally.faulty
       (spool_has site quota b acc.start work.taken spool acc.stored acc.over tally.faulty acc.settled)
 
 -- a mailbox that hasn't failed

@@ -1,5 +1,5 @@
 -- How a server's mailboxes are had.
-use Rattle.std.specs.Prelude.{ℕ, List, ◌++◌, Option, Some, codes, map}
+use Rattle.std.specs.Prelude.{ℕ, List, ◌++◌, Option, Some, codes}
 use Rattle.std.specs.Borrow.{Bor}
 use Rattle.mbox_file.specs.StdFile.{file_mode, file_path}
 use Rattle.mbox_file.specs.declared.std_file.StdMailboxFile.{StdMailboxFile}
@@ -28,8 +28,8 @@ held_in spool = record {
 }
 
 -- the same of one of which it is logged that it is in use
-abbrev pub held_as : {R F D G : Type 0} → LoggedMailbox (SharedSpool (LoggedFile (WatchedFile (StdMailboxFile R F D) R) G)) G
-    → Held
+abbrev pub held_as : {R F D G : Type 0}
+    → LoggedMailbox (SharedSpool (LoggedFile (WatchedFile (StdMailboxFile R F D) R) G)) G → Held
 held_as mailbox = held_in (spool_in mailbox)
 
 -- where a mailbox of that name is
