@@ -1,6 +1,6 @@
 -- Turns at a mailbox that other programs read and empty too: between two copies it belongs to whoever takes its locks,
 -- and what a worker does with one copy is a turn, from a lock to an unlock.
-use Rattle.std.specs.Prelude.{◌≡◌, ℕ, Bool, true, false, List, [], ◌∷◌, ◌++◌, length, MatchBool, Option, ⊤}
+use Rattle.std.specs.Prelude.{◌≡◌, ℕ, Bool, true, false, List, [], ◌∷◌, ◌++◌, length, Option, ⊤}
 use Rattle.mail_world.specs.declared.Note.{Note}
 use Rattle.mail_world.specs.declared.Outcome.{Outcome}
 use Rattle.mail_world.specs.declared.Outcome.TheVariants.{Stored, Failed, OverQuota}
@@ -64,23 +64,20 @@ IsTurn calendar site quota note OverQuota (Had lock unlock) = IsFullTurn calenda
 IsTurn calendar site quota note Failed (Had lock unlock) = IsBrokenTurn calendar site quota note lock unlock
 IsTurn calendar site quota note _ _ = ⊥
 
--- a turn that wasn't missed, and whose copy is told Failed, broke
-abbrev pub breaks : Outcome → Turn → Bool
-breaks Failed (Had lock unlock) = true
-breaks _ _ = false
+-- each of these copies has its turn, in their order
+abbrev pub HaveTurns : Calendar → Site → Option ℕ → List Note → List Outcome → List Turn → Type 0
+HaveTurns calendar site quota [] [] [] = ⊤
+HaveTurns calendar site quota (note ∷ notes) (outcome ∷ outcomes) (turn ∷ turns) =
+    IsTurn calendar site quota note outcome turn × HaveTurns calendar site quota notes outcomes turns
+HaveTurns calendar site quota _ _ _ = ⊥
 
--- each of these is told Failed
-abbrev pub AllFailed : List Note → List Outcome → Type 0
-AllFailed [] [] = ⊤
-AllFailed (note ∷ notes) (Failed ∷ outcomes) = AllFailed notes outcomes
-AllFailed _ _ = ⊥
+-- whether the last turn that was had broke, by one more turn and what is told of its copy
+abbrev pub breaks_last : Bool → Outcome → Turn → Bool
+breaks_last broke outcome NotHad = broke
+breaks_last broke Failed (Had lock unlock) = true
+breaks_last broke _ (Had lock unlock) = false
 
--- The turns of these copies, one for each and in their order, up to and with the one that broke, if one did: each copy
--- after that has no turn, and is told Failed.
-abbrev pub AreTurns : Calendar → Site → Option ℕ → List Note → List Outcome → List Turn → Bool → Type 0
-AreTurns calendar site quota [] [] [] broken = broken ≡ false
-AreTurns calendar site quota (note ∷ notes) (outcome ∷ outcomes) (turn ∷ turns) broken =
-    IsTurn calendar site quota note outcome turn
-    × MatchBool (breaks outcome turn) ((broken ≡ true) × (turns ≡ []) × AllFailed notes outcomes)
-    (AreTurns calendar site quota notes outcomes turns broken)
-AreTurns calendar site quota _ _ _ broken = ⊥
+-- and by these turns, one after the other
+abbrev pub last_broke : Bool → List Outcome → List Turn → Bool
+last_broke broke (outcome ∷ outcomes) (turn ∷ turns) = last_broke (breaks_last broke outcome turn) outcomes turns
+last_broke broke _ _ = broke
