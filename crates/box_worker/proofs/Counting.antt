@@ -1,6 +1,6 @@
 -- What a worker's count under a quota tells of the next record.
-use Rattle.std.proofs.Common.{◌≡◌, ℕ, ◌+◌, ◌≤◌, ◌<◌, ◌^◌, true, false, List, [], ◌∷◌, ◌++◌, length, Option, Some, None, refl, ap, ◌∙◌, subst, arith}
-use Rattle.std.proofs.Common.{length-append, take}
+use Rattle.std.proofs.Common.{◌≡◌, ℕ, ◌+◌, ◌≤◌, ◌<◌, ◌^◌, Bool, true, false, List, [], ◌∷◌, ◌++◌, length, Option, Some, None, refl, ap}
+use Rattle.std.proofs.Common.{sym, ◌∙◌, subst, true≢false, arith, length-append, take}
 use Rattle.std.proofs.lemmas.Bool.{leb-true}
 use Rattle.std.proofs.lemmas.List.{length-take}
 use Rattle.std.specs.Prelude.{nat_le}
@@ -10,7 +10,7 @@ use Rattle.mail_world.specs.Counts.{counted}
 use Rattle.mail_world.specs.Quotas.{fits}
 use Rattle.mail_world.specs.Endings.{ending, mends, mended}
 use Rattle.mail_world.specs.Text.{lf}
-use Rattle.mbox_record.specs.Sharing.{Sharing}
+use Rattle.mbox_record.specs.Sharing.{Sharing, knows_end}
 use Rattle.mbox_record.specs.Spool.{SpoolState}
 use Rattle.mbox_record.specs.Tail.{ending_of}
 use Rattle.mbox_record.specs.declared.tail.Tail.{Tail}
@@ -85,3 +85,25 @@ start_by (Some b) failures limit synced had sharing tail held ends says known =
 pub starts_at : (spool : SpoolState) (tail : Tail) (held : ℕ) → IfSome spool.bytes (λ b. ending_of tail ≡ ending b) → held ≡ counted spool.held
     → IfSome spool.bytes (λ b. held ≡ counted (length b)) → HasStart spool tail held
 starts_at spool tail held ends says known = start_by spool.bytes spool.failures spool.limit spool.synced spool.held spool.sharing tail held ends says known
+
+-- what a worker counts at first, of a spool that may not know how it ends
+pub record HasFirst (spool : SpoolState) (tail : Tail) (held : ℕ) : Type 0 where
+  pub start : ℕ
+  pub is : knows_end spool.sharing ≡ true → StartsAt spool start
+  pub count : counted (held + missing tail) ≡ counted start
+
+first_by : (spool : SpoolState) (tail : Tail) (held : ℕ) → held ≡ counted spool.held → (knows : Bool) → knows_end spool.sharing ≡ knows
+    → (knows ≡ true → IfSome spool.bytes (λ b. ending_of tail ≡ ending b)) → (knows ≡ true → IfSome spool.bytes (λ b. held ≡ counted (length b)))
+    → HasFirst spool tail held
+first_by spool tail held says true e ends known =
+    let s = starts_at spool tail held (ends refl) says (known refl) in record { start = s.start; is = λ k. s.is; count = s.count }
+first_by spool tail held says false e ends known = record {
+  start = spool.held + missing tail;
+  is = λ k. absurd (true≢false (sym k ∙ e));
+  count = omega (arith, says);
+}
+
+pub first_count : (spool : SpoolState) (tail : Tail) (held : ℕ) → held ≡ counted spool.held
+    → (knows_end spool.sharing ≡ true → IfSome spool.bytes (λ b. ending_of tail ≡ ending b))
+    → (knows_end spool.sharing ≡ true → IfSome spool.bytes (λ b. held ≡ counted (length b))) → HasFirst spool tail held
+first_count spool tail held says ends known = first_by spool tail held says (knows_end spool.sharing) refl ends known

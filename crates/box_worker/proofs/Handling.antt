@@ -22,6 +22,7 @@ use Rattle.mail_post.specs.Copies.{envelope_of}
 use Rattle.mail_post.specs.Offered.{HaveNumber, IsOffered, any_gone}
 use Rattle.mail_post.proofs.Offered.{still_numbered, accepted_nothing, offered_more}
 use Rattle.mbox_record.specs.Mending.{HasNotMended}
+use Rattle.mbox_record.specs.Sharing.{knows_end}
 use Rattle.mbox_record.specs.Spool.{SpoolState}
 use Rattle.mbox_record.specs.Envelope.{record_text}
 use Rattle.box_worker.specs.declared.limit.Limit.{Limit}
@@ -33,6 +34,7 @@ use Rattle.box_worker.specs.Worked.{WorkerState, counted_of, idle, is_lost, outc
 use Rattle.box_worker.specs.Worked.{IsCounting, HasWorked}
 use Rattle.box_worker.proofs.Turning.{turned_more, tells_told}
 use Rattle.box_worker.proofs.Counting.{let_in, kept_out}
+use Rattle.box_worker.proofs.Storing.{knows_alone}
 use Rattle.box_worker.proofs.Settling.{is_kept, marks_count, marks_next, bytes_one, bytes_none, settled_stored, settled_over, settled_not, settled_later}
 use Rattle.box_worker.proofs.Telling.{owed_more}
 use Rattle.mail_world.specs.Site.{Site}
@@ -109,10 +111,10 @@ module _ (at : Setting) (copies : List Note) (old : SpoolState) (now : MailboxSt
   settled_at : (faulty : Bool) → now.faulty ≡ faulty → HasSettled at h.start copies old (mailbox_of now.state h.stored h.over faulty)
   settled_at faulty e = let P : Bool → Type 0 = λ b. HasSettled at h.start copies old (mailbox_of now.state h.stored h.over b) in subst P e h.settled
 
-  pub copy_counted : (outcome : Outcome) (after : CountedMailbox)
+  pub copy_counted : now.state.sharing.is_shared ≡ false → (outcome : Outcome) (after : CountedMailbox)
       → TakesCopy (record_of at.calendar at.site note) outcome (record { mailbox = now; limit = before; in_use = used }) after
       → IsTendedAlone at (copies ++ note ∷ []) (outs ++ outcome ∷ []) old after.mailbox after.limit
-  copy_counted Stored after take =
+  copy_counted alone Stored after take =
       let was = settled_at false take.0 in
       let fit = let_in at.quota (bytes_after at h.start copies) size before after.limit (some_text at.calendar at.site note) (x.counts take.0) take.1 in
       let now_is = settled_stored at h.start copies note old now.state after.mailbox.state h.stored h.over was fit.0 take.2 in
@@ -124,7 +126,7 @@ module _ (at : Setting) (copies : List Note) (old : SpoolState) (now : MailboxSt
       (ap (λ (m : MailboxState). m.stored) take.3 ∙ ap (λ m. counted (m + 1)) h.stored_count ∙ counted_more h.stored)
       (ap (λ (m : MailboxState). m.over) take.3 ∙ h.over_count)
       (λ sound. let Q : ℕ → Type 0 = λ n. CountsTo at.quota n after.limit in subst Q (sym (bytes_one at h.start copies note fit.0)) fit.1)
-  copy_counted OverQuota after take =
+  copy_counted alone OverQuota after take =
       let was = settled_at false take.0 in
       let out = kept_out at.quota (bytes_after at h.start copies) size before (x.counts take.0) take.1 in
       let now_is = settled_over at h.start copies note old now.state after.mailbox.state h.stored h.over was out in
@@ -139,7 +141,7 @@ module _ (at : Setting) (copies : List Note) (old : SpoolState) (now : MailboxSt
       let Q : ℕ → Type 0 = λ n. CountsTo at.quota n after.limit in
       let R : Option Limit → Type 0 = λ l. CountsTo at.quota (bytes_after at h.start copies) l in
       subst Q (sym (bytes_none at h.start copies note out)) (subst R (sym take.2) (x.counts take.0)))
-  copy_counted Failed after take =
+  copy_counted alone Failed after take =
       let P : Bool → Type 0 = λ b. HasSettled at h.start (copies ++ note ∷ []) old (mailbox_of after.mailbox.state h.stored h.over b) in
       let faulty : after.mailbox.faulty ≡ true = ap (λ (m : MailboxState). m.faulty) take.0 in
       counted_by after.mailbox after.limit Failed h.stored h.over
@@ -148,13 +150,13 @@ module _ (at : Setting) (copies : List Note) (old : SpoolState) (now : MailboxSt
         | inl before' ↦ settled_later at h.start copies note old now.state after.mailbox.state h.stored h.over (settled_at true before'.0) before'.1
         | inr fails ↦
             let fit = let_in at.quota (bytes_after at h.start copies) size before after.limit (some_text at.calendar at.site note) (x.counts fails.0) fails.1 in
-            settled_not at h.start copies note old now.state after.mailbox.state h.stored h.over (settled_at false fails.0) fit.0 fails.2
+            settled_not at h.start copies note old now.state after.mailbox.state h.stored h.over alone (settled_at false fails.0) fit.0 fails.2
       ]))
       (ap (λ (m : MailboxState). m.stored) take.0 ∙ h.stored_count)
       (ap (λ (m : MailboxState). m.over) take.0 ∙ h.over_count)
       (λ sound. absurd (true≢false (sym faulty ∙ sound)))
-  copy_counted NoRoom after take = absurd take
-  copy_counted TooLarge after take = absurd take
+  copy_counted alone NoRoom after take = absurd take
+  copy_counted alone TooLarge after take = absurd take
 
 -- a count of one more outcome
 stored_more' : (outcome : Outcome) (n : ℕ) (old new : MailboxState) → CountsOutcome outcome old new → old.stored ≡ counted n
@@ -185,7 +187,8 @@ module _ (at : Setting) (copies : List Note) (old now : WorkerState) (before : O
       → IsTended at (copies ++ note ∷ []) (x.outcomes ++ outcome ∷ []) old.mailbox.state after
   tended_more outcome after whose alone never shared = record {
     whose = whose ∙ t.whose;
-    alone = λ e. copy_counted at copies old.mailbox.state now.mailbox before now.in_use note x.outcomes (t.alone e) outcome after (alone (t.whose ∙ e));
+    alone = λ e. copy_counted at copies old.mailbox.state now.mailbox before now.in_use note x.outcomes (t.alone e) (t.whose ∙ e) outcome
+        after (alone (t.whose ∙ e));
     never_in_use = λ e. never (t.whose ∙ e) ∙ t.never_in_use e;
     shared = λ e. turned_more at copies x.outcomes note outcome (shared_of old.mailbox.state false 0)
         (shared_of now.mailbox.state now.mailbox.faulty now.in_use) (shared_of after.mailbox.state after.mailbox.faulty after.in_use)
@@ -241,7 +244,7 @@ handled_of at copies old now limit x = record {
   alone = λ e. record { accounted = (x.tended.alone e).accounted; never_in_use = x.tended.never_in_use e };
   shared = λ e. record {
     each = x.tended.shared e;
-    told = tells_told at copies x.outcomes old.mailbox.state (shared_of now.mailbox.state now.mailbox.faulty now.in_use) (x.tended.shared e);
+    told = tells_told at copies x.outcomes old.mailbox.state e (shared_of now.mailbox.state now.mailbox.faulty now.in_use) (x.tended.shared e);
   };
 }
 
@@ -251,7 +254,7 @@ pub counting_none : (at : Setting) (slips : List (Sender Slip)) (old : SpoolStat
     → (old.sharing.is_shared ≡ false → new.mailbox.faulty ≡ true → HasNotMended old new.mailbox.state)
     → (old.sharing.is_shared ≡ true → new.mailbox ≡ mailbox_of old 0 0 false)
     → (new.mailbox.stored ≡ 0) × (new.mailbox.over ≡ 0) × (new.in_use ≡ 0)
-    → ((start : ℕ) × IfSome at.quota (λ quota. StartsAt old start) × CountsTo at.quota start new.limit)
+    → ((start : ℕ) × (knows_end old.sharing ≡ true → IfSome at.quota (λ quota. StartsAt old start)) × CountsTo at.quota start new.limit)
     → new.mailbox.state.sharing.is_shared ≡ old.sharing.is_shared
     → (y : IsCounting at [] (idle slips old) (record { slips = slips; mailbox = new.mailbox; in_use = new.in_use; taken = 0; lost = any_gone slips }) new.limit)
     × (y.outcomes ≡ [])
@@ -269,7 +272,7 @@ counting_none at slips old new mine stored broken left none begins whose =
         stored = 0;
         over = 0;
         settled = record {
-          starts = begins.1;
+          starts = begins.1 (knows_alone old.sharing e);
           within = omega arith;
           all = λ sound. refl;
           stored = refl;

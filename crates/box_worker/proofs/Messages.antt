@@ -7,7 +7,7 @@ use Rattle.mail_world.specs.Counts.{counted}
 use Rattle.mail_world.specs.Records.{Calendar, quoted_text, stored_text}
 use Rattle.mail_world.specs.Text.{lf}
 use Rattle.mbox_record.specs.Envelope.{Envelope, record_text, head_text}
-use Rattle.mbox_record.specs.Spool.{SpoolState, SpoolTook, SpoolFailed}
+use Rattle.mbox_record.specs.Spool.{SpoolState, SpoolTook, SpoolFailed, HasNotSynced}
 use Rattle.mbox_record.specs.Writing.{Writer, bytes_owed, WritesPiece, FailsPiece}
 use Rattle.mbox_record.proofs.Parts.{record_split}
 use Rattle.mbox_record.proofs.Taken.{SpoolTook-then, SpoolTook-as, SpoolFailed-first, SpoolFailed-later, SpoolFailed-as}
@@ -59,6 +59,10 @@ pub text_failed_at_end : (s t u : SpoolState) (first last : Writer) (message : L
     → SpoolFailed t u (bytes_owed last [] ++ lf ∷ []) → SpoolFailed s u (bytes_owed first message ++ lf ∷ [])
 text_failed_at_end s t u first last message x y =
     SpoolFailed-as s u _ _ (text_parts s t first last message x) (SpoolFailed-later s t u x.text (bytes_owed last [] ++ lf ∷ []) x.taken y)
+
+-- a text that was taken, and a sync that failed
+pub not_kept : (s t u : SpoolState) (text : List ℕ) → SpoolTook s t text → HasNotSynced t u → SpoolFailed s u text
+not_kept s t u text x y = SpoolFailed-as s u _ _ (sym (append-nil text)) (SpoolFailed-later s t u text [] x y)
 
 -- the sum of two counts is exact where it fits, and fits where the whole does
 sum_of : (m n a b whole : ℕ) → a ≡ counted m → b ≡ counted n → whole ≡ m + n → 1 ≤ m → 1 ≤ n → (result : Option ℕ) → SomeIff result (a + b < 2 ^ 64) (a + b)

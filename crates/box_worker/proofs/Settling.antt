@@ -9,9 +9,9 @@ use Rattle.mail_world.specs.Records.{record_of}
 use Rattle.mail_world.specs.Quotas.{fits, marked}
 use Rattle.mail_world.proofs.Quotas.{next_after}
 use Rattle.mail_world.proofs.Settled.{length-kept_after}
-use Rattle.mbox_record.specs.Spool.{SpoolState}
+use Rattle.mbox_record.specs.Spool.{SpoolState, SpoolFailed}
 use Rattle.box_worker.specs.Limits.{Setting, marks_after, kept_after}
-use Rattle.box_worker.specs.Stored.{HasKept, HasNotKept, mailbox_of, HasStored, HasFailedFirst, IsKeptNext, HasSettled}
+use Rattle.box_worker.specs.Stored.{HasKept, mailbox_of, HasStored, HasFailedFirst, IsKeptNext, HasSettled}
 use Rattle.box_worker.specs.Worked.{bytes_after}
 use Rattle.box_worker.proofs.Storing.{stored_more, stored_not, stored_later, stored_over}
 
@@ -115,9 +115,10 @@ module _ (at : Setting) (start : ℕ) (copies : List Note) (note : Note) where
         }
 
     -- the spool failed at its record
-    pub settled_not : HasSettled at start copies old (mailbox_of s stored over false) → is_kept ≡ true → HasNotKept s t (record_of at.calendar at.site note)
+    pub settled_not : s.sharing.is_shared ≡ false → HasSettled at start copies old (mailbox_of s stored over false) → is_kept ≡ true
+        → SpoolFailed s t (record_of at.calendar at.site note)
         → HasSettled at start (copies ++ note ∷ []) old (mailbox_of t stored over true)
-    settled_not x keeps y =
+    settled_not alone x keeps y =
         let now : stored + over ≡ length copies = x.all refl in
         let was : stored ≡ length prefix = x.spool.all refl in
         let count : stored + 1 ≡ length (kept_after at start (copies ++ note ∷ [])) =
@@ -129,7 +130,7 @@ module _ (at : Setting) (start : ℕ) (copies : List Note) (note : Note) where
           stored = x.stored ∙ ap length (prefix_kept (stored + over) x.within);
           next = λ e. inr (omega (arith, now, more), sym (count ∙ ap length (all_kept (stored + over + 1) (omega (arith, now)))));
           spool = stored_as old t stored over true (prefix ++ note ∷ []) (kept_one keeps)
-              (stored_not at.calendar at.site note old s t prefix stored over x.spool y);
+              (stored_not at.calendar at.site note old s t prefix stored over alone x.spool y);
         }
 
     next_later : t ≡ s → HasFailedFirst old s (stored + over) ⊎ IsKeptNext at start copies (stored + over) stored

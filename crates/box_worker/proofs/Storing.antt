@@ -1,7 +1,8 @@
 -- What a spool holds once its worker took one more copy that is kept.
-use Rattle.std.proofs.Common.{◌≡◌, ℕ, ◌+◌, ◌≤◌, List, [], ◌∷◌, ◌++◌, length, take, drop, true, false, Option, Some, None, inl, inr, refl, ap, sym, ◌∙◌, subst}
-use Rattle.std.proofs.Common.{true≢false, arith, length-append}
+use Rattle.std.proofs.Common.{◌≡◌, ◌||◌, ℕ, ◌+◌, ◌≤◌, List, [], ◌∷◌, ◌++◌, length, take, drop, Bool, true, false, Option, Some, None, inl, inr}
+use Rattle.std.proofs.Common.{refl, ap, sym, ◌∙◌, subst, true≢false, arith, length-append}
 use Rattle.std.proofs.lemmas.List.{take_all, take-append-le, drop-append-le, drop_all}
+use Rattle.std.specs.Prelude.{if◌then◌else◌, ◌&&◌, not}
 use Rattle.std.specs.Option.{IfSome}
 use Rattle.std.specs.Io.KnownBytes.{Appends}
 use Rattle.mail_world.specs.declared.Note.{Note}
@@ -9,11 +10,11 @@ use Rattle.mail_world.specs.Failures.{Rises}
 use Rattle.mail_world.specs.Records.{Calendar, record_of, mailbox}
 use Rattle.mail_world.specs.Deliveries.{IsTorn}
 use Rattle.mail_world.proofs.Spools.{mailbox-one_more}
-use Rattle.mbox_record.specs.Sharing.{Sharing}
-use Rattle.mbox_record.specs.Spool.{SpoolState, CoversAll}
+use Rattle.mbox_record.specs.Sharing.{Sharing, knows_end}
+use Rattle.mbox_record.specs.Spool.{SpoolState, CoversAll, LeavesPrefix, LeavesPart, StaysCovered, SpoolFailed}
 use Rattle.mail_world.specs.declared.Outcome.{Outcome}
 use Rattle.mail_world.specs.declared.Outcome.TheVariants.{Stored, Failed, NoRoom, TooLarge, OverQuota}
-use Rattle.box_worker.specs.Stored.{HasKept, HasNotKept, IsTornAt, MailboxState, mailbox_of, CountedMailbox, TakesCopy, CountsOutcome, HasStored}
+use Rattle.box_worker.specs.Stored.{HasKept, IsTornAt, MailboxState, mailbox_of, CountedMailbox, TakesCopy, CountsOutcome, HasStored}
 use Rattle.mail_world.specs.Site.{Site}
 
 one_more : (copies : List Note) (note : Note) → length (copies ++ note ∷ []) ≡ length copies + 1
@@ -22,6 +23,18 @@ one_more copies note = length-append copies (note ∷ [])
 -- a copy that isn't lost is none
 not_both : {A : Type 0} → false ≡ true → A
 not_both e = absurd (true≢false (sym e))
+
+-- a private spool always knows how it ends
+pub knows_alone : (s : Sharing) → s.is_shared ≡ false → knows_end s ≡ true
+knows_alone s e = ap (λ b. not b || (s.in_turn && not s.has_failed)) e
+
+-- of a private spool a fault leaves a prefix of what it was to take, and as much as before is synced
+pub left_alone : (s t : SpoolState) (text : List ℕ) → s.sharing.is_shared ≡ false → SpoolFailed s t text → LeavesPrefix s.bytes t.bytes text
+left_alone s t text alone x =
+    let P : Bool → Type 0 = λ b. LeavesPart (if b then s.sharing.began else None) s.bytes t.bytes text in subst P alone x.left
+
+pub covered_alone : (s t : SpoolState) (text : List ℕ) → s.sharing.is_shared ≡ false → SpoolFailed s t text → t.synced ≡ s.synced
+covered_alone s t text alone x = let P : Bool → Type 0 = λ b. StaysCovered b s.synced t.synced in subst P alone x.covered
 
 module _ (calendar : Calendar) (site : Site) (note : Note) where
   abbrev text : List ℕ
@@ -120,9 +133,11 @@ module _ (calendar : Calendar) (site : Site) (note : Note) where
         }
 
     -- the spool failed at the copy
-    pub stored_not : HasStored calendar site copies old (mailbox_of s n over false) → HasNotKept s t text
+    pub stored_not : s.sharing.is_shared ≡ false → HasStored calendar site copies old (mailbox_of s n over false) → SpoolFailed s t text
         → HasStored calendar site (copies ++ note ∷ []) old (mailbox_of t n over true)
-    stored_not x y =
+    stored_not alone x y =
+        let left = left_alone s t text alone y in
+        let covered = covered_alone s t text alone y in
         let all : n ≡ length copies = x.all refl in
         let more = one_more copies note in
         record {
@@ -133,9 +148,9 @@ module _ (calendar : Calendar) (site : Site) (note : Note) where
           limited = y.limited ∙ x.limited;
           full = λ e. y.full;
           whole = λ e. absurd (true≢false e);
-          torn = λ e. torn_first old.bytes s.bytes t.bytes copies n (n + over) y.prefix y.rest all y.whole (x.whole refl) y.appended;
-          covered = λ some. covered_later old.bytes copies n s.synced t.synced (omega arith) y.covered (x.covered some);
-          unsynced = λ none. y.covered ∙ x.unsynced none;
+          torn = λ e. torn_first old.bytes s.bytes t.bytes copies n (n + over) left.prefix left.rest all left.whole (x.whole refl) left.appended;
+          covered = λ some. covered_later old.bytes copies n s.synced t.synced (omega arith) covered (x.covered some);
+          unsynced = λ none. covered ∙ x.unsynced none;
           kept = λ e. absurd (true≢false e);
         }
 

@@ -1,7 +1,8 @@
 -- A worker's turns at a shared spool: one copy, one more copy, and what a spool that tells its bytes lists of them.
-use Rattle.std.proofs.Common.{◌≡◌, ◌⊎◌, ℕ, ◌+◌, ◌≤◌, List, [], ◌∷◌, ◌++◌, length, Bool, true, false, Option, Some, None, Result, Ok, Err, inl, inr, refl, ap}
-use Rattle.std.proofs.Common.{sym, ◌∙◌, subst, true≢false, arith, append_assoc, append-nil}
-use Rattle.std.specs.Prelude.{is_some, count_by, MatchBool}
+use Rattle.std.proofs.Common.{◌≡◌, ◌||◌, ℕ, ◌+◌, ◌≤◌, List, [], ◌∷◌, ◌++◌, length, Bool, true, false, Option, Some, None, Result, Ok, Err, inl, inr, refl, ap}
+use Rattle.std.proofs.Common.{sym, ◌∙◌, subst, arith, append_assoc, append-nil}
+use Rattle.std.proofs.lemmas.List.{append_cancel_left}
+use Rattle.std.specs.Prelude.{is_some, count_by, if◌then◌else◌, not}
 use Rattle.std.specs.Option.{IfSome, option_map}
 use Rattle.std.specs.Result.{OnOk, OnErr}
 use Rattle.std.specs.Io.KnownBytes.{Appends}
@@ -14,18 +15,19 @@ use Rattle.mail_world.specs.Records.{record_of}
 use Rattle.mail_world.specs.Endings.{ending, mended}
 use Rattle.mbox_record.specs.Tail.{ending_of}
 use Rattle.mail_world.specs.Quotas.{fits}
-use Rattle.mail_world.specs.Turns.{Standing, Turn, NotHad, Had, AllFailed, AreTurns, IsTurn, breaks}
+use Rattle.mail_world.specs.Prefixes.{IsPrefix}
+use Rattle.mail_world.specs.Turns.{Standing, Turn, NotHad, Had, IsTurn, breaks_last, last_broke}
 use Rattle.mail_world.proofs.GivenAway.{count-append}
-use Rattle.mbox_record.specs.Sharing.{Sharing, had, not_had}
-use Rattle.mbox_record.specs.Spool.{SpoolState, CoversAll, standing, BeginsTurn, MissesTurn, EndsTurn}
+use Rattle.mbox_record.specs.Sharing.{Sharing, lock_of, knows_end, had, not_had}
+use Rattle.mbox_record.specs.Spool.{SpoolState, CoversAll, IsWithin, LeavesPart, SpoolFailed, standing, BeginsTurn, MissesTurn, EndsTurn}
 use Rattle.box_worker.specs.declared.limit.Limit.{Limit}
 use Rattle.box_worker.specs.Limits.{Setting, StartsAt, CountsTo, missing, IsLetIn, IsKeptOut}
-use Rattle.box_worker.specs.Stored.{MailboxState, CountedMailbox, HasKept, HasNotKept}
+use Rattle.box_worker.specs.Stored.{MailboxState, CountedMailbox, HasKept}
 use Rattle.box_worker.specs.Turned.{MeasuresAgain, SharedMailbox, shared_of, HasKeptMended, HasNotKeptMended, Measures, StoresInTurn, KeepsOutOfTurn, BreaksTurn}
 use Rattle.box_worker.specs.Turned.{FromLock, HadTurn, TakesTurn, DoesInTurn, EndsInTurn, HaveTurned, is_not_had, TellsTurns}
 use Rattle.mbox_record.specs.Mending.{HasMended, HasNotMended}
 use Rattle.mbox_record.specs.declared.tail.Tail.{Tail}
-use Rattle.mbox_record.proofs.Taken.{Appends-then, FailsTurn-then}
+use Rattle.mbox_record.proofs.Taken.{Appends-then, SpoolFailed-first, SpoolFailed-later}
 use Rattle.box_worker.proofs.Counting.{starts_at, let_in, kept_out}
 
 -- one more copy
@@ -48,7 +50,7 @@ ends_in_turn quota text NoRoom old done new d e f = absurd d
 ends_in_turn quota text TooLarge old done new d e f = absurd d
 
 -- a copy's turn, by its end
-module _ (quota : Option ℕ) (text : List ℕ) (old locked new : MailboxState) (held before after : ℕ) (sound : old.faulty ≡ false)
+module _ (quota : Option ℕ) (text : List ℕ) (old locked new : MailboxState) (held before after : ℕ)
     (begins : BeginsTurn old.state locked.state held) (same : after ≡ before) where
   abbrev turn : {Does : SpoolState → SpoolState → Type 0} → FromLock Does locked.state new.state → HadTurn Does old.state new.state
   turn rest = record { held = held; locked = locked.state; begins = begins; rest = rest }
@@ -58,9 +60,9 @@ module _ (quota : Option ℕ) (text : List ℕ) (old locked new : MailboxState) 
 
   pub turn_by : (outcome : Outcome) → EndsInTurn quota text outcome locked new
       → TakesTurn quota text outcome (shared_of old.state old.faulty before) (shared_of new.state new.faulty after)
-  turn_by Stored e = (sound, turn e.0, is false e.1)
-  turn_by OverQuota e = (sound, turn e.0, is false e.1)
-  turn_by Failed e = inr (sound, inr (turn e.0, is true e.1))
+  turn_by Stored e = (turn e.0, is false e.1)
+  turn_by OverQuota e = (turn e.0, is false e.1)
+  turn_by Failed e = inr (turn e.0, is true e.1)
   turn_by NoRoom e = absurd e
   turn_by TooLarge e = absurd e
 
@@ -68,36 +70,49 @@ module _ (quota : Option ℕ) (text : List ℕ) (old locked new : MailboxState) 
 abbrev stood : List ℕ → SpoolState → Standing
 stood bytes spool = record { bytes = bytes; synced = spool.synced; failures = spool.failures }
 
-record IsListed (old locked done new : SpoolState) (at_lock at_end : List ℕ) : Type 0 where
-  left : List ℕ
-  bytes : new.bytes ≡ Some left
-  added : new.sharing.turns ≡ old.sharing.turns ++ Had (stood at_lock locked) (stood left new) ∷ []
-  stays : ((left ≡ at_end) × (new.synced ≡ done.synced)) ⊎ ((done.sharing.has_failed ≡ true) × (left ≡ at_lock))
-
 standing_is : (spool : SpoolState) (bytes : List ℕ) → spool.bytes ≡ Some bytes → standing spool ≡ Some (stood bytes spool)
 standing_is spool bytes e = ap (option_map (λ (held : List ℕ). stood held spool)) e
 
 some_same : (a b : List ℕ) → Some a ≡ Some b → a ≡ b
 some_same a b e = cc
 
-listed : (old locked done new : SpoolState) (held : ℕ) (at_lock at_end : List ℕ) → BeginsTurn old locked held
-    → locked.bytes ≡ Some at_lock → done.bytes ≡ Some at_end
-    → done.sharing.began ≡ locked.sharing.began → done.sharing.turns ≡ locked.sharing.turns → EndsTurn done new
-    → IsListed old locked done new at_lock at_end
-listed old locked done new held at_lock at_end begins is_locked is_done began turns ends =
-    let first : done.sharing.began ≡ Some (stood at_lock locked) =
-    began ∙ ap (λ (s : Sharing). s.began) begins.sharing ∙ standing_is locked at_lock is_locked in
-    let before : done.sharing.turns ≡ old.sharing.turns = turns ∙ ap (λ (s : Sharing). s.turns) begins.sharing in
-    let all : (left : List ℕ) → new.bytes ≡ Some left → new.sharing.turns ≡ old.sharing.turns ++ Had (stood at_lock locked) (stood left new) ∷ [] =
-    λ left e. ap (λ (s : Sharing). s.turns) ends.sharing ∙ ap (λ (l : List Turn). l ++ had done.sharing.began (standing new)) before
-    ∙ ap (λ o. old.sharing.turns ++ had o (standing new)) first
-    ∙ ap (λ o. old.sharing.turns ++ had (Some (stood at_lock locked)) o) (standing_is new left e) in
-    elim ends.left [
-      | inl stays ↦ record { left = at_end; bytes = stays.0 ∙ is_done; added = all at_end (stays.0 ∙ is_done); stays = inl (refl, stays.1) }
-      | inr cut ↦
-          let e : new.bytes ≡ Some at_lock = cut.1 ∙ ap (option_map (λ (s : Standing). s.bytes)) first in
-          record { left = at_lock; bytes = e; added = all at_lock e; stays = inr (cut.0, refl) }
-    ]
+-- a turn leaves its lock and its list alone until it ends
+record IsSameLog (locked done : SpoolState) : Type 0 where
+  shared : done.sharing.is_shared ≡ locked.sharing.is_shared
+  began : done.sharing.began ≡ locked.sharing.began
+  turns : done.sharing.turns ≡ locked.sharing.turns
+
+same_log : (locked done : SpoolState) (failed unsynced : Bool)
+    → done.sharing ≡ record locked.sharing { has_failed = failed; is_unsynced = unsynced } → IsSameLog locked done
+same_log locked done failed unsynced e = record {
+  shared = ap (λ (s : Sharing). s.is_shared) e;
+  began = ap (λ (s : Sharing). s.began) e;
+  turns = ap (λ (s : Sharing). s.turns) e;
+}
+
+-- the lock of a turn that began at these bytes
+module _ (old locked done : SpoolState) (held : ℕ) (at_lock : List ℕ) (shared : old.sharing.is_shared ≡ true)
+    (begins : BeginsTurn old locked held) (is_locked : locked.bytes ≡ Some at_lock) (same : IsSameLog locked done) where
+  still_shared : done.sharing.is_shared ≡ true
+  still_shared = same.shared ∙ ap (λ (s : Sharing). s.is_shared) begins.sharing ∙ shared
+
+  began_at : done.sharing.began ≡ Some (stood at_lock locked)
+  began_at = same.began ∙ ap (λ (s : Sharing). s.began) begins.sharing ∙ standing_is locked at_lock is_locked
+
+  lock_is : lock_of done.sharing ≡ Some (stood at_lock locked)
+  lock_is = ap (λ b. if b then done.sharing.began else None) still_shared ∙ began_at
+
+  knows : knows_end locked.sharing ≡ true
+  knows = ap knows_end begins.sharing ∙ ap (λ b. not b || true) shared
+
+  -- what the spool lists once the turn is over
+  lists : (new : SpoolState) (left : List ℕ) → EndsTurn done new → new.bytes ≡ Some left
+      → new.sharing.turns ≡ old.sharing.turns ++ Had (stood at_lock locked) (stood left new) ∷ []
+  lists new left ends e =
+      let before : done.sharing.turns ≡ old.sharing.turns = same.turns ∙ ap (λ (s : Sharing). s.turns) begins.sharing in
+      ap (λ (s : Sharing). s.turns) ends.sharing ∙ ap (λ (l : List Turn). l ++ had done.sharing.began (standing new)) before
+      ∙ ap (λ o. old.sharing.turns ++ had o (standing new)) began_at
+      ∙ ap (λ o. old.sharing.turns ++ had (Some (stood at_lock locked)) o) (standing_is new left e)
 
 -- a spool that told its bytes tells them at the lock
 telling : (u v : Option (List ℕ)) (bytes : List ℕ) → u ≡ Some bytes → is_some v ≡ is_some u → (now : List ℕ) × (v ≡ Some now)
@@ -123,154 +138,165 @@ room_of None locked held size fit e m = m.is
 room_of (Some quota) locked held size fit e m =
     ap (λ n. fits (Some quota) n size) (sym (known_of locked.bytes held (λ b. m.start ≡ length (b ++ mended b)) e m.starts.known)) ∙ m.is
 
+-- of what is left in a turn it is known what there is at most
+within_of : (lock : Standing) (u v : Option (List ℕ)) (held text : List ℕ) → u ≡ Some held → LeavesPart (Some lock) u v text
+    → (left : List ℕ) × (v ≡ Some left) × IsWithin lock.bytes (held ++ text) left
+within_of lock None v held text e x = cc
+within_of lock (Some u) None held text e x = absurd x
+within_of lock (Some u) (Some left) held text e x =
+    let P : List ℕ → Type 0 = λ l. IsWithin lock.bytes (l ++ text) left in (left, refl, subst P (some_same u held e) x)
+
+joined : (x y z : List ℕ) → IsPrefix x y → IsPrefix y z → IsPrefix x z
+joined x y z p q = record {
+  rest = p.rest ++ q.rest;
+  whole = q.whole ∙ ap (λ (l : List ℕ). l ++ q.rest) p.whole ∙ append_assoc x p.rest q.rest;
+}
+
+-- what begins with the same text goes on so, where one is a prefix of the other
+part_after : (lock more left : List ℕ) → IsPrefix lock left → IsPrefix left (lock ++ more) → (part : List ℕ) × (left ≡ lock ++ part) × IsPrefix part more
+part_after lock more left above below =
+    let whole : lock ++ more ≡ lock ++ (above.rest ++ below.rest) =
+    below.whole ∙ ap (λ (l : List ℕ). l ++ below.rest) above.whole ∙ append_assoc lock above.rest below.rest in
+    (above.rest, above.whole, record { rest = below.rest; whole = append_cancel_left lock more (above.rest ++ below.rest) whole })
+
 -- what a spool lists of one copy
 record IsToldOnce (at : Setting) (note : Note) (outcome : Outcome) (old new : SharedMailbox) : Type 0 where
   turn : Turn
   added : new.state.sharing.turns ≡ old.state.sharing.turns ++ turn ∷ []
   is : IsTurn at.calendar at.site at.quota note outcome turn
-  broke : breaks outcome turn ≡ new.faulty
+  broke : new.faulty ≡ breaks_last old.faulty outcome turn
   missed : new.in_use ≡ counted (old.in_use + count_by is_not_had (turn ∷ []))
+  whose : new.state.sharing.is_shared ≡ true
   left : List ℕ
   bytes : new.state.bytes ≡ Some left
 
-no_failure : {A : Type 0} (s : Sharing) (t : Sharing) → t.has_failed ≡ false → s.has_failed ≡ t.has_failed → s.has_failed ≡ true → A
-no_failure s t none same some = absurd (true≢false (sym some ∙ same ∙ none))
-
 module _ (at : Setting) (note : Note) (old new : SharedMailbox) (held : List ℕ) (is_old : old.state.bytes ≡ Some held)
-    (most : counted old.in_use ≡ old.in_use) where
+    (shared : old.state.sharing.is_shared ≡ true) (most : counted old.in_use ≡ old.in_use) where
   abbrev text : List ℕ
   text = record_of at.calendar at.site note
 
   stays_counted : new.in_use ≡ old.in_use → new.in_use ≡ counted (old.in_use + 0)
   stays_counted e = let z : counted old.in_use ≡ counted (old.in_use + 0) = omega arith in e ∙ sym most ∙ z
 
+  stays_shared : (done : SpoolState) → done.sharing.is_shared ≡ true → EndsTurn done new.state → new.state.sharing.is_shared ≡ true
+  stays_shared done e ends = ap (λ (s : Sharing). s.is_shared) ends.sharing ∙ e
+
   told_stored : HadTurn (StoresInTurn at.quota text) old.state new.state → new ≡ shared_of new.state false old.in_use → IsToldOnce at note Stored old new
   told_stored h is =
+      let done = h.rest.done in
       let lock = telling old.state.bytes h.locked.bytes held is_old h.begins.telling in
       let kept = h.rest.does.kept in
-      let mends : kept.mending ≡ mended lock.0 = known_of h.locked.bytes lock.0 (λ b. kept.mending ≡ mended b) lock.1 kept.mends in
-      let done = appended h.locked.bytes h.rest.done.bytes lock.0 (kept.mending ++ text) lock.1 kept.kept.appended in
-      let l = listed old.state h.locked h.rest.done new.state h.held lock.0 done.0 h.begins lock.1 done.1
-      (ap (λ (s : Sharing). s.began) kept.kept.turn) (ap (λ (s : Sharing). s.turns) kept.kept.turn) h.rest.ends in
-      let none : h.locked.sharing.has_failed ≡ false = ap (λ (s : Sharing). s.has_failed) h.begins.sharing in
-      let same : h.rest.done.sharing.has_failed ≡ h.locked.sharing.has_failed = ap (λ (s : Sharing). s.has_failed) kept.kept.turn in
-      let stays : (l.left ≡ done.0) × (new.state.synced ≡ h.rest.done.synced) = elim l.stays [
-        | inl s ↦ s
-        | inr c ↦ no_failure h.rest.done.sharing h.locked.sharing none same c.0
-      ] in
+      let same = same_log h.locked done h.locked.sharing.has_failed false kept.kept.turn in
+      let sure = knows old.state h.locked done h.held lock.0 shared h.begins lock.1 same in
+      let mends : kept.mending ≡ mended lock.0 = known_of h.locked.bytes lock.0 (λ b. kept.mending ≡ mended b) lock.1 (kept.mends sure) in
+      let now = appended h.locked.bytes done.bytes lock.0 (kept.mending ++ text) lock.1 kept.kept.appended in
+      let stays = h.rest.ends.stays (ap (λ (s : Sharing). s.has_failed) kept.kept.turn ∙ ap (λ (s : Sharing). s.has_failed) h.begins.sharing)
+      (ap (λ (s : Sharing). s.is_unsynced) kept.kept.turn) in
+      let bytes : new.state.bytes ≡ Some now.0 = stays.0 ∙ now.1 in
       record {
-        turn = Had (stood lock.0 h.locked) (stood l.left new.state);
-        added = l.added;
+        turn = Had (stood lock.0 h.locked) (stood now.0 new.state);
+        added = lists old.state h.locked done h.held lock.0 shared h.begins lock.1 same new.state now.0 h.rest.ends bytes;
         is = record {
           room = room_of at.quota h.locked lock.0 (length text) true lock.1 h.rest.does.measured;
-          whole = stays.0 ∙ done.2 ∙ ap (λ (m : List ℕ). lock.0 ++ (m ++ text)) mends;
-          covered = stays.1 ∙ covers_of h.rest.done.bytes done.0 h.rest.done.synced done.1 kept.kept.covered ∙ ap length (sym stays.0);
+          whole = now.2 ∙ ap (λ (m : List ℕ). lock.0 ++ (m ++ text)) mends;
+          covered = stays.1 ∙ covers_of done.bytes now.0 done.synced now.1 kept.kept.covered;
           sound = h.rest.ends.sound ∙ kept.kept.sound;
         };
-        broke = sym (ap (λ (m : SharedMailbox). m.faulty) is);
+        broke = ap (λ (m : SharedMailbox). m.faulty) is;
         missed = stays_counted (ap (λ (m : SharedMailbox). m.in_use) is);
-        left = l.left;
-        bytes = l.bytes;
+        whose = stays_shared done (still_shared old.state h.locked done h.held lock.0 shared h.begins lock.1 same) h.rest.ends;
+        left = now.0;
+        bytes = bytes;
       }
 
   told_over : HadTurn (KeepsOutOfTurn at.quota text) old.state new.state → new ≡ shared_of new.state false old.in_use → IsToldOnce at note OverQuota old new
   told_over h is =
+      let done = h.rest.done in
       let lock = telling old.state.bytes h.locked.bytes held is_old h.begins.telling in
-      let unchanged : h.rest.done ≡ h.locked = h.rest.does.same in
-      let l = listed old.state h.locked h.rest.done new.state h.held lock.0 lock.0 h.begins lock.1 (ap (λ (s : SpoolState). s.bytes) unchanged ∙ lock.1)
-      (ap (λ (s : SpoolState). s.sharing.began) unchanged) (ap (λ (s : SpoolState). s.sharing.turns) unchanged) h.rest.ends in
-      let stays : l.left ≡ lock.0 = elim l.stays [
-        | inl s ↦ s.0
-        | inr c ↦ c.1
-      ] in
+      let unchanged : done ≡ h.locked = h.rest.does.same in
+      let turn : done.sharing ≡ h.locked.sharing = ap (λ (s : SpoolState). s.sharing) unchanged in
+      let same = same_log h.locked done h.locked.sharing.has_failed h.locked.sharing.is_unsynced turn in
+      let stays = h.rest.ends.stays (ap (λ (s : Sharing). s.has_failed) (turn ∙ h.begins.sharing))
+      (ap (λ (s : Sharing). s.is_unsynced) (turn ∙ h.begins.sharing)) in
+      let bytes : new.state.bytes ≡ Some lock.0 = stays.0 ∙ ap (λ (s : SpoolState). s.bytes) unchanged ∙ lock.1 in
       record {
-        turn = Had (stood lock.0 h.locked) (stood l.left new.state);
-        added = l.added;
+        turn = Had (stood lock.0 h.locked) (stood lock.0 new.state);
+        added = lists old.state h.locked done h.held lock.0 shared h.begins lock.1 same new.state lock.0 h.rest.ends bytes;
         is = record {
           room = room_of at.quota h.locked lock.0 (length text) false lock.1 h.rest.does.measured;
-          same = stays;
+          same = refl;
           sound = h.rest.ends.sound ∙ ap (λ (s : SpoolState). s.failures) unchanged;
         };
-        broke = sym (ap (λ (m : SharedMailbox). m.faulty) is);
+        broke = ap (λ (m : SharedMailbox). m.faulty) is;
         missed = stays_counted (ap (λ (m : SharedMailbox). m.in_use) is);
-        left = l.left;
-        bytes = l.bytes;
+        whose = stays_shared done (still_shared old.state h.locked done h.held lock.0 shared h.begins lock.1 same) h.rest.ends;
+        left = lock.0;
+        bytes = bytes;
       }
 
   told_broken : HadTurn (BreaksTurn at.quota text) old.state new.state → new ≡ shared_of new.state true old.in_use → IsToldOnce at note Failed old new
   told_broken h is =
-      let lock = telling old.state.bytes h.locked.bytes held is_old h.begins.telling in
+      let locked = h.locked in
+      let done = h.rest.done in
+      let lock = telling old.state.bytes locked.bytes held is_old h.begins.telling in
       let mend = h.rest.does.broken in
       let broken = mend.broken in
-      let mends : mend.mending ≡ mended lock.0 = known_of h.locked.bytes lock.0 (λ b. mend.mending ≡ mended b) lock.1 mend.mends in
-      let done = appended h.locked.bytes h.rest.done.bytes lock.0 broken.prefix lock.1 broken.appended in
-      let l = listed old.state h.locked h.rest.done new.state h.held lock.0 done.0 h.begins lock.1 done.1
-      (ap (λ (s : Sharing). s.began) broken.turn) (ap (λ (s : Sharing). s.turns) broken.turn) h.rest.ends in
-      let whole : mended lock.0 ++ text ≡ broken.prefix ++ broken.rest = ap (λ (m : List ℕ). m ++ text) (sym mends) ∙ broken.whole in
-      let lost : Rises h.locked.failures new.state.failures = let P : ℕ → Type 0 = λ n. Rises h.locked.failures n in
-      subst P (sym h.rest.ends.sound) broken.failed in
-      let room = room_of at.quota h.locked lock.0 (length text) true lock.1 h.rest.does.measured in
+      let same = same_log locked done (locked.sharing.has_failed || locked.sharing.in_turn) done.sharing.is_unsynced broken.turn in
+      let none = same_log locked locked locked.sharing.has_failed locked.sharing.is_unsynced refl in
+      let at_lock : Standing = stood lock.0 locked in
+      let sure = knows old.state locked done h.held lock.0 shared h.begins lock.1 same in
+      let mends : mend.mending ≡ mended lock.0 = known_of locked.bytes lock.0 (λ b. mend.mending ≡ mended b) lock.1 (mend.mends sure) in
+      let P : Option Standing → Type 0 = λ o. LeavesPart o locked.bytes done.bytes (mend.mending ++ text) in
+      let Q : Option Standing → Type 0 = λ o. LeavesPart o done.bytes new.state.bytes [] in
+      let first = within_of at_lock locked.bytes done.bytes lock.0 (mend.mending ++ text) lock.1
+      (subst P (lock_is old.state locked locked h.held lock.0 shared h.begins lock.1 none) broken.left) in
+      let last = within_of at_lock done.bytes new.state.bytes first.0 [] first.1
+      (subst Q (lock_is old.state locked done h.held lock.0 shared h.begins lock.1 same) h.rest.ends.left) in
+      let W : List ℕ → Type 0 = λ l. IsPrefix last.0 l in
+      let M : List ℕ → Type 0 = λ m. IsPrefix last.0 (lock.0 ++ (m ++ text)) in
+      let below = subst M mends (joined last.0 first.0 (lock.0 ++ (mend.mending ++ text)) (subst W (append-nil first.0) last.2.below) first.2.below) in
+      let part = part_after lock.0 (mended lock.0 ++ text) last.0 last.2.above below in
+      let F : ℕ → Type 0 = λ n. Rises locked.failures n in
       record {
-        turn = Had (stood lock.0 h.locked) (stood l.left new.state);
-        added = l.added;
-        is = elim l.stays [
-          | inl s ↦ record { room = room; failed = lost; prefix = broken.prefix; part = record { rest = broken.rest; whole = whole }; left = s.0 ∙ done.2 }
-          | inr c ↦ record {
-            room = room;
-            failed = lost;
-            prefix = [];
-            part = record { rest = mended lock.0 ++ text; whole = refl };
-            left = c.1
-                ∙ sym (append-nil lock.0);
-          }
-        ];
-        broke = sym (ap (λ (m : SharedMailbox). m.faulty) is);
+        turn = Had at_lock (stood last.0 new.state);
+        added = lists old.state locked done h.held lock.0 shared h.begins lock.1 same new.state last.0 h.rest.ends last.1;
+        is = record {
+          room = room_of at.quota locked lock.0 (length text) true lock.1 h.rest.does.measured;
+          failed = subst F (sym h.rest.ends.sound) broken.failed;
+          prefix = part.0;
+          part = part.2;
+          left = part.1;
+        };
+        broke = ap (λ (m : SharedMailbox). m.faulty) is;
         missed = stays_counted (ap (λ (m : SharedMailbox). m.in_use) is);
-        left = l.left;
-        bytes = l.bytes;
+        whose = stays_shared done (still_shared old.state locked done h.held lock.0 shared h.begins lock.1 same) h.rest.ends;
+        left = last.0;
+        bytes = last.1;
       }
 
-  told_missed : MissesTurn old.state new.state → new ≡ shared_of new.state false (counted (old.in_use + 1)) → IsToldOnce at note Failed old new
-  told_missed misses is = record {
-    turn = NotHad;
-    added = ap (λ (s : SpoolState). s.sharing.turns) misses ∙ ap (λ o. old.state.sharing.turns ++ not_had o) is_old;
-    is = tt;
-    broke = sym (ap (λ (m : SharedMailbox). m.faulty) is);
-    missed = ap (λ (m : SharedMailbox). m.in_use) is;
-    left = held;
-    bytes = ap (λ (s : SpoolState). s.bytes) misses ∙ is_old;
-  }
+  told_missed : MissesTurn old.state new.state → new ≡ shared_of new.state old.faulty (counted (old.in_use + 1)) → IsToldOnce at note Failed old new
+  told_missed misses is =
+      let now = telling old.state.bytes new.state.bytes held is_old misses.telling in
+      record {
+        turn = NotHad;
+        added = ap (λ (s : SpoolState). s.sharing.turns) misses.same ∙ ap (λ o. old.state.sharing.turns ++ not_had o) is_old;
+        is = tt;
+        broke = ap (λ (m : SharedMailbox). m.faulty) is;
+        missed = ap (λ (m : SharedMailbox). m.in_use) is;
+        whose = ap (λ (s : SpoolState). s.sharing.is_shared) misses.same ∙ shared;
+        left = now.0;
+        bytes = now.1;
+      }
 
-  told_once : (outcome : Outcome) → old.faulty ≡ false → TakesTurn at.quota text outcome old new → IsToldOnce at note outcome old new
-  told_once Stored sound t = told_stored t.1 t.2
-  told_once OverQuota sound t = told_over t.1 t.2
-  told_once Failed sound t = elim t [
-    | inl gone ↦ absurd (true≢false (sym gone.0 ∙ sound))
-    | inr fails ↦ elim fails.1 [
-      | inl missed ↦ told_missed missed.0 missed.1
-      | inr broken ↦ told_broken broken.0 broken.1
-    ]
+  told_once : (outcome : Outcome) → TakesTurn at.quota text outcome old new → IsToldOnce at note outcome old new
+  told_once Stored t = told_stored t.0 t.1
+  told_once OverQuota t = told_over t.0 t.1
+  told_once Failed t = elim t [
+    | inl missed ↦ told_missed missed.0 missed.1
+    | inr broken ↦ told_broken broken.0 broken.1
   ]
-  told_once NoRoom sound t = absurd t
-  told_once TooLarge sound t = absurd t
-
--- a spool that was given up is left alone, and each copy is told Failed
-given_up : (at : Setting) (notes : List Note) (outcomes : List Outcome) (old new : SharedMailbox) → old.faulty ≡ true → HaveTurned at notes outcomes old new
-    → AllFailed notes outcomes × (new ≡ old)
-given_up at [] [] old new gone h = (tt, h)
-given_up at [] (o ∷ os) old new gone h = absurd h
-given_up at (x ∷ xs) [] old new gone h = absurd h
-given_up at (x ∷ xs) (Failed ∷ os) old new gone h =
-    let same : h.0 ≡ old = elim h.1 [
-      | inl left ↦ left.1
-      | inr sound ↦ absurd (true≢false (sym gone ∙ sound.0))
-    ] in
-    let rest = given_up at xs os h.0 new (ap (λ (m : SharedMailbox). m.faulty) same ∙ gone) h.2 in
-    (rest.0, rest.1 ∙ same)
-given_up at (x ∷ xs) (Stored ∷ os) old new gone h = absurd (true≢false (sym gone ∙ h.1.0))
-given_up at (x ∷ xs) (OverQuota ∷ os) old new gone h = absurd (true≢false (sym gone ∙ h.1.0))
-given_up at (x ∷ xs) (NoRoom ∷ os) old new gone h = absurd h.1
-given_up at (x ∷ xs) (TooLarge ∷ os) old new gone h = absurd h.1
+  told_once NoRoom t = absurd t
+  told_once TooLarge t = absurd t
 
 -- counts of one more and then of some
 counts_then : (before between n : ℕ) (turn : Turn) (turns : List Turn) → between ≡ counted (before + count_by is_not_had (turn ∷ []))
@@ -279,60 +305,43 @@ counts_then before between n turn turns e f =
     let both : count_by is_not_had (turn ∷ turns) ≡ count_by is_not_had (turn ∷ []) + count_by is_not_had turns = count-append is_not_had (turn ∷ []) turns in
     omega (arith, e, f, both)
 
--- after one copy the spool goes on, or was given up
+-- one copy, and those after it
 tells_next : (at : Setting) (note : Note) (notes : List Note) (outcome : Outcome) (outcomes : List Outcome) (old between new : SharedMailbox)
-    → IsToldOnce at note outcome old between → HaveTurned at notes outcomes between new → (between.faulty ≡ false → TellsTurns at notes outcomes between new)
-    → (faulty : Bool) → between.faulty ≡ faulty → TellsTurns at (note ∷ notes) (outcome ∷ outcomes) old new
-tells_next at note notes outcome outcomes old between new one h goes true e =
-    let rest = given_up at notes outcomes between new e h in
-    let none : List Turn = [] in
-    let A : Type 0 = (new.faulty ≡ true) × (none ≡ []) × AllFailed notes outcomes in
-    let B : Type 0 = AreTurns at.calendar at.site at.quota notes outcomes [] new.faulty in
-    let P : Bool → Type 0 = λ b. MatchBool b A B in
-    let last : A = (ap (λ (m : SharedMailbox). m.faulty) rest.1 ∙ e, refl, rest.0) in
-    record {
-      turns = one.turn ∷ [];
-      added = ap (λ (m : SharedMailbox). m.state.sharing.turns) rest.1 ∙ one.added;
-      are = (one.is, subst P (sym (one.broke ∙ e)) last);
-      missed = ap (λ (m : SharedMailbox). m.in_use) rest.1 ∙ one.missed;
-    }
-tells_next at note notes outcome outcomes old between new one h goes false e =
-    let rest = goes e in
-    let A : Type 0 = (new.faulty ≡ true) × (rest.turns ≡ []) × AllFailed notes outcomes in
-    let B : Type 0 = AreTurns at.calendar at.site at.quota notes outcomes rest.turns new.faulty in
-    let P : Bool → Type 0 = λ b. MatchBool b A B in
-    record {
-      turns = one.turn ∷ rest.turns;
-      added = rest.added ∙ ap (λ (l : List Turn). l ++ rest.turns) one.added ∙ append_assoc old.state.sharing.turns (one.turn ∷ []) rest.turns;
-      are = (one.is, subst P (sym (one.broke ∙ e)) rest.are);
-      missed = counts_then old.in_use between.in_use new.in_use one.turn rest.turns one.missed rest.missed;
-    }
+    → IsToldOnce at note outcome old between → TellsTurns at notes outcomes between new → TellsTurns at (note ∷ notes) (outcome ∷ outcomes) old new
+tells_next at note notes outcome outcomes old between new one rest = record {
+  turns = one.turn ∷ rest.turns;
+  added = rest.added ∙ ap (λ (l : List Turn). l ++ rest.turns) one.added ∙ append_assoc old.state.sharing.turns (one.turn ∷ []) rest.turns;
+  are = (one.is, rest.are);
+  broke = rest.broke ∙ ap (λ b. last_broke b outcomes rest.turns) one.broke;
+  missed = counts_then old.in_use between.in_use new.in_use one.turn rest.turns one.missed rest.missed;
+}
 
 tells : (at : Setting) (notes : List Note) (outcomes : List Outcome) (old new : SharedMailbox) (held : List ℕ) → old.state.bytes ≡ Some held
-    → counted old.in_use ≡ old.in_use
-    → old.faulty ≡ false → HaveTurned at notes outcomes old new → TellsTurns at notes outcomes old new
-tells at [] [] old new held e most sound h = record {
+    → old.state.sharing.is_shared ≡ true → counted old.in_use ≡ old.in_use → HaveTurned at notes outcomes old new → TellsTurns at notes outcomes old new
+tells at [] [] old new held e shared most h = record {
   turns = [];
   added = ap (λ (m : SharedMailbox). m.state.sharing.turns) h ∙ sym (append-nil old.state.sharing.turns);
-  are = ap (λ (m : SharedMailbox). m.faulty) h ∙ sound;
+  are = tt;
+  broke = ap (λ (m : SharedMailbox). m.faulty) h;
   missed = let z : counted old.in_use ≡ counted (old.in_use + 0) = omega arith in ap (λ (m : SharedMailbox). m.in_use) h ∙ sym most ∙ z;
 }
-tells at [] (o ∷ os) old new held e most sound h = absurd h
-tells at (x ∷ xs) [] old new held e most sound h = absurd h
-tells at (x ∷ xs) (o ∷ os) old new held e most sound h =
-    let one = told_once at x old h.0 held e most o sound h.1 in
+tells at [] (o ∷ os) old new held e shared most h = absurd h
+tells at (x ∷ xs) [] old new held e shared most h = absurd h
+tells at (x ∷ xs) (o ∷ os) old new held e shared most h =
+    let one = told_once at x old h.0 held e shared most o h.1 in
     let still : counted h.0.in_use ≡ h.0.in_use = let m = one.missed in omega (arith, m) in
-    tells_next at x xs o os old h.0 new one h.2 (λ goes. tells at xs os h.0 new one.left one.bytes still goes h.2) h.0.faulty refl
+    tells_next at x xs o os old h.0 new one (tells at xs os h.0 new one.left one.bytes one.whose still h.2)
 
 -- of a spool that tells its bytes
 tells_by : (at : Setting) (notes : List Note) (outcomes : List Outcome) (old : SpoolState) (new : SharedMailbox) (u : Option (List ℕ)) → old.bytes ≡ u
-    → HaveTurned at notes outcomes (shared_of old false 0) new → IfSome u (λ held. TellsTurns at notes outcomes (shared_of old false 0) new)
-tells_by at notes outcomes old new None e h = tt
-tells_by at notes outcomes old new (Some held) e h = tells at notes outcomes (shared_of old false 0) new held e refl refl h
+    → old.sharing.is_shared ≡ true → HaveTurned at notes outcomes (shared_of old false 0) new
+    → IfSome u (λ held. TellsTurns at notes outcomes (shared_of old false 0) new)
+tells_by at notes outcomes old new None e shared h = tt
+tells_by at notes outcomes old new (Some held) e shared h = tells at notes outcomes (shared_of old false 0) new held e shared refl h
 
-pub tells_told : (at : Setting) (notes : List Note) (outcomes : List Outcome) (old : SpoolState) (new : SharedMailbox)
+pub tells_told : (at : Setting) (notes : List Note) (outcomes : List Outcome) (old : SpoolState) → old.sharing.is_shared ≡ true → (new : SharedMailbox)
     → HaveTurned at notes outcomes (shared_of old false 0) new → IfSome old.bytes (λ held. TellsTurns at notes outcomes (shared_of old false 0) new)
-tells_told at notes outcomes old new h = tells_by at notes outcomes old new old.bytes refl h
+tells_told at notes outcomes old shared new h = tells_by at notes outcomes old new old.bytes refl shared h
 
 -- what a worker counts at a lock
 pub measures : (locked : SpoolState) (limit new : Limit) (held : ℕ) (tail : Tail) → IfSome locked.bytes (λ b. ending_of tail ≡ ending b) → held ≡ counted locked.held
@@ -432,36 +441,8 @@ mended_and_kept s t u text x y = record {
   };
 }
 
-pub mended_and_lost : (s t u : SpoolState) (text : List ℕ) → HasMended s t → HasNotKept t u text → HasNotKeptMended s u text
-mended_and_lost s t u text x y = record {
-  mending = x.text;
-  mends = x.is;
-  broken = record {
-    prefix = x.text ++ y.prefix;
-    rest = y.rest;
-    whole = ap (λ (l : List ℕ). x.text ++ l) y.whole ∙ sym (append_assoc x.text y.prefix y.rest);
-    appended = Appends-then s.bytes t.bytes u.bytes x.text y.prefix x.taken.appended y.appended;
-    failed = let P : ℕ → Type 0 = λ n. Rises n u.failures in subst P x.taken.sound y.failed;
-    limited = y.limited ∙ x.taken.limited;
-    full = y.full;
-    covered = y.covered ∙ x.taken.covered;
-    turn = FailsTurn-then s.sharing t.sharing u.sharing x.taken.turn y.turn;
-  };
-}
+pub mended_and_lost : (s t u : SpoolState) (text : List ℕ) → HasMended s t → SpoolFailed t u text → HasNotKeptMended s u text
+mended_and_lost s t u text x y = record { mending = x.text; mends = x.is; broken = SpoolFailed-later s t u x.text text x.taken y }
 
 pub not_mended : (s t : SpoolState) (text : List ℕ) → HasNotMended s t → HasNotKeptMended s t text
-not_mended s t text x = record {
-  mending = x.text;
-  mends = x.is;
-  broken = record {
-    prefix = x.failed.prefix;
-    rest = x.failed.rest ++ text;
-    whole = ap (λ (l : List ℕ). l ++ text) x.failed.whole ∙ append_assoc x.failed.prefix x.failed.rest text;
-    appended = x.failed.appended;
-    failed = x.failed.failed;
-    limited = x.failed.limited;
-    full = x.failed.full;
-    covered = x.failed.covered;
-    turn = x.failed.turn;
-  };
-}
+not_mended s t text x = record { mending = x.text; mends = x.is; broken = SpoolFailed-first s t x.text text x.failed }

@@ -12,6 +12,7 @@ use Rattle.mail_world.specs.Slips.{slip_of}
 use Rattle.mail_runs.specs.Deeds.{Deed, Took, Told, turns_of}
 use Rattle.mail_runs.specs.Timed.{TimedDeed, whats}
 use Rattle.mbox_record.specs.Mending.{HasNotMended}
+use Rattle.mbox_record.specs.Sharing.{knows_end}
 use Rattle.mbox_record.specs.Spool.{SpoolState}
 use Rattle.mail_post.specs.Channel.{Sender, Inbox, taken, IsTimed, HasSameTimes}
 use Rattle.mail_post.specs.InTime.{Ends, clock_of, AreInTime}
@@ -141,7 +142,7 @@ pub working_none : (at : Setting) (slips : List (Sender Slip)) (inbox : Inbox No
     → (old.sharing.is_shared ≡ false → new.mailbox.faulty ≡ true → HasNotMended old new.mailbox.state)
     → (old.sharing.is_shared ≡ true → new.mailbox ≡ mailbox_of old 0 0 false)
     → (new.mailbox.stored ≡ 0) × (new.mailbox.over ≡ 0) × (new.in_use ≡ 0)
-    → ((start : ℕ) × IfSome at.quota (λ quota. StartsAt old start) × CountsTo at.quota start new.limit)
+    → ((start : ℕ) × (knows_end old.sharing ≡ true → IfSome at.quota (λ quota. StartsAt old start)) × CountsTo at.quota start new.limit)
     → new.mailbox.state.sharing.is_shared ≡ old.sharing.is_shared
     → IsWorking at [] inbox inbox (idle slips old) (record { slips = slips; mailbox = new.mailbox; in_use = new.in_use; taken = 0; lost = any_gone slips })
     new.limit

@@ -12,7 +12,7 @@ use Rattle.mail_world.specs.Records.{Calendar, mailbox}
 use Rattle.mail_world.specs.Endings.{mended}
 use Rattle.mail_world.specs.Prefixes.{IsPrefix}
 use Rattle.mail_world.specs.Deliveries.{IsTorn}
-use Rattle.mbox_record.specs.Spool.{SpoolState, CoversAll, IsFull, FailsTurn}
+use Rattle.mbox_record.specs.Spool.{SpoolState, CoversAll, IsFull, SpoolFailed}
 use Rattle.mbox_record.specs.Mending.{HasNotMended}
 use Rattle.box_worker.specs.declared.limit.Limit.{Limit}
 use Rattle.box_worker.specs.Limits.{Setting, kept_after, StartsAt, IsLetIn, IsKeptOut}
@@ -26,19 +26,8 @@ pub record HasKept (old new : SpoolState) (text : List ℕ) : Type 0 where
   pub covered : CoversAll new.bytes new.synced
   pub turn : new.sharing ≡ record old.sharing { is_unsynced = false }
 
--- the spool failed before a sync covered the text, of which it took a prefix; one with a limit is full
-pub record HasNotKept (old new : SpoolState) (text : List ℕ) : Type 0 where
-  pub prefix : List ℕ
-  pub rest : List ℕ
-  pub whole : text ≡ prefix ++ rest
-  pub appended : Appends old.bytes new.bytes prefix
-  pub failed : Rises old.failures new.failures
-  pub limited : new.limit ≡ old.limit
-  pub full : IsFull new.limit new.bytes
-  pub covered : new.synced ≡ old.synced
-  pub turn : FailsTurn old.sharing new.sharing
-
--- a mailbox: its spool, how many copies were stored and how many were over the quota, and whether the spool failed
+-- A mailbox: its spool, how many copies were stored and how many were over the quota, and whether the spool failed: a
+-- shared one in the last turn that was had.
 pub record MailboxState : Type 0 where
   pub state : SpoolState
   pub stored : ℕ
@@ -60,7 +49,8 @@ IsMeasured size true old new = (new.mailbox ≡ old.mailbox) × IsLetIn old.limi
     × (new.in_use ≡ old.in_use)
 IsMeasured size false old new = (new ≡ old) × IsKeptOut old.limit size
 
--- what a copy with that record makes of a mailbox, by what its lane is told: a mailbox whose spool failed is left alone
+-- What a copy with that record makes of a private mailbox, by what its lane is told: one whose spool failed is left
+-- alone.
 abbrev pub TakesCopy : List ℕ → Outcome → CountedMailbox → CountedMailbox → Type 0
 TakesCopy text Stored old new = (old.mailbox.faulty ≡ false) × IsLetIn old.limit (length text) new.limit
     × HasKept old.mailbox.state new.mailbox.state text
@@ -71,7 +61,7 @@ TakesCopy text OverQuota old new = (old.mailbox.faulty ≡ false) × IsKeptOut o
 TakesCopy text Failed old new = (new.mailbox ≡ mailbox_of new.mailbox.state old.mailbox.stored old.mailbox.over true)
     × (((old.mailbox.faulty ≡ true) × (new.mailbox.state ≡ old.mailbox.state))
     ⊎ ((old.mailbox.faulty ≡ false) × IsLetIn old.limit (length text) new.limit
-    × HasNotKept old.mailbox.state new.mailbox.state text))
+    × SpoolFailed old.mailbox.state new.mailbox.state text))
 TakesCopy text _ old new = ⊥
 
 -- what is counted of a copy by what its lane is told

@@ -1,5 +1,5 @@
 -- A worker at a mailbox that other programs read and empty too: it takes a turn for each copy, from a lock to an
--- unlock.
+-- unlock, whatever became of the turns before.
 use Rattle.std.specs.Prelude.{◌≡◌, ◌⊎◌, ℕ, ◌+◌, Bool, true, false, List, [], ◌∷◌, ◌++◌, length, count_by, Option}
 use Rattle.std.specs.Option.{IfSome}
 use Rattle.mail_world.specs.declared.Note.{Note}
@@ -9,13 +9,14 @@ use Rattle.mail_world.specs.Counts.{counted}
 use Rattle.mail_world.specs.Records.{record_of}
 use Rattle.mail_world.specs.Endings.{mended}
 use Rattle.mail_world.specs.Quotas.{fits}
-use Rattle.mail_world.specs.Turns.{Turn, NotHad, Had, AreTurns}
-use Rattle.mbox_record.specs.Spool.{SpoolState, BeginsTurn, MissesTurn, EndsTurn}
+use Rattle.mail_world.specs.Turns.{Turn, NotHad, Had, HaveTurns, last_broke}
+use Rattle.mbox_record.specs.Sharing.{knows_end}
+use Rattle.mbox_record.specs.Spool.{SpoolState, SpoolFailed, BeginsTurn, MissesTurn, EndsTurn}
 use Rattle.box_worker.specs.declared.limit.Limit.{Limit}
 use Rattle.box_worker.specs.Limits.{Setting, StartsAt, CountsTo}
-use Rattle.box_worker.specs.Stored.{HasKept, HasNotKept, MailboxState, CountedMailbox}
+use Rattle.box_worker.specs.Stored.{HasKept, MailboxState, CountedMailbox}
 
--- a shared spool, whether its worker gave it up, and how many turns were missed
+-- a shared spool, whether the last turn that was had broke, and how many turns were missed
 pub record SharedMailbox : Type 0 where
   pub state : SpoolState
   pub faulty : Bool
@@ -27,14 +28,14 @@ shared_of state faulty in_use = record { state = state; faulty = faulty; in_use 
 -- what mends the spool and the text were appended, and a sync covers all that it holds
 pub record HasKeptMended (old new : SpoolState) (text : List ℕ) : Type 0 where
   pub mending : List ℕ
-  pub mends : IfSome old.bytes (λ held. mending ≡ mended held)
+  pub mends : knows_end old.sharing ≡ true → IfSome old.bytes (λ held. mending ≡ mended held)
   pub kept : HasKept old new (mending ++ text)
 
 -- the spool failed before a sync covered them
 pub record HasNotKeptMended (old new : SpoolState) (text : List ℕ) : Type 0 where
   pub mending : List ℕ
-  pub mends : IfSome old.bytes (λ held. mending ≡ mended held)
-  pub broken : HasNotKept old new (mending ++ text)
+  pub mends : knows_end old.sharing ≡ true → IfSome old.bytes (λ held. mending ≡ mended held)
+  pub broken : SpoolFailed old new (mending ++ text)
 
 -- whether a text of that size fits the quota, after what stands there at the lock and what mends it
 pub record Measures (quota : Option ℕ) (size : ℕ) (locked : SpoolState) (fit : Bool) : Type 0 where
@@ -70,20 +71,16 @@ pub record HadTurn (Does : SpoolState → SpoolState → Type 0) (old new : Spoo
   pub begins : BeginsTurn old locked held
   pub rest : FromLock Does locked new
 
--- the copy's turn was missed, or it broke, and the worker gives the spool up
-abbrev pub FailsInTurn : Option ℕ → List ℕ → SharedMailbox → SharedMailbox → Type 0
-FailsInTurn quota text old new =
-    (MissesTurn old.state new.state × (new ≡ shared_of new.state false (counted (old.in_use + 1))))
-    ⊎ (HadTurn (BreaksTurn quota text) old.state new.state × (new ≡ shared_of new.state true old.in_use))
-
--- A copy with that record, by what its lane is told. A spool that was given up is left alone.
+-- A copy with that record, by what its lane is told. It has a turn, whatever became of those before: one that stores
+-- the record or keeps it out, that is missed, or that breaks.
 abbrev pub TakesTurn : Option ℕ → List ℕ → Outcome → SharedMailbox → SharedMailbox → Type 0
-TakesTurn quota text Stored old new = (old.faulty ≡ false) × HadTurn (StoresInTurn quota text) old.state new.state
+TakesTurn quota text Stored old new = HadTurn (StoresInTurn quota text) old.state new.state
     × (new ≡ shared_of new.state false old.in_use)
-TakesTurn quota text OverQuota old new = (old.faulty ≡ false) × HadTurn (KeepsOutOfTurn quota text) old.state new.state
+TakesTurn quota text OverQuota old new = HadTurn (KeepsOutOfTurn quota text) old.state new.state
     × (new ≡ shared_of new.state false old.in_use)
-TakesTurn quota text Failed old new = ((old.faulty ≡ true) × (new ≡ old))
-    ⊎ ((old.faulty ≡ false) × FailsInTurn quota text old new)
+TakesTurn quota text Failed old new =
+    (MissesTurn old.state new.state × (new ≡ shared_of new.state old.faulty (counted (old.in_use + 1))))
+    ⊎ (HadTurn (BreaksTurn quota text) old.state new.state × (new ≡ shared_of new.state true old.in_use))
 TakesTurn quota text _ old new = ⊥
 
 -- the same for a worker's count under a quota, which is some number of bytes before and after
@@ -130,12 +127,14 @@ abbrev pub is_not_had : Turn → Bool
 is_not_had NotHad = true
 is_not_had (Had lock unlock) = false
 
--- The turns that a spool lists since: they are the copies' own, and those that were missed are counted.
+-- The turns that a spool lists since: each copy has its own, the last that was had says whether the mailbox is faulty,
+-- and those that were missed are counted.
 pub record TellsTurns (at : Setting) (copies : List Note) (outcomes : List Outcome)
     (old new : SharedMailbox) : Type 0 where
   pub turns : List Turn
   pub added : new.state.sharing.turns ≡ old.state.sharing.turns ++ turns
-  pub are : AreTurns at.calendar at.site at.quota copies outcomes turns new.faulty
+  pub are : HaveTurns at.calendar at.site at.quota copies outcomes turns
+  pub broke : new.faulty ≡ last_broke old.faulty outcomes turns
   pub missed : new.in_use ≡ counted (old.in_use + count_by is_not_had turns)
 
 -- What a worker came to at a shared spool.

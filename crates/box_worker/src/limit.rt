@@ -1,7 +1,8 @@
 //! What a worker counts of its mailbox under a quota.
 
-ghost use Rattle.std.specs.Prelude.{◌≡◌, ◌+◌, ◌<◌, ◌^◌, ℕ, SomeIff};
+ghost use Rattle.std.specs.Prelude.{◌≡◌, ◌+◌, ◌<◌, ◌^◌, ℕ, true, SomeIff};
 ghost use Rattle.mail_world.specs.Counts.{counted};
+ghost use Rattle.mbox_record.specs.Sharing.{knows_end};
 ghost use Rattle.box_worker.specs.Limits.{StartsAt, Admits, missing};
 
 use mbox_record::{Spool, Tail, what_mends};
@@ -16,7 +17,7 @@ pub struct Limit {
 impl Limit {
     /// For a spool before it is mended: what mending appends is counted already.
     pub fn of<S: Spool>(spool: &S, quota: u64) -> Limit
-        ensures { (start : ℕ) × StartsAt (S.state spool.now) start
+        ensures { (start : ℕ) × (knows_end (S.state spool.now).sharing ≡ true → StartsAt (S.state spool.now) start)
             × (result ≡ record { quota = quota; held = counted start }) }
     {
         Limit::at(quota, spool.held(), spool.tail())

@@ -5,6 +5,7 @@ ghost use Rattle.std.specs.Option.{IfSome};
 ghost use Rattle.lmtp_text.specs.Calendar.{civil_at};
 ghost use Rattle.mbox_record.specs.Envelope.{record_text};
 ghost use Rattle.mbox_record.specs.Mending.{HasNotMended};
+ghost use Rattle.mbox_record.specs.Sharing.{knows_end};
 ghost use Rattle.mail_world.specs.Counts.{counted};
 ghost use Rattle.mail_world.specs.Site.{Site as SiteView};
 ghost use Rattle.box_worker.specs.Limits.{CountsTo, StartsAt};
@@ -21,7 +22,8 @@ use std::marker::Model;
 use std::sync::Wait;
 
 /// A spool, the number of records that it took and has kept, that of copies over the quota, that of missed turns, and
-/// whether the spool failed. Once it has, it is left alone.
+/// whether the spool failed. A private one that has is left alone. A shared one has a turn for each copy, whatever went
+/// before, and is faulty where the last turn that was had broke.
 #[derive(Drop)]
 pub struct Mailbox<S: Spool> {
     pub spool: S,
@@ -55,8 +57,8 @@ impl<S: Spool> Mailbox<S> {
         ensures left_alone { (S.state spool).sharing.is_shared ≡ true
             → result.mailbox ≡ mailbox_of (S.state spool) 0 0 false }
         ensures none { (result.mailbox.stored ≡ 0) × (result.mailbox.over ≡ 0) × (result.in_use ≡ 0) }
-        ensures counts { (start : ℕ) × IfSome quota (λ q. StartsAt (S.state spool) start)
-            × CountsTo quota start result.limit }
+        ensures counts { (start : ℕ) × (knows_end (S.state spool).sharing ≡ true
+            → IfSome quota (λ q. StartsAt (S.state spool) start)) × CountsTo quota start result.limit }
         ensures whose { result.mailbox.state.sharing.is_shared ≡ (S.state spool).sharing.is_shared }
     {
         let limit = match quota {
@@ -76,7 +78,8 @@ impl<S: Spool> Mailbox<S> {
     }
 
     /// Stores a copy of the held message in a turn of its own, or says that it is over the quota or lost. Where the
-    /// turn is missed nothing is appended, and this copy alone is lost: the next one gets a new try.
+    /// turn is missed nothing is appended. Where it is missed or breaks, this copy alone is lost: the next one has a
+    /// turn again.
     pub fn take<N: DepotName, R: Wait>(
         &mut self,
         rt: &R,
@@ -94,12 +97,13 @@ impl<S: Spool> Mailbox<S> {
             → TurnsCopy (record_text civil_at site.now envelope.now hold.old.bytes) result self.old self.new }
         ensures hold { hold.new ≡ hold.old }
     {
-        if self.faulty {
+        if self.is_given_up() {
             return Outcome::Failed;
         }
         match self.spool.lock() {
             Ok(None) => self.take_alone(rt, depot, site, envelope, hold),
             Ok(Some(held)) => {
+                self.faulty = false;
                 self.measure(held);
                 self.take_in_turn(rt, depot, site, envelope, hold)
             }
@@ -108,6 +112,16 @@ impl<S: Spool> Mailbox<S> {
                 Outcome::Failed
             }
         }
+    }
+
+    // A private spool that failed takes nothing more. A shared one may have healed by its next turn.
+    fn is_given_up(&self) -> bool
+        ensures yes { result ≡ true → (self.now.mailbox.faulty ≡ true)
+            × (self.now.mailbox.state.sharing.is_shared ≡ false) }
+        ensures none { result ≡ false → self.now.mailbox.state.sharing.is_shared ≡ false
+            → self.now.mailbox.faulty ≡ false }
+    {
+        self.faulty && !self.spool.is_shared()
     }
 
     // The same of a private spool, which is nobody else's.
@@ -187,7 +201,8 @@ impl<S: Spool> Mailbox<S> {
     // Counts from what stands in the mailbox at the lock, and what mends it.
     fn measure(&mut self, held: u64)
         ensures same { self.new ≡ record self.old { limit = self.new.limit } }
-        ensures counts { held ≡ counted self.old.mailbox.state.held
+        ensures counts { knows_end self.old.mailbox.state.sharing ≡ true
+            → held ≡ counted self.old.mailbox.state.held
             → IfSome self.old.mailbox.state.bytes (λ bytes. held ≡ counted (length bytes))
             → MeasuresAgain self.old.mailbox.state self.old.limit self.new.limit }
     {

@@ -6,7 +6,7 @@ ghost use Rattle.lmtp_text.specs.Calendar.{civil_at};
 ghost use Rattle.mbox_record.specs.Envelope.{record_text};
 ghost use Rattle.mbox_record.specs.Spool.{SpoolTook, SpoolFailed};
 ghost use Rattle.mbox_record.specs.Writing.{bytes_owed, WritesPiece, FailsPiece};
-ghost use Rattle.box_worker.specs.Stored.{HasKept, HasNotKept};
+ghost use Rattle.box_worker.specs.Stored.{HasKept};
 ghost use Rattle.box_worker.specs.Turned.{HasKeptMended, HasNotKeptMended};
 
 use lmtp_text::Site;
@@ -15,7 +15,8 @@ use mbox_record::{CountSpool, Envelope, RecordWriter, Spool, SpoolFault, mend};
 use msg_depot::{Depot, DepotName, Hold};
 use std::sync::Wait;
 
-/// Appends the record of the held message and has it kept. After a fault the spool holds a prefix of the record.
+/// Appends the record of the held message and has it kept. After a fault a private spool holds a prefix of the record.
+#[tactic(auto, using(crate::proofs::Messages::not_kept))]
 pub(crate) fn store<N: DepotName, S: Spool, R: Wait>(
     rt: &R,
     spool: &mut S,
@@ -26,7 +27,7 @@ pub(crate) fn store<N: DepotName, S: Spool, R: Wait>(
 ) -> Result<(), SpoolFault>
     ensures ok { OnOk result (HasKept (S.state spool.old) (S.state spool.new)
         (record_text civil_at site.now envelope.now hold.old.bytes)) }
-    ensures err { OnErr result (HasNotKept (S.state spool.old) (S.state spool.new)
+    ensures err { OnErr result (SpoolFailed (S.state spool.old) (S.state spool.new)
         (record_text civil_at site.now envelope.now hold.old.bytes)) }
     ensures hold { hold.new ≡ hold.old }
 {
@@ -35,7 +36,7 @@ pub(crate) fn store<N: DepotName, S: Spool, R: Wait>(
 }
 
 /// Appends what mends the spool and then the record of the held message, and has both kept. After a fault the spool
-/// has gained a prefix of them.
+/// has gained a prefix of them at most.
 pub(crate) fn mend_and_store<N: DepotName, S: Spool, R: Wait>(
     rt: &R,
     spool: &mut S,

@@ -24,7 +24,7 @@ use std::sync::Wait;
 /// Stores the copies that come, one after another, and gives each lane a slip for each of its own, until the channel is
 /// closed or lost. Under a quota a copy whose record would bring the mailbox above it isn't stored, and its
 /// lane is told so. At a mailbox that other programs use too each copy has a turn, from a lock to an unlock; one whose
-/// turn is missed is told Failed, and the next gets a new try. It takes no memory.
+/// turn is missed or breaks is told Failed, and the next has a turn again. It takes no memory.
 pub fn worker_run<N: DepotName, S: Spool, G: Gate, R: Wait>(
     rt: &R,
     receiver: Receiver<N>,
