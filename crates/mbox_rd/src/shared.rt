@@ -215,7 +215,6 @@ impl<F: MailboxFile + Drop, C: Clock + Drop> SharedSpool<F, C> {
         ensures began { self.new.began ≡ end.at }
         ensures tail { self.new.tail ≡ end.tail }
     {
-        self.waiting.clear();
         self.began = end.at;
         self.held = end.at;
         self.tail = end.tail;
@@ -388,7 +387,7 @@ impl<F: MailboxFile + Drop, C: Clock + Drop> Spool for SharedSpool<F, C> {
         ensures outside { (⟦<SharedSpool<F, C> as Spool>⟧.state self.old).sharing.is_shared ≡ true
             → (⟦<SharedSpool<F, C> as Spool>⟧.state self.old).sharing.in_turn ≡ false → IsErr result }
     {
-        if self.has_failed || !self.in_turn {
+        if !self.in_turn || self.has_failed {
             return Err(self.fail());
         }
         if self.keep_waiting().is_err() {

@@ -3,8 +3,8 @@ use Rattle.mbox_rd.specs.SharedSpool.{IsInOrder}
 use Rattle.mbox_rd.proofs.Failing.{fails_now, fails_after}
 use Rattle.mbox_rd.proofs.shared.SharedSpoolSpool.sync.Goals as goal
 
-pub returns-then-self-clause-err : goal.returns-then-self-clause-err
-returns-then-self-clause-err g c = fails_now g.F.MailboxFile.state c.args.self.now _ _
+pub returns-then-not-self-clause-err : goal.returns-then-not-self-clause-err
+returns-then-not-self-clause-err g c = fails_now g.F.MailboxFile.state c.args.self.now _ _
     (subst (IsInOrder g.F.MailboxFile.state) c.self.view_is c.self.invariant.2) c.fail.ensures.new c.fail.ensures.counted
 
 pub returns-then-is_err-clause-err : goal.returns-then-is_err-clause-err
