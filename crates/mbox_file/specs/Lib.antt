@@ -2,3 +2,5 @@ pub mod Holder
 pub mod MailboxFile
 pub mod MailboxSource
 pub mod StdFile
+pub mod SystemFile
+pub mod Told

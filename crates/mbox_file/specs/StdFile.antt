@@ -11,8 +11,8 @@ mode_made taken.Anybodys = None
 
 -- the path at which it is opened, by each turn again
 abbrev pub file_path : {R F D : Type 0} → StdMailboxFile R F D → List ℕ
-file_path file = string_bytes file.path
+file_path file = string_bytes file.system.path
 
 -- the permission bits with which it is made where it is missing; none where none is made
 abbrev pub file_mode : {R F D : Type 0} → StdMailboxFile R F D → Option ℕ
-file_mode file = mode_made file.taken
+file_mode file = mode_made file.system.taken

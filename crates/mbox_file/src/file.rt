@@ -1,7 +1,9 @@
 //! A file at a path, opened or made, and where it ends.
-ghost use Rattle.std.specs.Prelude.{◌≡◌, IfOk, length, min};
-ghost use Rattle.mail_world.specs.Endings.{Empty};
+ghost use Rattle.std.specs.Prelude.{◌≡◌, ◌==◌, if◌then◌else◌, IfOk, IfSome, length, min};
+ghost use Rattle.mail_world.specs.Endings.{Empty, OneLf, TwoLf, ending};
+ghost use Rattle.mail_world.specs.Text.{lf};
 ghost use Rattle.mbox_record.specs.Tail.{ending_of};
+ghost use Rattle.mbox_file.specs.Told.{IsEndBy, bytes_ending};
 
 use mail_world::limits::TAIL_SIZE;
 use mbox_record::{Tail, tail_of, tail_of_last};
@@ -77,25 +79,67 @@ pub struct FileEnd {
 pub fn end_of_file<F: Read + Seek>(file: &mut F) -> io::Result<FileEnd>
     ensures empty { IfOk result (λ end. end.at ≡ 0 → ending_of end.tail ≡ Empty) }
 {
-    let at = file.seek(SeekFrom::End(0))?;
-    let mut room = [0; 2];
-    let last = read_last(file, at, &mut room)?;
-    let tail = match last {
-        [] | [.., b'\n'] => tail_of(last),
-        [..] => torn_tail(file, at)?,
-    };
-    Ok(FileEnd { at, tail })
+    let mut few = [0; 2];
+    let mut many = [0; TAIL_SIZE];
+    Ok(read_end(file, &mut few, &mut many)?.0)
 }
 
-// How a file of that size ends whose last line has no LF.
-fn torn_tail<F: Read + Seek>(file: &mut F, at: u64) -> io::Result<Tail> {
-    let mut room = [0; TAIL_SIZE];
-    let last = read_last(file, at, &mut room)?;
-    if at <= TAIL_SIZE as u64 {
-        Ok(tail_of(last))
-    } else {
-        Ok(tail_of_last(last))
+/// Where a file ends, and how, and its last bytes by which that is known.
+pub(crate) fn read_end<'a, F: Read + Seek>(
+    file: &mut F,
+    few: &'a mut [u8; 2],
+    many: &'a mut [u8; TAIL_SIZE],
+) -> io::Result<(FileEnd, &'a [u8])>
+    ensures { IfOk result (λ read. IsEndBy read.1.now read.0) }
+{
+    let at = file.seek(SeekFrom::End(0))?;
+    let last = read_last(file, at, few)?;
+    match tail_of_line(at, last) {
+        Some(tail) => Ok((FileEnd { at, tail }, last)),
+        None => read_torn(file, at, many),
     }
+}
+
+// How a file of that size ends whose last two bytes these are, if its last line has its LF.
+#[tactic(auto, using(crate::proofs::Ends::after_lf))]
+fn tail_of_line(at: u64, last: &[u8]) -> Option<Tail>
+    requires { length last.now ≡ min at 2 }
+    ensures { IfSome result (λ tail. ending_of tail ≡ ending (bytes_ending at last.now)) }
+{
+    match last {
+        [] => Some(Tail::Empty),
+        [byte] if *byte == b'\n' => Some(Tail::OneLf),
+        [before, byte] if *byte == b'\n' => Some(tail_after_lf(*before)),
+        [..] => None,
+    }
+}
+
+// How bytes end whose last one is LF, after that one.
+fn tail_after_lf(before: u8) -> Tail
+    ensures { ending_of result ≡ if before == lf then TwoLf else OneLf }
+{
+    if before == b'\n' {
+        Tail::TwoLf
+    } else {
+        Tail::OneLf
+    }
+}
+
+// The end of a file of that size whose last line has no LF.
+fn read_torn<'a, F: Read + Seek>(
+    file: &mut F,
+    at: u64,
+    many: &'a mut [u8; TAIL_SIZE],
+) -> io::Result<(FileEnd, &'a [u8])>
+    ensures { IfOk result (λ read. IsEndBy read.1.now read.0) }
+{
+    let last = read_last(file, at, many)?;
+    let tail = if at <= TAIL_SIZE as u64 {
+        tail_of(last)
+    } else {
+        tail_of_last(last)
+    };
+    Ok((FileEnd { at, tail }, last))
 }
 
 // The last bytes of a file of that size, as many as there is room for.

@@ -15,6 +15,8 @@ mod plain;
 mod range_lock;
 mod stale;
 mod std_file;
+mod system_file;
+mod told;
 
 pub use file::{FileEnd, OWNER_ONLY, end_of_file, open_or_make, sync_folder};
 pub use file_lock::FileLock;

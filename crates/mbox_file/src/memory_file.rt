@@ -1,5 +1,5 @@
 //! A mailbox's file in memory, which tells all.
-ghost use Rattle.std.specs.Prelude.{◌≡◌, [], true, false, length, IfOk};
+ghost use Rattle.std.specs.Prelude.{◌≡◌, ◌≤◌, [], true, false, length, IfOk};
 
 use crate::file::FileEnd;
 use crate::mailbox_file::MailboxFile;
@@ -16,10 +16,12 @@ pub struct MemoryFile {
     kept: usize,
     has_lock_file: bool,
     has_range_lock: bool,
+    openings: u64,
     changes: u64,
     faults: u64,
     /// How many of its bytes were read.
     read_to: usize,
+    pub ghost covered: { kept ≤ length bytes.items },
 }
 
 impl MemoryFile {
@@ -31,6 +33,7 @@ impl MemoryFile {
           has_lock_file = false;
           has_range_lock = false;
           is_named = true;
+          openings = 0;
           refusals = 0;
           unremoved = 0;
           changes = 0;
@@ -42,6 +45,7 @@ impl MemoryFile {
             kept: old.len(),
             has_lock_file: false,
             has_range_lock: false,
+            openings: 0,
             changes: 0,
             faults: 0,
             read_to: 0,
@@ -50,14 +54,13 @@ impl MemoryFile {
 }
 
 impl MailboxFile for MemoryFile {
-    ghost tells = { true };
-
     ghost state = { λ s. record {
       bytes = s.bytes.items;
       kept = s.kept;
       has_lock_file = s.has_lock_file;
       has_range_lock = s.has_range_lock;
       is_named = true;
+      openings = s.openings;
       refusals = 0;
       unremoved = 0;
       changes = s.changes;
@@ -88,6 +91,7 @@ impl MailboxFile for MemoryFile {
 
     fn reopen(&mut self) -> Result<(), InUse> {
         self.has_range_lock = false;
+        self.openings = self.openings.saturating_add(1);
         Ok(())
     }
 
@@ -122,6 +126,8 @@ impl MailboxFile for MemoryFile {
 
 impl MailboxSource for MemoryFile {
     ghost use Rattle.std.specs.Prelude.{Some, drop};
+
+    ghost is_known = { true };
 
     ghost unread = { λ s. Some (drop s.read_to s.bytes.items) };
 

@@ -1,103 +1,52 @@
-//! The file under a shared spool in the file system, beside its lock file.
+//! The file under a spool in the file system, which tells what it asked of the system and what was answered.
 //!
-//! A lock file is linked from one that is made at the start and stays, `PATH.source.lock`: to make a file and write to
-//! it for each turn takes ten times as long. Where there can be no link it is made.
-ghost use Rattle.std.specs.Prelude.{◌≡◌, None, Some, IfOk};
-ghost use Rattle.std.specs.Io.{ReadsAtMost};
-ghost use Rattle.std.specs.Io.KnownBytes.{ReadConsumes};
-ghost use Rattle.mbox_file.specs.StdFile.{file_mode, file_path, mode_made};
+//! Each call of the system and what is told of it stand side by side here, and nowhere else is anything told.
+ghost use Rattle.std.specs.Prelude.{◌≡◌, None, Some, IfOk, OnOk, OnErr};
+ghost use Rattle.mbox_file.specs.StdFile.{file_mode, file_path};
 
-use crate::file::{FileEnd, end_of_file, sync_folder};
+use crate::file::FileEnd;
 use crate::mailbox_file::MailboxFile;
 use crate::mailbox_source::MailboxSource;
-use crate::plain::{
-    Node, OpenNode, Taken, error_of, is_same, node_of, open_plain, remove_node, remove_open,
-    system_fault,
-};
-use crate::range_lock::{LockKind, RangeLock};
-use crate::stale::{is_stale, owner_text};
+use crate::plain::{Taken, error_of, system_fault};
+use crate::range_lock::RangeLock;
+use crate::system_file::SystemFile;
+use crate::told::{Step, Told};
+use mail_world::limits::TAIL_SIZE;
 use mbox_record::InUse;
 use std::alloc::{AllocError, Global};
-use std::fs::{FileTimes, Files, Metadata, OpenFile, OpenOptions};
-use std::io::{ErrorKind, Read, Seek, SeekFrom, Write};
-use std::os::unix::fs::{MetadataExt, OpenOptionsExt};
-use std::time::{Clock, SystemTime};
-use std::{fs, io};
+use std::fs::Files;
+use std::io;
+use std::time::Clock;
 
-/// Others read in a lock file whose it is, where the umask lets them; the service's doesn't, and they go by its age.
-const LOCK_MODE: u32 = 0o644;
-
-/// A mailbox's file that is open, or that could not be opened yet, and its lock file `PATH.lock`. It tells contracts
-/// nothing.
-pub struct StdMailboxFile<R: Files + Clock + Drop> {
-    rt: R,
-    path: String,
-    taken: Taken,
-    open: Option<OpenNode<R::File>>,
-    // the folder was synced since this file is the open one
-    is_folder_synced: bool,
-    lock_path: String,
-    owner: String,
-    source_path: String,
-    source: Option<OpenNode<R::File>>,
-    lock_file: Held<R::File>,
-}
-
-/// What the lock files were linked from goes with it.
-impl<R: Files + Clock + Drop> Drop for StdMailboxFile<R> {
-    fn drop(self) {
-        let StdMailboxFile {
-            rt,
-            path: _,
-            taken: _,
-            open: _,
-            is_folder_synced: _,
-            lock_path: _,
-            owner: _,
-            source_path,
-            source,
-            lock_file: _,
-        } = self;
-        if let Some(source) = source {
-            let _ = remove_node(&rt, source_path.as_str(), source.node);
-        }
-    }
-}
-
-// Its own lock file.
+/// A mailbox's file that is open, or that could not be opened yet, and its lock file `PATH.lock`.
 #[derive(Drop)]
-enum Held<F: Drop> {
-    No,
-    /// It is another name of the source.
-    Linked(Node),
-    Made(OpenNode<F>),
-}
-
-impl<F: Drop> Held<F> {
-    fn node(&self) -> Option<Node> {
-        match self {
-            Held::No => None,
-            Held::Linked(node) => Some(*node),
-            Held::Made(own) => Some(own.node),
-        }
-    }
+pub struct StdMailboxFile<R: Files + Clock + Drop> {
+    system: SystemFile<R>,
+    told: Told,
 }
 
 impl<R: Files + Clock + Drop> StdMailboxFile<R>
 where
     R::File: RangeLock,
 {
+    ghost use Rattle.mbox_file.specs.declared.told.Step.TheVariants.{LockFileRemoved, LockFileStays};
+    ghost use Rattle.mbox_file.specs.Told.{after, at_start};
+
     /// Opens the plain file at that path. Where it is missing it is made with these permission bits. Neither lock is
     /// held, and a lock file that was left behind is gone. An error says why it can't be used, of
     /// `ErrorKind::OutOfMemory` where memory is lacking.
     pub fn open(rt: R, alloc: Global, path: &str, mode: u32) -> io::Result<StdMailboxFile<R>>
         ensures path { IfOk result (λ file. file_path file ≡ path.now) }
         ensures mode { IfOk result (λ file. file_mode file ≡ Some mode) }
+        ensures state { IfOk result (λ file. ⟦<StdMailboxFile<R> as MailboxFile>⟧.state file ≡ at_start) }
     {
-        let mut file = StdMailboxFile::unopened(rt, alloc, path, mode)?;
-        file.open_named().map_err(error_of)?;
-        let _ = file.remove_stale();
-        Ok(file)
+        let mut system = SystemFile::new(rt, alloc, path, Taken::Own(mode))?;
+        system.open_named().map_err(error_of)?;
+        let _ = system.remove_stale();
+        Ok(StdMailboxFile {
+            system,
+            told: Told::new(),
+        })
     }
 
     /// Opens the plain file at that path, whosever it is and for root too, and makes none. Neither lock is held. Its lock
@@ -105,10 +54,14 @@ where
     pub fn existing(rt: R, alloc: Global, path: &str) -> io::Result<StdMailboxFile<R>>
         ensures path { IfOk result (λ file. file_path file ≡ path.now) }
         ensures mode { IfOk result (λ file. file_mode file ≡ None) }
+        ensures state { IfOk result (λ file. ⟦<StdMailboxFile<R> as MailboxFile>⟧.state file ≡ at_start) }
     {
-        let mut file = StdMailboxFile::taking(rt, alloc, path, Taken::Anybodys)?;
-        file.open_named().map_err(error_of)?;
-        Ok(file)
+        let mut system = SystemFile::new(rt, alloc, path, Taken::Anybodys)?;
+        system.open_named().map_err(error_of)?;
+        Ok(StdMailboxFile {
+            system,
+            told: Told::new(),
+        })
     }
 
     /// The file at that path, of which nothing is touched before the first turn: each turn tries to open it, as `open`
@@ -121,267 +74,29 @@ where
     ) -> Result<StdMailboxFile<R>, AllocError>
         ensures path { IfOk result (λ file. file_path file ≡ path.now) }
         ensures mode { IfOk result (λ file. file_mode file ≡ Some mode) }
-    {
-        StdMailboxFile::taking(rt, alloc, path, Taken::Own(mode))
-    }
-
-    fn taking(
-        rt: R,
-        alloc: Global,
-        path: &str,
-        taken: Taken,
-    ) -> Result<StdMailboxFile<R>, AllocError>
-        ensures path { IfOk result (λ file. file_path file ≡ path.now) }
-        ensures mode { IfOk result (λ file. file_mode file ≡ mode_made taken) }
+        ensures state { IfOk result (λ file. ⟦<StdMailboxFile<R> as MailboxFile>⟧.state file ≡ at_start) }
     {
         Ok(StdMailboxFile {
-            path: format!(in alloc; "{path}")?,
-            taken,
-            open: None,
-            is_folder_synced: false,
-            lock_path: format!(in alloc; "{path}.lock")?,
-            owner: owner_text(alloc)?,
-            source_path: format!(in alloc; "{path}.source.lock")?,
-            source: None,
-            lock_file: Held::No,
-            rt,
+            system: SystemFile::new(rt, alloc, path, Taken::Own(mode))?,
+            told: Told::new(),
         })
     }
 
-    fn open_node(&self) -> Option<Node> {
-        match &self.open {
-            Some(open) => Some(open.node),
-            None => None,
-        }
-    }
-
-    // The open file. No call asks for it before one was opened.
-    fn opened(&mut self) -> io::Result<&mut R::File> {
-        match &mut self.open {
-            Some(open) => Ok(&mut open.file),
-            None => Err(io::Error::from_raw_os_error(libc::EBADF)),
-        }
-    }
-
-    // Whether lock files are linked from one that stays.
-    fn has_source(&self) -> bool {
-        matches!(self.taken, Taken::Own(_))
-    }
-
-    // Makes the file that lock files are linked from. One that was left behind goes; where a server has one there is
-    // none for this one.
-    fn make_source(&self) -> io::Result<OpenNode<R::File>> {
-        match fs::symlink_metadata(&self.rt, self.source_path.as_str()) {
-            Ok(found) if self.is_left(self.source_path.as_str(), &found) => {
-                remove_node(&self.rt, self.source_path.as_str(), node_of(&found))?;
-            }
-            _ => {}
-        }
-        self.make_file(self.source_path.as_str())
-    }
-
-    fn is_left(&self, path: &str, found: &Metadata) -> bool {
-        is_stale(&self.rt, path, found, self.owner.as_str())
-    }
-
-    // Makes a file that says whose it is. Where that can't be written there is none afterwards.
-    fn make_file(&self, path: &str) -> io::Result<OpenNode<R::File>> {
-        let mut file = OpenOptions::new()
-            .write(true)
-            .create_new(true)
-            .mode(LOCK_MODE)
-            .open(&self.rt, path)?;
-        let made = match file.metadata() {
-            Ok(metadata) => match file.write_all(self.owner.as_bytes()) {
-                Ok(()) => Ok(node_of(&metadata)),
-                Err(error) => Err(error),
-            },
-            Err(error) => Err(error),
-        };
-        match made {
-            Ok(node) => Ok(OpenNode { file, node }),
-            Err(error) => {
-                remove_open(&self.rt, path, &file);
-                Err(error)
-            }
-        }
-    }
-
-    // Links the lock file from the source, with the time of now, by which others judge whether it is left behind. None:
-    // there is no source, or no link is possible.
-    fn link_lock_file(&mut self) -> Option<bool> {
-        let source = self.source.as_ref()?;
-        let now = SystemTime::now(&self.rt).ok()?;
-        let times = FileTimes::new().set_modified(now);
-        source.file.set_times(times).ok()?;
-        match fs::hard_link(&self.rt, self.source_path.as_str(), self.lock_path.as_str()) {
-            Ok(()) if has_two_names(&source.file) => {
-                self.lock_file = Held::Linked(source.node);
-                Some(true)
-            }
+    // Removes the lock file, if it is its own.
+    fn remove_own(&mut self) -> Result<(), InUse>
+        ensures ok { OnOk result (self.new.told.state ≡ after self.old.told.state LockFileRemoved) }
+        ensures err { OnErr result (self.new.told.state ≡ after self.old.told.state LockFileStays) }
+    {
+        match self.system.remove_own() {
             Ok(()) => {
-                // another server's source stands in the place of this one's
-                let _ = self.remove_link();
-                None
+                self.told.add(Step::LockFileRemoved);
+                Ok(())
             }
-            Err(error) if error.kind() == ErrorKind::AlreadyExists => Some(false),
-            Err(_) => None,
-        }
-    }
-
-    // Removes the lock file where it is still what it was linked from: what the path of the source names.
-    fn remove_link(&self) -> io::Result<()> {
-        let linked = fs::symlink_metadata(&self.rt, self.source_path.as_str())?;
-        remove_node(&self.rt, self.lock_path.as_str(), node_of(&linked))
-    }
-
-    // Makes the lock file, unless there is one.
-    fn make_lock_file(&mut self) -> Result<bool, InUse> {
-        if let Some(is_linked) = self.link_lock_file() {
-            return Ok(is_linked);
-        }
-        self.source = None;
-        match self.make_file(self.lock_path.as_str()) {
-            Ok(made) => {
-                self.lock_file = Held::Made(made);
-                Ok(true)
+            Err(error) => {
+                self.told.add(Step::LockFileStays);
+                Err(system_fault(error))
             }
-            Err(error) if error.kind() == ErrorKind::AlreadyExists => Ok(false),
-            Err(error) => Err(system_fault(error)),
         }
-    }
-
-    // Whether the lock file is still its own.
-    fn owns_lock_file(&self) -> io::Result<bool> {
-        match fs::symlink_metadata(&self.rt, self.lock_path.as_str()) {
-            Ok(found) => Ok(Some(node_of(&found)) == self.lock_file.node()),
-            Err(error) if error.kind() == ErrorKind::NotFound => Ok(false),
-            Err(error) => Err(error),
-        }
-    }
-
-    // Removes the lock file, if one was made and it is still that one. Where that fails it is tried again later.
-    fn remove_own(&mut self) -> io::Result<()> {
-        if let Some(node) = self.lock_file.node() {
-            remove_node(&self.rt, self.lock_path.as_str(), node)?;
-            self.lock_file = Held::No;
-        }
-        Ok(())
-    }
-
-    // Sets the time of the lock file that is its own to now.
-    fn set_lock_time(&self) -> io::Result<()> {
-        let now = SystemTime::now(&self.rt)?;
-        let times = FileTimes::new().set_modified(now);
-        match (&self.lock_file, &self.source) {
-            (Held::Made(own), _) => own.file.set_times(times),
-            (Held::Linked(_), Some(source)) => source.file.set_times(times),
-            _ => Err(io::Error::from_raw_os_error(libc::EBADF)),
-        }
-    }
-
-    // Has the folder keep its entry for the open file through a crash. It need not be done again for that file, nor for
-    // one that is only read.
-    fn sync_folder(&mut self) -> io::Result<()> {
-        if !self.is_folder_synced && matches!(self.taken, Taken::Own(_)) {
-            sync_folder(&self.rt, self.path.as_str())?;
-            self.is_folder_synced = true;
-        }
-        Ok(())
-    }
-
-    // Whether the path names the open file.
-    fn names_open(&self) -> Result<bool, InUse> {
-        match fs::symlink_metadata(&self.rt, self.path.as_str()) {
-            Ok(found) if !self.taken.is_plain(&found) => Err(InUse::NotPlain),
-            Ok(found) => Ok(Some(node_of(&found)) == self.open_node()),
-            Err(error) if error.kind() == ErrorKind::NotFound => Ok(false),
-            Err(error) => Err(system_fault(error)),
-        }
-    }
-
-    // Opens the file that the path names.
-    fn open_named(&mut self) -> Result<(), InUse>
-        ensures path { file_path self.new ≡ file_path self.old }
-        ensures mode { file_mode self.new ≡ file_mode self.old }
-    {
-        let named = open_plain(&self.rt, self.path.as_str(), self.taken)?;
-        // it is compared while both are open, since a closed file's number may be given again
-        let is_same = self.open_node() == Some(named.node);
-        let is_first = self.open.is_none();
-        self.is_folder_synced = self.is_folder_synced && is_same;
-        self.open = Some(named);
-        if is_first && self.has_source() {
-            self.source = self.make_source().ok();
-        }
-        Ok(())
-    }
-
-    fn lock_open(&self) -> Result<(), InUse> {
-        let Some(open) = &self.open else {
-            // a look at what the path names is next, which opens it
-            return Ok(());
-        };
-        match open.file.try_lock_bytes(LockKind::Exclusive) {
-            Ok(()) => Ok(()),
-            Err(error) if error.kind() == ErrorKind::WouldBlock => Err(InUse::Locked),
-            Err(error) => Err(system_fault(error)),
-        }
-    }
-
-    fn unlock_open(&self) {
-        if let Some(open) = &self.open {
-            let _ = open.file.unlock_bytes();
-        }
-    }
-
-    // Removes a lock file that was left behind. True: there is none now.
-    fn remove_stale(&mut self) -> Result<bool, InUse>
-        ensures path { file_path self.new ≡ file_path self.old }
-        ensures mode { file_mode self.new ≡ file_mode self.old }
-    {
-        let found = match fs::symlink_metadata(&self.rt, self.lock_path.as_str()) {
-            Ok(found) => found,
-            Err(error) if error.kind() == ErrorKind::NotFound => return Ok(true),
-            Err(error) => return Err(system_fault(error)),
-        };
-        if !self.is_left(self.lock_path.as_str(), &found) {
-            return Ok(false);
-        }
-        if !self.names_open()? {
-            self.open_named()?;
-        }
-        self.lock_open()?;
-        let removed = self.remove_same(&found);
-        self.unlock_open();
-        removed
-    }
-
-    // Under the lock on the bytes of the file that the path names nobody else removes what was left behind, and what
-    // was found is looked at again.
-    fn remove_same(&self, found: &Metadata) -> Result<bool, InUse> {
-        if !self.names_open()? {
-            return Ok(false);
-        }
-        let removed = match fs::symlink_metadata(&self.rt, self.lock_path.as_str()) {
-            Ok(again) if is_same(&again, found) => {
-                fs::remove_file(&self.rt, self.lock_path.as_str())
-            }
-            Ok(_) => return Ok(false),
-            Err(error) => Err(error),
-        };
-        match removed {
-            Ok(()) => Ok(true),
-            Err(error) if error.kind() == ErrorKind::NotFound => Ok(true),
-            Err(error) => Err(system_fault(error)),
-        }
-    }
-}
-
-fn has_two_names<F: OpenFile>(file: &F) -> bool {
-    match file.metadata() {
-        Ok(metadata) => metadata.nlink() == 2,
-        Err(_) => false,
     }
 }
 
@@ -389,19 +104,22 @@ impl<R: Files + Clock + Drop> MailboxFile for StdMailboxFile<R>
 where
     R::File: RangeLock,
 {
-    ghost use Rattle.std.specs.Prelude.{false};
-    ghost use Rattle.mbox_file.specs.MailboxFile.{untold};
-
-    ghost tells = { false };
-
-    ghost state = { λ _. untold };
+    ghost state = { λ s. s.told.state };
 
     fn try_lock_file(&mut self) -> Result<(), InUse> {
-        self.remove_own().map_err(system_fault)?;
-        if self.make_lock_file()? || self.remove_stale()? && self.make_lock_file()? {
-            Ok(())
-        } else {
-            Err(InUse::Locked)
+        if let Err(in_use) = self.remove_own() {
+            self.told.add(Step::Refused);
+            return Err(in_use);
+        }
+        match self.system.make_lock_file() {
+            Ok(()) => {
+                self.told.add(Step::LockFileMade);
+                Ok(())
+            }
+            Err(in_use) => {
+                self.told.add(Step::Refused);
+                Err(in_use)
+            }
         }
     }
 
@@ -410,42 +128,109 @@ where
     }
 
     fn try_range_lock(&mut self) -> Result<(), InUse> {
-        self.lock_open()
+        match self.system.lock_open() {
+            Ok(()) => {
+                self.told.add(Step::RangeLocked);
+                Ok(())
+            }
+            Err(in_use) => {
+                self.told.add(Step::RangeRefused);
+                Err(in_use)
+            }
+        }
     }
 
     fn unlock_range(&mut self) {
-        self.unlock_open();
+        self.system.unlock_open();
+        self.told.add(Step::RangeUnlocked);
     }
 
     fn is_named(&mut self) -> Result<bool, InUse> {
-        self.names_open()
+        match self.system.names_open() {
+            Ok(true) => {
+                self.told.add(Step::Named);
+                Ok(true)
+            }
+            Ok(false) => {
+                self.told.add(Step::Refused);
+                Ok(false)
+            }
+            Err(in_use) => {
+                self.told.add(Step::Refused);
+                Err(in_use)
+            }
+        }
     }
 
     fn reopen(&mut self) -> Result<(), InUse> {
-        self.open_named()
+        match self.system.open_named() {
+            Ok(()) => {
+                self.told.add(Step::Reopened);
+                Ok(())
+            }
+            Err(in_use) => {
+                self.told.add(Step::Refused);
+                Err(in_use)
+            }
+        }
     }
 
     /// Of a file whose entry the folder keeps through a crash.
     fn end(&mut self) -> Result<FileEnd, InUse> {
-        self.sync_folder().map_err(system_fault)?;
-        let file = self.opened().map_err(system_fault)?;
-        end_of_file(file).map_err(system_fault)
+        let mut few = [0; 2];
+        let mut many = [0; TAIL_SIZE];
+        match self.system.read_end(&mut few, &mut many) {
+            Ok((end, last)) => {
+                self.told.add(Step::Measured(end.at, last));
+                Ok(end)
+            }
+            Err(error) => {
+                self.told.add(Step::Refused);
+                Err(system_fault(error))
+            }
+        }
     }
 
+    /// A write that a signal interrupted is made again.
+    #[tactic(auto, using(crate::proofs::Written::part_of))]
     fn write(&mut self, bytes: &[u8]) -> io::Result<()> {
-        self.opened()?.write_all(bytes)
+        match self.system.write(bytes) {
+            (_, Ok(())) => {
+                self.told.add(Step::Wrote(bytes));
+                Ok(())
+            }
+            (count, Err(error)) => {
+                self.told.add(Step::WroteInPart(&bytes[..count]));
+                Err(error)
+            }
+        }
     }
 
     fn keep(&mut self) -> io::Result<()> {
-        self.opened()?.sync_data()
+        match self.system.sync() {
+            Ok(()) => {
+                self.told.add(Step::Kept);
+                Ok(())
+            }
+            Err(error) => {
+                self.told.add(Step::NotKept);
+                Err(error)
+            }
+        }
     }
 
     /// Only while the lock file is its own: another program that took it for left behind may have written since.
     fn cut(&mut self, size: u64) -> io::Result<()> {
-        if !self.owns_lock_file()? {
-            return Err(io::Error::from(ErrorKind::ResourceBusy));
+        match self.system.cut(size) {
+            Ok(()) => {
+                self.told.add(Step::Cut(size));
+                Ok(())
+            }
+            Err(error) => {
+                self.told.add(Step::NotCut);
+                Err(error)
+            }
         }
-        self.opened()?.set_len(size)
     }
 }
 
@@ -453,43 +238,27 @@ impl<R: Files + Clock + Drop> MailboxSource for StdMailboxFile<R>
 where
     R::File: RangeLock,
 {
-    ghost use Rattle.mbox_file.specs.MailboxSource.{unread_of};
+    ghost use Rattle.std.specs.Prelude.{false};
+    ghost use Rattle.mbox_file.specs.SystemFile.{known_of};
 
-    ghost unread = { λ s. unread_of R.File.remaining s.open };
+    ghost is_known = { false };
+
+    ghost unread = { λ s. known_of R.File.remaining s.system.open };
 
     fn rewind(&mut self) -> io::Result<()> {
-        self.opened()?.seek(SeekFrom::Start(0))?;
-        Ok(())
+        self.system.rewind()
     }
 
     /// A read that a signal interrupted is made again.
     fn read(&mut self, buffer: &mut [u8]) -> io::Result<usize> {
-        match &mut self.open {
-            Some(open) => read_some(&mut open.file, buffer),
-            None => Err(io::Error::from_raw_os_error(libc::EBADF)),
-        }
+        self.system.read(buffer)
     }
 
     fn renew_lock_file(&mut self) -> Result<(), InUse> {
-        self.set_lock_time().map_err(system_fault)?;
-        if !self.owns_lock_file().map_err(system_fault)? {
-            return Err(InUse::Locked);
+        if let Err(in_use) = self.system.renew_lock_file() {
+            self.told.add(Step::Refused);
+            return Err(in_use);
         }
         Ok(())
     }
-}
-
-// One read, made again where a signal interrupted it.
-fn read_some<F: Read>(file: &mut F, buffer: &mut [u8]) -> io::Result<usize>
-    ensures bound { ReadsAtMost result buffer.new }
-    ensures bytes { ReadConsumes (F.remaining file.old) (F.remaining file.new) result buffer.new }
-{
-    for _ in 0..u64::MAX {
-        match file.read(buffer) {
-            Ok(size) => return Ok(size),
-            Err(error) if error.kind() == ErrorKind::Interrupted => {}
-            Err(error) => return Err(error),
-        }
-    }
-    Err(io::Error::from(ErrorKind::Interrupted))
 }
