@@ -1,2 +1,4 @@
 pub mod Trying
 pub mod Tails
+pub mod Left
+pub mod Failing

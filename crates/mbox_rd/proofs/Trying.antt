@@ -13,13 +13,14 @@ no_fewer : (u v : ℕ) → Rises u v → u ≤ v
 no_fewer u v x = grind arith
 
 pub between-start : (s : FileState) → IsBetweenTries s s
-between-start s = record { range_lock = λ h. h; unremoved = omega arith; refusals = omega arith; unchanged = refl; sound = refl }
+between-start s = record { range_lock = λ h. h; unremoved = omega arith; refusals = omega arith; openings = omega arith; unchanged = refl; sound = refl }
 
 pub between-missed : (s t u : FileState) → IsBetweenTries s t → HasMissed t u → IsBetweenTries s u
 between-missed s t u x y = record {
   range_lock = λ h. y.range_lock (x.range_lock h);
   unremoved = omega (arith, x.unremoved, y.free.no_fewer);
   refusals = omega (arith, x.refusals, no_fewer t.refusals u.refusals y.refused);
+  openings = omega (arith, x.openings, y.openings);
   unchanged = y.unchanged ∙ x.unchanged;
   sound = y.sound ∙ x.sound;
 }
@@ -30,6 +31,8 @@ begun-then s t u end x y = record {
   range_lock = y.range_lock;
   named = y.named;
   is_end = y.is_end;
+  covered = y.covered;
+  openings = omega (arith, x.openings, y.openings);
   unchanged = y.unchanged ∙ x.unchanged;
   sound = y.sound ∙ x.sound;
 }
@@ -48,6 +51,7 @@ missed-then s t u x y = record {
   range_lock = λ h. y.range_lock (x.range_lock h);
   free = free-then s t u x.unremoved y.free;
   refused = Rises-from s.refusals t.refusals u.refusals x.refusals y.refused;
+  openings = omega (arith, x.openings, y.openings);
   unchanged = y.unchanged ∙ x.unchanged;
   sound = y.sound ∙ x.sound;
 }

@@ -1,4 +1,5 @@
 pub mod FileSpool
 pub mod Turn
+pub mod TurnLog
 pub mod SharedSpool
 pub mod Patience

@@ -1,13 +1,17 @@
 -- What contracts see of a spool over a file that other programs use too.
-use Rattle.std.specs.Prelude.{◌≡◌, ℕ, ◌+◌, ◌-◌, ◌≤◌, ◌^◌, min, ◌||◌, Bool, true, false, List, [], ◌++◌, length}
+use Rattle.std.specs.Prelude.{◌≡◌, ℕ, ◌+◌, ◌-◌, ◌≤◌, ◌^◌, min, ◌||◌, Bool, true, false, List, [], ◌++◌, length, take}
+use Rattle.std.specs.Prelude.{Option, Some, None}
 use Rattle.mail_world.specs.Counts.{counted}
 use Rattle.mail_world.specs.Failures.{Rises}
 use Rattle.mail_world.specs.Prefixes.{IsPrefix}
+use Rattle.mail_world.specs.Turns.{Standing}
+use Rattle.mbox_record.specs.Spool.{SpoolState}
 use Rattle.mbox_record.specs.declared.tail.Tail.{Tail}
-use Rattle.mbox_file.specs.MailboxFile.{FileState, LeavesNoLockFile}
+use Rattle.mbox_file.specs.MailboxFile.{FileState, LeavesNoLockFile, IsHeld}
 use Rattle.mail_world.specs.Endings.{ending}
 use Rattle.mbox_record.specs.Tail.{ending_of}
 use Rattle.mbox_rd.specs.Turn.{IsCutBack}
+use Rattle.mbox_rd.specs.TurnLog.{TurnLog, no_turns, standing_of, begun_at, missed, ended_at}
 
 pub record SharedSpool (F : Type 0) : Type 0 where
   pub file : F
@@ -15,38 +19,78 @@ pub record SharedSpool (F : Type 0) : Type 0 where
   pub wait : ℕ
   -- the bytes that were taken and aren't written yet
   pub waiting : List ℕ
-  -- a call failed, and nothing more goes to the file
-  pub is_broken : Bool
-  -- it is in a turn, and in this turn a call failed
+  -- it is in a turn
   pub in_turn : Bool
+  -- a call failed in this turn, or, outside of turns, in the last one that was had
   pub has_failed : Bool
   -- an append stands after the last good sync
   pub is_unsynced : Bool
   -- how long the file was as the turn began
   pub began : ℕ
-  -- how the file ended then, with what was written since
+  -- how the file ended then, with what was written since, as long as no call failed
   pub tail : Tail
   -- how long it was, and the bytes taken since; it stays at 2^64 - 1
   pub held : ℕ
   pub failures : ℕ
   -- how many turns were missed
   pub refusals : ℕ
+  -- how the spool stood at this turn's lock, and the turns that are over
+  pub log : TurnLog
 
 -- the file's bytes and then what waits
 abbrev pub contents_of : {F : Type 0} → (F → FileState) → SharedSpool F → List ℕ
 contents_of state spool = (state spool.file).bytes ++ spool.waiting
 
+-- what contracts see of it as a spool
+abbrev pub state_of : {F : Type 0} → (F → FileState) → SharedSpool F → SpoolState
+state_of state spool = record {
+  bytes = Some (contents_of state spool);
+  failures = spool.failures;
+  limit = None;
+  synced = (state spool.file).kept;
+  held = spool.held;
+  sharing = record {
+    is_shared = true;
+    in_turn = spool.in_turn;
+    has_failed = spool.has_failed;
+    is_unsynced = spool.is_unsynced;
+    refusals = spool.refusals;
+    began = spool.log.began;
+    turns = spool.log.turns;
+  };
+}
+
 -- it knows how the file ends
 abbrev pub KnowsEnd : {F : Type 0} → (F → FileState) → SharedSpool F → Type 0
 KnowsEnd state spool = ending_of spool.tail ≡ ending (state spool.file).bytes
 
+-- it knows the length of what stood at the lock, and that still begins the file
+pub record BeginsWith (lock : Standing) (began : ℕ) (bytes : List ℕ) : Type 0 where
+  pub size : began ≡ length lock.bytes
+  pub still : take began bytes ≡ lock.bytes
+
+abbrev pub StandsOn : Option Standing → ℕ → List ℕ → Type 0
+StandsOn None began bytes = ⊥
+StandsOn (Some lock) began bytes = BeginsWith lock began bytes
+
+-- What holds of it between two calls: outside a turn nothing waits, nor after a good sync; in a turn both locks are held and
+-- the file still begins with what stood there at the lock; and as long as no call failed in it, the end is known.
+pub record IsInOrder {F : Type 0} (state : F → FileState) (spool : SharedSpool F) : Type 0 where
+  pub free : spool.in_turn ≡ false → (spool.waiting ≡ []) × (spool.log.began ≡ None)
+  pub synced : spool.is_unsynced ≡ false → spool.waiting ≡ []
+  pub held : spool.in_turn ≡ true → IsHeld (state spool.file)
+  pub stands : spool.in_turn ≡ true → StandsOn spool.log.began spool.began (state spool.file).bytes
+  pub count : spool.in_turn ≡ true → spool.has_failed ≡ false → spool.held ≡ counted (length (contents_of state spool))
+  pub ends : spool.in_turn ≡ true → spool.has_failed ≡ false → KnowsEnd state spool
+
 -- just opened: nothing waits, nothing failed, and it is in no turn
 pub record IsOpened {F : Type 0} (spool : SharedSpool F) : Type 0 where
   pub empty : spool.waiting ≡ []
-  pub sound : spool.is_broken ≡ false
+  pub sound : spool.has_failed ≡ false
   pub free : spool.in_turn ≡ false
   pub failures : spool.failures ≡ 0
   pub refusals : spool.refusals ≡ 0
+  pub turns : spool.log ≡ no_turns
 
 -- A turn began: both locks are on the file that the path names, and its length and end are those that it has now.
 -- Nothing was written, and nothing waits.
@@ -54,7 +98,7 @@ pub record HasTurn {F : Type 0} (state : F → FileState) (old new : SharedSpool
   pub lock_file : (state new.file).has_lock_file ≡ true
   pub range_lock : (state new.file).has_range_lock ≡ true
   pub named : (state new.file).is_named ≡ true
-  pub began : new.began ≡ counted (length (state new.file).bytes)
+  pub began : new.began ≡ length (state new.file).bytes
   pub tail : ending_of new.tail ≡ ending (state new.file).bytes
   pub unchanged : (state new.file).changes ≡ (state old.file).changes
 
@@ -66,8 +110,8 @@ pub record HasNoTurn {F : Type 0} (state : F → FileState) (old new : SharedSpo
   pub refused : Rises (state old.file).refusals (state new.file).refusals
   pub unchanged : (state new.file).changes ≡ (state old.file).changes
 
--- what a turn is to the fields: nothing waits, and its bytes are counted from the file's length
-pub record StartsTurn {F : Type 0} (old new : SharedSpool F) : Type 0 where
+-- What a turn is to the fields: nothing waits, no call failed in it yet, and its bytes are counted from the file's length.
+pub record StartsTurn {F : Type 0} (state : F → FileState) (old new : SharedSpool F) : Type 0 where
   pub was_free : old.in_turn ≡ false
   pub same : new ≡ record old {
     file = new.file;
@@ -78,11 +122,16 @@ pub record StartsTurn {F : Type 0} (old new : SharedSpool F) : Type 0 where
     began = new.began;
     tail = new.tail;
     held = new.began;
+    log = begun_at old.log (standing_of (state new.file) old.failures);
   }
 
 -- a missed turn is counted, and else only the file may have changed
 abbrev pub CountsRefusal : {F : Type 0} → SharedSpool F → SharedSpool F → Type 0
-CountsRefusal old new = new ≡ record old { file = new.file; refusals = counted (old.refusals + 1) }
+CountsRefusal old new = new ≡ record old {
+  file = new.file;
+  refusals = counted (old.refusals + 1);
+  log = missed old.log;
+}
 
 -- A turn is over: both locks were given back, but the lock file where it couldn't be removed. The bytes stay, or,
 -- where a call failed in this turn, they are cut back.
@@ -94,8 +143,13 @@ pub record HasEnded {F : Type 0} (state : F → FileState) (old new : SharedSpoo
   pub is_cut : old.has_failed ≡ true → IsCutBack (state old.file) (state new.file) old.began
 
 -- what the end of a turn is to the fields
-abbrev pub StopsTurn : {F : Type 0} → SharedSpool F → SharedSpool F → Type 0
-StopsTurn old new = new ≡ record old { file = new.file; waiting = []; in_turn = false }
+abbrev pub StopsTurn : {F : Type 0} → (F → FileState) → SharedSpool F → SharedSpool F → Type 0
+StopsTurn state old new = new ≡ record old {
+  file = new.file;
+  waiting = [];
+  in_turn = false;
+  log = ended_at old.log (standing_of (state new.file) old.failures);
+}
 
 -- the bytes were taken: the file's and what waits grow by them, and no lock changes
 pub record HasTaken {F : Type 0} (state : F → FileState) (old new : SharedSpool F) (text : List ℕ) : Type 0 where
@@ -105,20 +159,20 @@ pub record HasTaken {F : Type 0} (state : F → FileState) (old new : SharedSpoo
     changes = (state new.file).changes;
   }
 
--- all that was taken is in the file, which keeps it through a crash
-pub record KeepsAll {F : Type 0} (state : F → FileState) (old new : SharedSpool F) : Type 0 where
-  pub contents : (state new.file).bytes ≡ contents_of state old
-  pub kept : (state new.file).kept ≡ length (state new.file).bytes
-  pub same : (state new.file) ≡ record (state old.file) {
-    bytes = (state new.file).bytes;
-    kept = (state new.file).kept;
-    changes = (state new.file).changes;
-  }
+-- the file got all of the text, and keeps all that it has through a crash
+pub record KeepsWritten (old new : FileState) (text : List ℕ) : Type 0 where
+  pub contents : new.bytes ≡ old.bytes ++ text
+  pub kept : new.kept ≡ length new.bytes
+  pub same : new ≡ record old { bytes = new.bytes; kept = new.kept; changes = new.changes }
+
+-- all that was taken is in the file, which keeps it
+abbrev pub KeepsAll : {F : Type 0} → (F → FileState) → SharedSpool F → SharedSpool F → Type 0
+KeepsAll state old new = KeepsWritten (state old.file) (state new.file) old.waiting
 
 -- a call in a turn stays in it, and nothing failed
 pub record StaysSound {F : Type 0} (old new : SharedSpool F) : Type 0 where
   pub turn : old.in_turn ≡ true
-  pub sound : old.is_broken ≡ false
+  pub sound : old.has_failed ≡ false
   pub same : new ≡ record old {
     file = new.file;
     waiting = new.waiting;
@@ -127,28 +181,38 @@ pub record StaysSound {F : Type 0} (old new : SharedSpool F) : Type 0 where
     held = new.held;
   }
 
--- it only counts one more failure, and is broken from then on
+-- it only counts one more failure, which breaks its turn
 abbrev pub failed_again : {F : Type 0} → SharedSpool F → SharedSpool F
 failed_again spool = record spool {
   waiting = [];
-  is_broken = true;
   has_failed = spool.has_failed || spool.in_turn;
   failures = min (spool.failures + 1) (2 ^ 64 - 1);
 }
 
--- the file failed: it has a part of what waited after what it had, what was kept stays kept, and no lock changed
-pub record HasLost {F : Type 0} (state : F → FileState) (old new : SharedSpool F) : Type 0 where
+-- the file failed: it has a part of the text after what it had, what was kept stays kept, and no lock changed
+pub record LosesPart (old new : FileState) (text : List ℕ) : Type 0 where
   pub prefix : List ℕ
-  pub part : IsPrefix prefix old.waiting
-  pub same : (state new.file) ≡ record (state old.file) {
-    bytes = (state old.file).bytes ++ prefix;
-    kept = (state new.file).kept;
-    changes = (state new.file).changes;
-    faults = (state new.file).faults;
+  pub part : IsPrefix prefix text
+  pub same : new ≡ record old {
+    bytes = old.bytes ++ prefix;
+    kept = new.kept;
+    changes = new.changes;
+    faults = new.faults;
   }
-  pub kept : (state old.file).kept ≤ (state new.file).kept
-  pub failed : Rises (state old.file).faults (state new.file).faults
+  pub kept : old.kept ≤ new.kept
+  pub failed : Rises old.faults new.faults
 
--- it broke in this call
+-- it has a part of what waited
+abbrev pub HasLost : {F : Type 0} → (F → FileState) → SharedSpool F → SharedSpool F → Type 0
+HasLost state old new = LosesPart (state old.file) (state new.file) old.waiting
+
+-- nothing waits any more; or the turn is broken
+abbrev pub HasWritten : {F : Type 0} → SharedSpool F → SharedSpool F → Type 0
+HasWritten old new = new ≡ record old { file = new.file; waiting = []; tail = new.tail }
+
+abbrev pub HasNotWritten : {F : Type 0} → SharedSpool F → SharedSpool F → Type 0
+HasNotWritten old new = new ≡ record old { file = new.file; has_failed = true }
+
+-- its turn broke in this call
 abbrev pub Breaks : {F : Type 0} → SharedSpool F → SharedSpool F → Type 0
 Breaks old new = new ≡ record (failed_again old) { file = new.file }

@@ -1,5 +1,5 @@
 -- How a turn at the file of a shared spool begins and ends.
-use Rattle.std.specs.Prelude.{◌≡◌, ◌⊎◌, ℕ, ◌≤◌, true, false, length, take, Option, Some, None}
+use Rattle.std.specs.Prelude.{◌≡◌, ◌⊎◌, ℕ, ◌≤◌, Bool, true, false, length, take, Option, Some, None}
 use Rattle.mail_world.specs.Failures.{Rises}
 use Rattle.mbox_file.specs.declared.file.FileEnd.{FileEnd}
 use Rattle.mbox_file.specs.MailboxFile.{FileState, IsSharedSince, LeavesNoLockFile, HasRefused, IsEnd}
@@ -10,6 +10,8 @@ pub record HasBegun (old new : FileState) (end : FileEnd) : Type 0 where
   pub range_lock : new.has_range_lock ≡ true
   pub named : new.is_named ≡ true
   pub is_end : IsEnd new end
+  pub covered : new.kept ≤ length new.bytes
+  pub openings : old.openings ≤ new.openings
   pub unchanged : new.changes ≡ old.changes
   pub sound : new.faults ≡ old.faults
 
@@ -18,6 +20,7 @@ pub record HasMissed (old new : FileState) : Type 0 where
   pub range_lock : old.has_range_lock ≡ false → new.has_range_lock ≡ false
   pub free : LeavesNoLockFile old new
   pub refused : Rises old.refusals new.refusals
+  pub openings : old.openings ≤ new.openings
   pub unchanged : new.changes ≡ old.changes
   pub sound : new.faults ≡ old.faults
 
@@ -36,9 +39,14 @@ pub record HasLetGo (old new : FileState) : Type 0 where
 
 -- the path names the open file, which ends so
 pub record HasFoundOwnEnd (old new : FileState) (end : FileEnd) : Type 0 where
-  pub same : new ≡ old
-  pub named : new.is_named ≡ true
+  pub same : new ≡ record old { bytes = new.bytes; kept = new.kept; is_named = true }
   pub is_end : IsEnd new end
+  pub covered : new.kept ≤ length new.bytes
+
+-- Something was refused, and no lock changed.
+pub record HasNotSeen (old new : FileState) : Type 0 where
+  pub same : new ≡ record old { is_named = new.is_named; refusals = new.refusals }
+  pub refused : Rises old.refusals new.refusals
 
 -- what was seen at the path: the end of the open file, or that it isn't the open file
 abbrev pub HasSeen : FileState → FileState → Option FileEnd → Type 0
@@ -55,6 +63,7 @@ pub record IsBetweenTries (old new : FileState) : Type 0 where
   pub range_lock : old.has_range_lock ≡ false → new.has_range_lock ≡ false
   pub unremoved : old.unremoved ≤ new.unremoved
   pub refusals : old.refusals ≤ new.refusals
+  pub openings : old.openings ≤ new.openings
   pub unchanged : new.changes ≡ old.changes
   pub sound : new.faults ≡ old.faults
 
@@ -67,3 +76,11 @@ pub record IsCutBack (old new : FileState) (size : ℕ) : Type 0 where
 pub record HasCutBack (old new : FileState) (size : ℕ) : Type 0 where
   pub same : new ≡ record old { bytes = new.bytes; kept = new.kept; changes = new.changes; faults = new.faults }
   pub is_cut : IsCutBack old new size
+
+-- Both locks were given back, but the lock file where it couldn't be removed. The bytes stay, or they were cut back before,
+-- where that was asked for.
+pub record HasEndedTurn (old new : FileState) (is_broken : Bool) (size : ℕ) : Type 0 where
+  pub range_lock : new.has_range_lock ≡ false
+  pub free : LeavesNoLockFile old new
+  pub stays : is_broken ≡ false → (new.bytes ≡ old.bytes) × (new.kept ≡ old.kept)
+  pub is_cut : is_broken ≡ true → IsCutBack old new size

@@ -11,6 +11,7 @@ mod opening;
 mod patience;
 mod shared;
 mod turn;
+mod turns;
 
 pub use file::{FileSpool, OpenFault};
 pub use mbox_file::{

@@ -1,8 +1,8 @@
 //! A mailbox in a file that other programs read and empty too: it takes bytes in turns, and what stands there is
-//! looked at again in each.
+//! looked at again in each. Nothing of it lasts from one turn to the next but its file and whether the last turn broke.
 ghost use Rattle.std.specs.Prelude.{◌≡◌, ◌⊎◌, ◌↔◌, ℕ, ◌+◌, ◌-◌, ◌^◌, ◌<◌, ◌≤◌, [], List, ◌++◌, true, false, min};
 ghost use Rattle.std.specs.Prelude.{length, take};
-ghost use Rattle.std.specs.Prelude.{None, IsErr, IfOk, OnOk, OnErr};
+ghost use Rattle.std.specs.Prelude.{Some, None, Ok, Err, IsErr, IfOk, OnOk, OnErr};
 ghost use Rattle.std.specs.Option.{IfSome};
 ghost use Rattle.mail_world.specs.Counts.{counted};
 ghost use Rattle.mail_world.specs.Failures.{Rises};
@@ -10,10 +10,14 @@ ghost use Rattle.mail_world.specs.Prefixes.{IsPrefix};
 ghost use Rattle.mbox_record.specs.Spool.{SpoolTook, SpoolFailed, HasSynced, HasNotSynced, AsksForTurn, EndsTurn};
 ghost use Rattle.mail_world.specs.Endings.{ending, ending_from};
 ghost use Rattle.mbox_record.specs.Tail.{ending_of};
+ghost use Rattle.mbox_record.specs.Sharing.{knows_end};
+ghost use Rattle.mbox_file.specs.MailboxFile.{IsHeld};
+ghost use Rattle.mbox_rd.specs.SharedSpool.{KeepsWritten, LosesPart};
 
 use crate::file::BUFFER_SIZE;
 use crate::patience::Patience;
-use crate::turn::{cut_back, let_go, wait_for_turn};
+use crate::turn::{end_turn, open_anew, wait_for_turn};
+use crate::turns::Turns;
 use mbox_file::{FileEnd, MailboxFile};
 use mbox_record::{InUse, Spool, SpoolFault, Tail, tail_after};
 use std::alloc::{AllocError, Global};
@@ -22,9 +26,9 @@ use std::marker::Model;
 use std::time::Clock;
 
 /// A spool over a file that other programs read and empty too. In a turn it has both locks that mail programs take,
-/// and what it takes waits in a buffer of 65,536 bytes until that is full or until a sync. After its first fault it
-/// is broken: the file is cut back to its length at the lock as the turn ends, nothing more goes to it, and each
-/// append and each sync is a fault.
+/// and what it takes waits in a buffer of 65,536 bytes until that is full or until a sync. A turn in which a call
+/// failed is broken: each further append and sync in it is a fault, and as it ends the file is cut back to its length
+/// at the lock. The next lock opens what the path names again, and goes on with what stands there.
 #[derive(Drop)]
 pub struct SharedSpool<F: MailboxFile + Drop, C: Clock + Drop> {
     file: F,
@@ -37,15 +41,15 @@ pub struct SharedSpool<F: MailboxFile + Drop, C: Clock + Drop> {
     held: u64,
     failures: u64,
     refusals: u64,
-    is_broken: bool,
     in_turn: bool,
     has_failed: bool,
     is_unsynced: bool,
+    turns: Turns,
 }
 
 impl<F: MailboxFile + Drop, C: Clock + Drop> Model for SharedSpool<F, C> {
     ghost use Rattle.std.specs.Prelude.{◌≤◌, vec_len, vec_capacity};
-    ghost use Rattle.mbox_rd.specs.SharedSpool.{SharedSpool as Held};
+    ghost use Rattle.mbox_rd.specs.SharedSpool.{SharedSpool as Held, IsInOrder};
 
     ghost Value = { Held F };
 
@@ -53,7 +57,6 @@ impl<F: MailboxFile + Drop, C: Clock + Drop> Model for SharedSpool<F, C> {
       file = s.file;
       wait = s.wait;
       waiting = s.waiting.items;
-      is_broken = s.is_broken;
       in_turn = s.in_turn;
       has_failed = s.has_failed;
       is_unsynced = s.is_unsynced;
@@ -62,9 +65,25 @@ impl<F: MailboxFile + Drop, C: Clock + Drop> Model for SharedSpool<F, C> {
       held = s.held;
       failures = s.failures;
       refusals = s.refusals;
+      log = s.turns.log;
     } };
 
-    ghost invariant = { λ s. (vec_len s.waiting ≤ 65_536) × (65_536 ≤ vec_capacity s.waiting) };
+    ghost invariant = { λ s. (vec_len s.waiting ≤ 65_536)
+        × (65_536 ≤ vec_capacity s.waiting)
+        × IsInOrder F.state (record {
+          file = s.file;
+          wait = s.wait;
+          waiting = s.waiting.items;
+          in_turn = s.in_turn;
+          has_failed = s.has_failed;
+          is_unsynced = s.is_unsynced;
+          began = s.began;
+          tail = s.tail;
+          held = s.held;
+          failures = s.failures;
+          refusals = s.refusals;
+          log = s.turns.log;
+        }) };
 }
 
 impl<F: MailboxFile + Drop, C: Clock + Drop> SharedSpool<F, C> {
@@ -88,17 +107,17 @@ impl<F: MailboxFile + Drop, C: Clock + Drop> SharedSpool<F, C> {
             held: 0,
             failures: 0,
             refusals: 0,
-            is_broken: false,
             in_turn: false,
             has_failed: false,
             is_unsynced: false,
+            turns: Turns::none(),
         })
     }
 }
 
 impl<F: MailboxFile + Drop, C: Clock + Drop> SharedSpool<F, C> {
-    ghost use Rattle.mbox_file.specs.MailboxFile.{HasAppended, HasNotAppended, KeepsFile, FailsToKeep};
-    ghost use Rattle.mbox_rd.specs.SharedSpool.{KeepsAll, KnowsEnd, HasLost, failed_again};
+    ghost use Rattle.mbox_file.specs.MailboxFile.{HasAppended, HasNotAppended};
+    ghost use Rattle.mbox_rd.specs.SharedSpool.{HasWritten, HasNotWritten, KeepsAll, HasLost, failed_again};
 
     // Counts a failure, and throws away what waits.
     fn fail(&mut self) -> SpoolFault
@@ -108,93 +127,94 @@ impl<F: MailboxFile + Drop, C: Clock + Drop> SharedSpool<F, C> {
         self.waiting.clear();
         self.failures = self.failures.saturating_add(1);
         self.has_failed = self.has_failed || self.in_turn;
-        self.is_broken = true;
         SpoolFault
     }
 
+    // Writes what waits. How the file ends is known again after each write, and not after each piece; nobody knows it
+    // where one failed.
     fn write_waiting(&mut self) -> io::Result<()>
-        ensures same { self.new ≡ record self.old { file = self.new.file; waiting = self.new.waiting } }
-        ensures empty { OnOk result (self.new.waiting ≡ []) }
-        ensures written { F.tells ≡ true
-            → OnOk result (HasAppended (F.state self.old.file) (F.state self.new.file) self.old.waiting) }
-        ensures left { OnErr result (self.new.waiting ≡ self.old.waiting) }
-        ensures failed { F.tells ≡ true
-            → OnErr result (HasNotAppended (F.state self.old.file) (F.state self.new.file) self.old.waiting) }
+        requires turn { self.old.in_turn ≡ true }
+        ensures ok { OnOk result (HasWritten self.old self.new) }
+        ensures written { OnOk result (HasAppended (F.state self.old.file) (F.state self.new.file) self.old.waiting) }
+        ensures err { OnErr result (HasNotWritten self.old self.new) }
+        ensures failed { OnErr result
+            (HasNotAppended (F.state self.old.file) (F.state self.new.file) self.old.waiting) }
     {
-        self.file.write(&self.waiting)?;
-        self.waiting.clear();
-        Ok(())
+        let tail = self.tail();
+        match self.file.write(&self.waiting) {
+            Ok(()) => {
+                self.waiting.clear();
+                self.tail = tail;
+                Ok(())
+            }
+            Err(fault) => {
+                self.has_failed = true;
+                Err(fault)
+            }
+        }
     }
 
-    // How the file ends once what waits is written too.
-    fn tail_written(&self) -> Tail
-        ensures { ending_of result ≡ ending_from (ending_of self.now.tail) self.now.waiting }
+    // The same, and has all of the file kept.
+    fn keep_waiting(&mut self) -> io::Result<()>
+        requires turn { self.old.in_turn ≡ true }
+        ensures ok { OnOk result (HasWritten self.old self.new) }
+        ensures kept { OnOk result (KeepsAll F.state self.old self.new) }
+        ensures err { OnErr result (HasNotWritten self.old self.new) }
+        ensures failed { OnErr result (HasLost F.state self.old self.new) }
     {
-        tail_after(self.tail, &self.waiting)
-    }
-
-    // Writes what waits, so that there is room for more. How the file ends is known again after each write, and not after
-    // each piece.
-    fn make_room(&mut self) -> io::Result<()>
-        ensures same { self.new ≡ record self.old {
-          file = self.new.file;
-          waiting = self.new.waiting;
-          tail = self.new.tail;
-        } }
-        ensures empty { OnOk result (self.new.waiting ≡ []) }
-        ensures written { F.tells ≡ true
-            → OnOk result (HasAppended (F.state self.old.file) (F.state self.new.file) self.old.waiting) }
-        ensures ends { F.tells ≡ true → OnOk result (KnowsEnd F.state self.old → KnowsEnd F.state self.new) }
-        ensures left { OnErr result ((self.new.waiting ≡ self.old.waiting) × (self.new.tail ≡ self.old.tail)) }
-        ensures failed { F.tells ≡ true
-            → OnErr result (HasNotAppended (F.state self.old.file) (F.state self.new.file) self.old.waiting) }
-    {
-        let tail = self.tail_written();
-        self.write_waiting()?;
-        self.tail = tail;
-        Ok(())
-    }
-
-    fn keep_file(&mut self) -> io::Result<()>
-        ensures same { self.new ≡ record self.old { file = self.new.file } }
-        ensures ok { F.tells ≡ true → OnOk result (KeepsFile (F.state self.old.file) (F.state self.new.file)) }
-        ensures err { F.tells ≡ true → OnErr result (FailsToKeep (F.state self.old.file) (F.state self.new.file)) }
-    {
-        self.file.keep()
-    }
-
-    fn write_and_keep(&mut self) -> io::Result<()>
-        ensures same { self.new ≡ record self.old { file = self.new.file; waiting = self.new.waiting } }
-        ensures empty { OnOk result (self.new.waiting ≡ []) }
-        ensures kept { F.tells ≡ true → OnOk result (KeepsAll F.state self.old self.new) }
-        ensures failed { F.tells ≡ true → OnErr result (HasLost F.state self.old self.new) }
-    {
-        self.write_waiting()?;
-        self.keep_file()
-    }
-
-    // Counts a missed turn.
-    fn refuse(&mut self, in_use: InUse) -> Result<Option<u64>, InUse>
-        ensures new { self.new ≡ record self.old { refusals = counted (self.old.refusals + 1) } }
-        ensures result { result ≡ Err in_use }
-    {
-        self.refusals = self.refusals.saturating_add(1);
-        Err(in_use)
+        let end = self.tail();
+        match write_and_keep(&mut self.file, &self.waiting) {
+            Ok(()) => {
+                self.waiting.clear();
+                self.tail = end;
+                Ok(())
+            }
+            Err(fault) => {
+                self.has_failed = true;
+                Err(fault)
+            }
+        }
     }
 }
 
+fn write_and_keep<F: MailboxFile>(file: &mut F, bytes: &[u8]) -> io::Result<()>
+    requires held { IsHeld (F.state file.old) }
+    ensures kept { OnOk result (KeepsWritten (F.state file.old) (F.state file.new) bytes.now) }
+    ensures lost { OnErr result (LosesPart (F.state file.old) (F.state file.new) bytes.now) }
+{
+    file.write(bytes)?;
+    file.keep()
+}
+
 impl<F: MailboxFile + Drop, C: Clock + Drop> SharedSpool<F, C> {
-    ghost use Rattle.mbox_rd.specs.SharedSpool.{StartsTurn};
+    ghost use Rattle.mbox_file.specs.MailboxFile.{IsEnd};
+    ghost use Rattle.mbox_rd.specs.Turn.{HasBegun, HasMissed};
+    ghost use Rattle.mbox_rd.specs.SharedSpool.{StartsTurn, CountsRefusal, KnowsEnd};
+
+    // Asks for a turn. After one that broke, what the path names is opened first.
+    fn ask(&mut self) -> Result<FileEnd, InUse>
+        requires free { self.old.in_turn ≡ false }
+        ensures same { self.new ≡ record self.old { file = self.new.file } }
+        ensures ok { IfOk result (HasBegun (F.state self.old.file) (F.state self.new.file)) }
+        ensures anew { self.old.has_failed ≡ true
+            → OnOk result (Rises (F.state self.old.file).openings (F.state self.new.file).openings) }
+        ensures err { OnErr result (HasMissed (F.state self.old.file) (F.state self.new.file)) }
+    {
+        open_anew(&mut self.file, self.has_failed)?;
+        let tries = self.patience.tries(&self.clock, self.wait);
+        wait_for_turn(&mut self.file, &self.clock, &mut self.patience, tries)
+    }
 
     // Begins a turn on a file that ends so.
     fn start(&mut self, end: FileEnd)
-        requires { self.old.in_turn ≡ false }
-        ensures starts { StartsTurn self.old self.new }
+        requires free { self.old.in_turn ≡ false }
+        requires held { IsHeld (F.state self.old.file) }
+        requires end { IsEnd (F.state self.old.file) end }
+        ensures starts { StartsTurn F.state self.old self.new }
         ensures file { self.new.file ≡ self.old.file }
         ensures began { self.new.began ≡ end.at }
         ensures tail { self.new.tail ≡ end.tail }
     {
-        self.waiting.clear();
         self.began = end.at;
         self.held = end.at;
         self.tail = end.tail;
@@ -202,18 +222,33 @@ impl<F: MailboxFile + Drop, C: Clock + Drop> SharedSpool<F, C> {
         self.has_failed = false;
         self.is_unsynced = false;
         self.patience.was_missed = false;
+        self.turns.begin(&self.file, self.failures);
+    }
+
+    // Counts a missed turn.
+    fn refuse(&mut self, in_use: InUse) -> Result<Option<u64>, InUse>
+        ensures new { CountsRefusal self.old self.new }
+        ensures file { self.new.file ≡ self.old.file }
+        ensures result { result ≡ Err in_use }
+    {
+        self.refusals = self.refusals.saturating_add(1);
+        self.turns.miss();
+        Err(in_use)
     }
 
     // Puts what there is room for into the buffer.
     fn take(&mut self, piece: &[u8]) -> usize
         requires room { length self.old.waiting < 65_536 }
         requires some { 0 < length piece.now }
+        requires turn { self.old.in_turn ≡ true }
+        requires sound { self.old.has_failed ≡ false }
         ensures within { (1 ≤ result) × (result ≤ length piece.now) }
         ensures new { self.new ≡ record self.old {
           waiting = self.old.waiting ++ take result piece.now;
           held = counted (self.old.held + result);
           is_unsynced = true;
         } }
+        ensures ends { KnowsEnd F.state self.new }
     {
         let n = piece.len().min(BUFFER_SIZE - self.waiting.len());
         let taken = &piece[..n];
@@ -227,42 +262,28 @@ impl<F: MailboxFile + Drop, C: Clock + Drop> SharedSpool<F, C> {
 }
 
 impl<F: MailboxFile + Drop, C: Clock + Drop> Spool for SharedSpool<F, C> {
-    ghost use Rattle.std.specs.Prelude.{None};
     ghost use Rattle.mbox_rd.specs.SharedSpool.{HasTurn, HasNoTurn, StartsTurn, CountsRefusal, HasEnded, StopsTurn};
     ghost use Rattle.mbox_rd.specs.SharedSpool.{HasTaken, KeepsAll, StaysSound, Breaks, HasLost, failed_again};
-    ghost use Rattle.mbox_rd.specs.SharedSpool.{KnowsEnd};
+    ghost use Rattle.mbox_rd.specs.SharedSpool.{KnowsEnd, state_of};
 
-    ghost state = { λ s. record {
-      bytes = None;
-      failures = s.failures;
-      limit = None;
-      synced = 0;
-      held = s.held;
-      sharing = record {
-        is_shared = true;
-        in_turn = s.in_turn;
-        has_failed = s.has_failed;
-        is_unsynced = s.is_unsynced;
-        refusals = s.refusals;
-        began = None;
-        turns = [];
-      };
-    } };
+    ghost state = { λ s. state_of F.state s };
 
     fn is_shared(&self) -> bool {
         true
     }
 
     /// Waits for programs that have the mailbox locked, as far as what may be waited within a minute isn't used up, and
-    /// after a missed turn not at all. In a turn it is refused, and the turn goes on.
+    /// after a missed turn not at all. After a turn that broke, what the path names is opened again first. In a turn it
+    /// is refused, and the turn goes on.
     fn lock(&mut self) -> Result<Option<u64>, InUse>
         ensures within { self.old.in_turn ≡ true → (result ≡ Err InUse.Locked) × (self.new.file ≡ self.old.file) }
-        ensures starts { OnOk result (StartsTurn self.old self.new) }
-        ensures had { F.tells ≡ true → OnOk result (HasTurn F.state self.old self.new) }
+        ensures starts { OnOk result (StartsTurn F.state self.old self.new) }
+        ensures had { OnOk result (HasTurn F.state self.old self.new) }
+        ensures anew { self.old.in_turn ≡ false → self.old.has_failed ≡ true
+            → OnOk result (Rises (F.state self.old.file).openings (F.state self.new.file).openings) }
         ensures count { IfOk result (λ held. held ≡ Some self.new.began) }
         ensures refused { OnErr result (CountsRefusal self.old self.new) }
-        ensures not_had { F.tells ≡ true → self.old.in_turn ≡ false
-            → OnErr result (HasNoTurn F.state self.old self.new) }
+        ensures not_had { self.old.in_turn ≡ false → OnErr result (HasNoTurn F.state self.old self.new) }
 
         // what every spool ensures
         ensures alone { (⟦<SharedSpool<F, C> as Spool>⟧.state self.old).sharing.is_shared ≡ false
@@ -275,8 +296,7 @@ impl<F: MailboxFile + Drop, C: Clock + Drop> Spool for SharedSpool<F, C> {
         if self.in_turn {
             return self.refuse(InUse::Locked);
         }
-        let tries = self.patience.tries(&self.clock, self.wait);
-        match wait_for_turn(&mut self.file, &self.clock, &mut self.patience, tries) {
+        match self.ask() {
             Ok(end) => {
                 self.start(end);
                 Ok(Some(end.at))
@@ -292,8 +312,8 @@ impl<F: MailboxFile + Drop, C: Clock + Drop> Spool for SharedSpool<F, C> {
     /// waits is thrown away.
     fn unlock(&mut self)
         ensures outside { self.old.in_turn ≡ false → self.new ≡ self.old }
-        ensures stops { self.old.in_turn ≡ true → StopsTurn self.old self.new }
-        ensures ended { F.tells ≡ true → self.old.in_turn ≡ true → HasEnded F.state self.old self.new }
+        ensures stops { self.old.in_turn ≡ true → StopsTurn F.state self.old self.new }
+        ensures ended { self.old.in_turn ≡ true → HasEnded F.state self.old self.new }
 
         // what every spool ensures
         ensures alone { (⟦<SharedSpool<F, C> as Spool>⟧.state self.old).sharing.is_shared ≡ false
@@ -307,27 +327,24 @@ impl<F: MailboxFile + Drop, C: Clock + Drop> Spool for SharedSpool<F, C> {
         if !self.in_turn {
             return;
         }
-        if self.has_failed {
-            cut_back(&mut self.file, self.began);
-        }
-        let_go(&mut self.file);
+        end_turn(&mut self.file, self.has_failed, self.began);
         self.waiting.clear();
         self.in_turn = false;
+        self.turns.end(&self.file, self.failures);
     }
 
     /// Fills the buffer, and writes it where it is full.
     fn append(&mut self, piece: &[u8]) -> Result<usize, SpoolFault>
         requires { 0 < length piece.now }
         ensures outside_turn { self.old.in_turn ≡ false → IsErr result × (self.new ≡ failed_again self.old) }
-        ensures stays_broken { self.old.is_broken ≡ true → IsErr result × (self.new ≡ failed_again self.old) }
+        ensures stays_broken { self.old.has_failed ≡ true → IsErr result × (self.new ≡ failed_again self.old) }
         ensures sound { OnOk result (StaysSound self.old self.new) }
-        ensures taken { F.tells ≡ true → IfOk result (λ n. HasTaken F.state self.old self.new (take n piece.now)) }
-        ensures grows { F.tells ≡ true
-            → OnOk result (IsPrefix (F.state self.old.file).bytes (F.state self.new.file).bytes) }
-        ensures ends { F.tells ≡ true → OnOk result (KnowsEnd F.state self.old → KnowsEnd F.state self.new) }
+        ensures taken { IfOk result (λ n. HasTaken F.state self.old self.new (take n piece.now)) }
+        ensures grows { OnOk result (IsPrefix (F.state self.old.file).bytes (F.state self.new.file).bytes) }
+        ensures ends { OnOk result (KnowsEnd F.state self.new) }
         ensures held { IfOk result (λ n. self.new.held ≡ counted (self.old.held + n)) }
         ensures breaks { OnErr result (Breaks self.old self.new) }
-        ensures lost { F.tells ≡ true → self.old.in_turn ≡ true → self.old.is_broken ≡ false
+        ensures lost { self.old.in_turn ≡ true → self.old.has_failed ≡ false
             → OnErr result (HasLost F.state self.old self.new) }
 
         // what every spool ensures
@@ -340,10 +357,10 @@ impl<F: MailboxFile + Drop, C: Clock + Drop> Spool for SharedSpool<F, C> {
         ensures outside { (⟦<SharedSpool<F, C> as Spool>⟧.state self.old).sharing.is_shared ≡ true
             → (⟦<SharedSpool<F, C> as Spool>⟧.state self.old).sharing.in_turn ≡ false → IsErr result }
     {
-        if self.is_broken || !self.in_turn {
+        if self.has_failed || !self.in_turn {
             return Err(self.fail());
         }
-        if self.waiting.len() == BUFFER_SIZE && self.make_room().is_err() {
+        if self.waiting.len() == BUFFER_SIZE && self.write_waiting().is_err() {
             return Err(self.fail());
         }
         Ok(self.take(piece))
@@ -352,14 +369,14 @@ impl<F: MailboxFile + Drop, C: Clock + Drop> Spool for SharedSpool<F, C> {
     /// Writes what waits, and has the file's bytes kept by the system.
     fn sync(&mut self) -> Result<(), SpoolFault>
         ensures outside_turn { self.old.in_turn ≡ false → IsErr result × (self.new ≡ failed_again self.old) }
-        ensures stays_broken { self.old.is_broken ≡ true → IsErr result × (self.new ≡ failed_again self.old) }
+        ensures stays_broken { self.old.has_failed ≡ true → IsErr result × (self.new ≡ failed_again self.old) }
         ensures sound { OnOk result (StaysSound self.old self.new) }
         ensures written { self.new.waiting ≡ [] }
-        ensures kept { F.tells ≡ true → OnOk result (KeepsAll F.state self.old self.new) }
+        ensures kept { OnOk result (KeepsAll F.state self.old self.new) }
         ensures held { self.new.held ≡ self.old.held }
-        ensures ends { F.tells ≡ true → OnOk result (KnowsEnd F.state self.old → KnowsEnd F.state self.new) }
+        ensures ends { OnOk result (KnowsEnd F.state self.new) }
         ensures breaks { OnErr result (Breaks self.old self.new) }
-        ensures lost { F.tells ≡ true → self.old.in_turn ≡ true → self.old.is_broken ≡ false
+        ensures lost { self.old.in_turn ≡ true → self.old.has_failed ≡ false
             → OnErr result (HasLost F.state self.old self.new) }
 
         // what every spool ensures
@@ -370,11 +387,12 @@ impl<F: MailboxFile + Drop, C: Clock + Drop> Spool for SharedSpool<F, C> {
         ensures outside { (⟦<SharedSpool<F, C> as Spool>⟧.state self.old).sharing.is_shared ≡ true
             → (⟦<SharedSpool<F, C> as Spool>⟧.state self.old).sharing.in_turn ≡ false → IsErr result }
     {
-        let end = self.tail_written();
-        if self.is_broken || !self.in_turn || self.write_and_keep().is_err() {
+        if !self.in_turn || self.has_failed {
             return Err(self.fail());
         }
-        self.tail = end;
+        if self.keep_waiting().is_err() {
+            return Err(self.fail());
+        }
         self.is_unsynced = false;
         Ok(())
     }
@@ -384,9 +402,10 @@ impl<F: MailboxFile + Drop, C: Clock + Drop> Spool for SharedSpool<F, C> {
         ensures exact { ending_of result ≡ ending_from (ending_of self.now.tail) self.now.waiting }
 
         // what every spool ensures
-        ensures known { IfSome (⟦<SharedSpool<F, C> as Spool>⟧.state self.now).bytes (λ held. ending_of result ≡ ending held) }
+        ensures known { knows_end (⟦<SharedSpool<F, C> as Spool>⟧.state self.now).sharing ≡ true
+            → IfSome (⟦<SharedSpool<F, C> as Spool>⟧.state self.now).bytes (λ held. ending_of result ≡ ending held) }
     {
-        self.tail_written()
+        tail_after(self.tail, &self.waiting)
     }
 
     fn held(&self) -> u64
@@ -394,6 +413,8 @@ impl<F: MailboxFile + Drop, C: Clock + Drop> Spool for SharedSpool<F, C> {
 
         // what every spool ensures
         ensures counted { result ≡ counted (⟦<SharedSpool<F, C> as Spool>⟧.state self.now).held }
+        ensures known { knows_end (⟦<SharedSpool<F, C> as Spool>⟧.state self.now).sharing ≡ true
+            → IfSome (⟦<SharedSpool<F, C> as Spool>⟧.state self.now).bytes (λ held. result ≡ counted (length held)) }
     {
         self.held
     }

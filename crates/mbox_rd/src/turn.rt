@@ -1,8 +1,10 @@
-//! How a turn at a mailbox's file begins: both locks are taken, on the file that the path names, and its end is looked
-//! at again.
+//! How a turn at a mailbox's file begins and ends: both locks are taken, on the file that the path names, and its end is
+//! looked at again; what is to be cut is cut while both are held.
 ghost use Rattle.std.specs.Prelude.{◌≡◌, true, IfOk, OnOk, OnErr};
-ghost use Rattle.mbox_file.specs.MailboxFile.{HasRefused};
-ghost use Rattle.mbox_rd.specs.Turn.{HasBegun, HasMissed, HasTried, HasSeen, HasTakenLocks, HasLetGo, HasCutBack};
+ghost use Rattle.mail_world.specs.Failures.{Rises};
+ghost use Rattle.mbox_file.specs.MailboxFile.{IsHeld};
+ghost use Rattle.mbox_rd.specs.Turn.{HasBegun, HasMissed, HasTried, HasSeen, HasNotSeen, HasTakenLocks, HasLetGo};
+ghost use Rattle.mbox_rd.specs.Turn.{HasCutBack, HasEndedTurn, IsBetweenTries};
 
 use crate::patience::Patience;
 use mbox_file::{FileEnd, MailboxFile};
@@ -19,12 +21,31 @@ pub fn hold_locks<F: MailboxFile, C: Clock>(
     clock: &C,
     seconds: u32,
 ) -> Result<FileEnd, InUse>
-    ensures ok { F.tells ≡ true → IfOk result (HasBegun (F.state file.old) (F.state file.new)) }
-    ensures err { F.tells ≡ true → OnErr result (HasMissed (F.state file.old) (F.state file.new)) }
+    ensures ok { IfOk result (HasBegun (F.state file.old) (F.state file.new)) }
+    ensures err { OnErr result (HasMissed (F.state file.old) (F.state file.new)) }
 {
     let mut patience = Patience::new();
     let tries = patience.tries(clock, seconds);
     wait_for_turn(file, clock, &mut patience, tries)
+}
+
+/// Opens what the path names, where that is asked for: after a turn that broke nothing of the open file is believed.
+/// Where it can't be opened no lock file is left, as of a turn that is missed.
+pub(crate) fn open_anew<F: MailboxFile>(file: &mut F, is_asked: bool) -> Result<(), InUse>
+    ensures ok { OnOk result (IsBetweenTries (F.state file.old) (F.state file.new)) }
+    ensures anew { is_asked ≡ true → OnOk result (Rises (F.state file.old).openings (F.state file.new).openings) }
+    ensures err { OnErr result (HasMissed (F.state file.old) (F.state file.new)) }
+{
+    if !is_asked {
+        return Ok(());
+    }
+    match file.reopen() {
+        Ok(()) => Ok(()),
+        Err(in_use) => {
+            file.remove_lock_file();
+            Err(in_use)
+        }
+    }
 }
 
 /// Tries for a turn that often, and pauses after each try that others' locks were in the way of, but the last.
@@ -34,8 +55,8 @@ pub(crate) fn wait_for_turn<F: MailboxFile, C: Clock>(
     patience: &mut Patience,
     tries: u64,
 ) -> Result<FileEnd, InUse>
-    ensures ok { F.tells ≡ true → IfOk result (HasBegun (F.state file.old) (F.state file.new)) }
-    ensures err { F.tells ≡ true → OnErr result (HasMissed (F.state file.old) (F.state file.new)) }
+    ensures ok { IfOk result (HasBegun (F.state file.old) (F.state file.new)) }
+    ensures err { OnErr result (HasMissed (F.state file.old) (F.state file.new)) }
 {
     for pauses in 1..tries {
         match begin_turn(file) {
@@ -49,8 +70,8 @@ pub(crate) fn wait_for_turn<F: MailboxFile, C: Clock>(
 
 // The path may name another file than the open one, which is then opened, and it is tried again.
 fn begin_turn<F: MailboxFile>(file: &mut F) -> Result<FileEnd, InUse>
-    ensures ok { F.tells ≡ true → IfOk result (HasBegun (F.state file.old) (F.state file.new)) }
-    ensures err { F.tells ≡ true → OnErr result (HasMissed (F.state file.old) (F.state file.new)) }
+    ensures ok { IfOk result (HasBegun (F.state file.old) (F.state file.new)) }
+    ensures err { OnErr result (HasMissed (F.state file.old) (F.state file.new)) }
 {
     for _ in 1..OPENINGS {
         if let Some(end) = begin_or_reopen(file)? {
@@ -66,8 +87,8 @@ fn begin_turn<F: MailboxFile>(file: &mut F) -> Result<FileEnd, InUse>
 // With both locks it is seen whether they are on the file that the path names. None: they weren't, and were given
 // back, and that file is open now.
 fn begin_or_reopen<F: MailboxFile>(file: &mut F) -> Result<Option<FileEnd>, InUse>
-    ensures ok { F.tells ≡ true → IfOk result (HasTried (F.state file.old) (F.state file.new)) }
-    ensures err { F.tells ≡ true → OnErr result (HasMissed (F.state file.old) (F.state file.new)) }
+    ensures ok { IfOk result (HasTried (F.state file.old) (F.state file.new)) }
+    ensures err { OnErr result (HasMissed (F.state file.old) (F.state file.new)) }
 {
     take_locks(file)?;
     match own_end(file) {
@@ -88,8 +109,8 @@ fn begin_or_reopen<F: MailboxFile>(file: &mut F) -> Result<Option<FileEnd>, InUs
 // new one's bytes locked for a moment. Where the second lock is refused the first is given back before anything is
 // waited for, since others take them in the other order.
 fn take_locks<F: MailboxFile>(file: &mut F) -> Result<(), InUse>
-    ensures ok { F.tells ≡ true → OnOk result (HasTakenLocks (F.state file.old) (F.state file.new)) }
-    ensures err { F.tells ≡ true → OnErr result (HasMissed (F.state file.old) (F.state file.new)) }
+    ensures ok { OnOk result (HasTakenLocks (F.state file.old) (F.state file.new)) }
+    ensures err { OnErr result (HasMissed (F.state file.old) (F.state file.new)) }
 {
     file.try_lock_file()?;
     match file.try_range_lock() {
@@ -103,8 +124,8 @@ fn take_locks<F: MailboxFile>(file: &mut F) -> Result<(), InUse>
 
 // The open file's end, if the path names it.
 fn own_end<F: MailboxFile>(file: &mut F) -> Result<Option<FileEnd>, InUse>
-    ensures ok { F.tells ≡ true → IfOk result (HasSeen (F.state file.old) (F.state file.new)) }
-    ensures err { F.tells ≡ true → OnErr result (HasRefused (F.state file.old) (F.state file.new)) }
+    ensures ok { IfOk result (HasSeen (F.state file.old) (F.state file.new)) }
+    ensures err { OnErr result (HasNotSeen (F.state file.old) (F.state file.new)) }
 {
     if !file.is_named()? {
         return Ok(None);
@@ -114,15 +135,27 @@ fn own_end<F: MailboxFile>(file: &mut F) -> Result<Option<FileEnd>, InUse>
 
 /// Gives both locks back.
 pub fn let_go<F: MailboxFile>(file: &mut F)
-    ensures { F.tells ≡ true → HasLetGo (F.state file.old) (F.state file.new) }
+    ensures { HasLetGo (F.state file.old) (F.state file.new) }
 {
     file.remove_lock_file();
     file.unlock_range();
 }
 
-/// Cuts the file to its first bytes, and has that kept.
-pub(crate) fn cut_back<F: MailboxFile>(file: &mut F, size: u64)
-    ensures { F.tells ≡ true → HasCutBack (F.state file.old) (F.state file.new) size }
+/// Ends a turn: where it broke the file is cut to its first bytes, and then both locks are given back.
+pub(crate) fn end_turn<F: MailboxFile>(file: &mut F, is_broken: bool, size: u64)
+    requires { IsHeld (F.state file.old) }
+    ensures { HasEndedTurn (F.state file.old) (F.state file.new) is_broken size }
+{
+    if is_broken {
+        cut_back(file, size);
+    }
+    let_go(file);
+}
+
+// Cuts the file to its first bytes, and has that kept.
+fn cut_back<F: MailboxFile>(file: &mut F, size: u64)
+    requires { IsHeld (F.state file.old) }
+    ensures { HasCutBack (F.state file.old) (F.state file.new) size }
 {
     if file.cut(size).is_ok() {
         let _ = file.keep();

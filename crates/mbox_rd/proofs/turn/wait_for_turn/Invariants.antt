@@ -1,8 +1,7 @@
-use Rattle.std.proofs.Common.{◌≡◌, true}
 use Rattle.mbox_rd.specs.Turn.{IsBetweenTries}
 use Rattle.mbox_rd.proofs.turn.wait_for_turn.Given as goal
 
 -- earlier tries left nothing
 abbrev pub invariant-loop-pauses : goal.invariant-loop-pauses
-invariant-loop-pauses g l = g.F.MailboxFile.tells ≡ true
-    → IsBetweenTries (g.F.MailboxFile.state l.initial.file) (g.F.MailboxFile.state l.file)
+invariant-loop-pauses g l =
+    IsBetweenTries (g.F.MailboxFile.state l.initial.file) (g.F.MailboxFile.state l.file)

@@ -1,14 +1,12 @@
-use Rattle.std.proofs.Common.{ap, sym, ◌∙◌}
-use Rattle.mbox_record.specs.Tail.{ending_of}
-use Rattle.mbox_rd.specs.SharedSpool.{SharedSpool}
-use Rattle.mbox_rd.proofs.Tails.{goes_on, passed}
+use Rattle.std.proofs.Common.{[], rules, subst}
+use Rattle.mbox_rd.specs.SharedSpool.{IsInOrder}
+use Rattle.mbox_rd.proofs.Failing.{fails_now, fails_after}
 use Rattle.mbox_rd.proofs.shared.SharedSpoolSpool.sync.Goals as goal
 
-pub returns-clause-ends : goal.returns-clause-ends
-returns-clause-ends g c = λ tells ends.
-    goes_on (ending_of c.args.self.now.tail) (ending_of c.tail_written-end.result) _ c.args.self.now.waiting _
-    c.tail_written-end.ensures
-    (ap (λ (s : SharedSpool _). (g.F.MailboxFile.state s.file).bytes) c.self-2.view_is
-    ∙ (passed c.write_and_keep.result (sym c.is_err.ensures.value ∙ c.if-is_err.false)
-    (c.write_and_keep.ensures.kept tells)).contents)
-    ends
+pub returns-then-not-self-clause-err : goal.returns-then-not-self-clause-err
+returns-then-not-self-clause-err g c = fails_now g.F.MailboxFile.state c.args.self.now _ _
+    (subst (IsInOrder g.F.MailboxFile.state) c.self.view_is c.self.invariant.2) c.fail.ensures.new c.fail.ensures.counted
+
+pub returns-then-is_err-clause-err : goal.returns-then-is_err-clause-err
+returns-then-is_err-clause-err g c = fails_after g.F.MailboxFile.state c.args.self.now c.fail-then-is_err.new.self []
+    (subst (IsInOrder g.F.MailboxFile.state) c.self.view_is c.self.invariant.2) (search rules) (search rules) (search rules) (search rules)

@@ -1,0 +1,80 @@
+-- What is left of a turn: the bytes at its lock, and of those that were taken since a prefix.
+use Rattle.std.proofs.Common.{◌≡◌, ◌⊎◌, inl, inr, ℕ, Bool, true, false, take, drop, List, [], ◌++◌, refl, sym, ap, ◌∙◌, append_assoc, subst}
+use Rattle.std.proofs.Common.{Option, Some, None, append-nil as append_nil}
+use Rattle.std.proofs.lemmas.List.{take-append-drop}
+use Rattle.mail_world.specs.Prefixes.{IsPrefix}
+use Rattle.mail_world.specs.Turns.{Standing}
+use Rattle.mbox_record.specs.Spool.{IsWithin, LeavesPart}
+use Rattle.mbox_rd.specs.SharedSpool.{BeginsWith, StandsOn}
+
+none_of : (text : List ℕ) → IsPrefix [] text
+none_of text = record { rest = text; whole = refl }
+
+-- a part of what waited is written
+within : (lock file waiting prefix text : List ℕ) (n : ℕ) → take n file ≡ lock → IsPrefix prefix waiting
+    → IsWithin lock ((file ++ waiting) ++ text) (file ++ prefix)
+within lock file waiting prefix text n still part = record {
+  above = record {
+    rest = drop n file ++ prefix;
+    whole = ap (λ (l : List ℕ). l ++ prefix) (sym (take-append-drop n file))
+        ∙ ap (λ (l : List ℕ). (l ++ drop n file) ++ prefix) still
+        ∙ append_assoc lock (drop n file) prefix;
+  };
+  below = record {
+    rest = part.rest ++ text;
+    whole = ap (λ (l : List ℕ). (file ++ l) ++ text) part.whole
+        ∙ append_assoc file (prefix ++ part.rest) text
+        ∙ ap (λ (l : List ℕ). file ++ l) (append_assoc prefix part.rest text)
+        ∙ sym (append_assoc file prefix (part.rest ++ text));
+  };
+}
+
+-- what is cut back is as it was at the lock
+cut_within : (lock file waiting text : List ℕ) (n : ℕ) → take n file ≡ lock → IsWithin lock ((file ++ waiting) ++ text) (lock ++ [])
+cut_within lock file waiting text n still = record {
+  above = record { rest = []; whole = refl };
+  below = record {
+    rest = (drop n file ++ waiting) ++ text;
+    whole = ap (λ (l : List ℕ). (l ++ waiting) ++ text) (sym (take-append-drop n file))
+        ∙ ap (λ (l : List ℕ). ((l ++ drop n file) ++ waiting) ++ text) (still ∙ sym (append_nil lock))
+        ∙ ap (λ (l : List ℕ). l ++ text) (append_assoc (lock ++ []) (drop n file) waiting)
+        ∙ append_assoc (lock ++ []) (drop n file ++ waiting) text;
+  };
+}
+
+-- in a turn a part of what waited is written
+pub part_left : (began : Option Standing) (n : ℕ) (file waiting prefix text now : List ℕ) → StandsOn began n file → IsPrefix prefix waiting
+    → now ≡ file ++ prefix → LeavesPart began (Some (file ++ waiting)) (Some (now ++ [])) text
+part_left None n file waiting prefix text now stands part grown = absurd stands
+part_left (Some lock) n file waiting prefix text now stands part grown =
+    let P : List ℕ → Type 0 = λ l. IsWithin lock.bytes ((file ++ waiting) ++ text) l in
+    subst P (sym (append_nil now ∙ grown)) (within lock.bytes file waiting prefix text n stands.still part)
+
+-- in a turn the file stays, or is cut back
+pub cut_left : (began : Option Standing) (n : ℕ) (file waiting text now : List ℕ) → StandsOn began n file
+    → (now ≡ file) ⊎ (now ≡ take n file) → LeavesPart began (Some (file ++ waiting)) (Some (now ++ [])) text
+cut_left began n file waiting text now stands (inl same) =
+    part_left began n file waiting [] text now stands (none_of waiting) (same ∙ sym (append_nil file))
+cut_left None n file waiting text now stands (inr cut) = absurd stands
+cut_left (Some lock) n file waiting text now stands (inr cut) =
+    let P : List ℕ → Type 0 = λ l. IsWithin lock.bytes ((file ++ waiting) ++ text) (l ++ []) in
+    subst P (sym (cut ∙ stands.still)) (cut_within lock.bytes file waiting text n stands.still)
+
+-- outside a turn nothing waits, and nothing is written
+none_left : (began : Option Standing) (file waiting text : List ℕ) → waiting ≡ [] → began ≡ None
+    → LeavesPart began (Some (file ++ waiting)) (Some (file ++ [])) text
+none_left None file waiting text empty none = record {
+  prefix = [];
+  rest = text;
+  whole = refl;
+  appended = ap (λ (l : List ℕ). l ++ []) (sym (append_nil file)) ∙ ap (λ (l : List ℕ). (file ++ l) ++ []) (sym empty);
+}
+none_left (Some lock) file waiting text empty none = cc
+
+-- in both cases nothing is written
+pub none_written : (in_turn : Bool) (began : Option Standing) (n : ℕ) (file waiting text : List ℕ)
+    → (in_turn ≡ false → (waiting ≡ []) × (began ≡ None)) → (in_turn ≡ true → StandsOn began n file)
+    → LeavesPart began (Some (file ++ waiting)) (Some (file ++ [])) text
+none_written true began n file waiting text free stands =
+    part_left began n file waiting [] text file (stands refl) (none_of waiting) (sym (append_nil file))
+none_written false began n file waiting text free stands = none_left began file waiting text (free refl).0 (free refl).1

@@ -1,0 +1,12 @@
+use Rattle.std.proofs.Common.{rules, subst}
+use Rattle.mbox_rd.specs.SharedSpool.{IsInOrder}
+use Rattle.mbox_rd.proofs.Failing.{fails_now, fails_after}
+use Rattle.mbox_rd.proofs.shared.SharedSpoolSpool.append.Goals as goal
+
+pub returns-then-self-clause-err : goal.returns-then-self-clause-err
+returns-then-self-clause-err g c = fails_now g.F.MailboxFile.state c.args.self.now _ _
+    (subst (IsInOrder g.F.MailboxFile.state) c.self.view_is c.self.invariant.2) c.fail.ensures.new c.fail.ensures.counted
+
+pub returns-then-is_err-clause-err : goal.returns-then-is_err-clause-err
+returns-then-is_err-clause-err g c = fails_after g.F.MailboxFile.state c.args.self.now c.fail-then-is_err.new.self c.args.piece.now
+    (subst (IsInOrder g.F.MailboxFile.state) c.self.view_is c.self.invariant.2) (search rules) (search rules) (search rules) (search rules)
