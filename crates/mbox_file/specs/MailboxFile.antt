@@ -1,6 +1,6 @@
--- The file under a shared spool, where it tells: its bytes, which of them a crash leaves, and its two locks.
-use Rattle.std.specs.Prelude.{◌≡◌, ◌⊎◌, ℕ, ◌≤◌, Bool, true, false, List, [], ◌++◌, length, take, min}
-use Rattle.mail_world.specs.Counts.{counted}
+-- The file under a spool: its bytes, which of them a crash leaves, and its two locks. What a file of the system's tells
+-- is what it was asked and what was answered: which bytes stand at a lock nobody knows but by their length and their end.
+use Rattle.std.specs.Prelude.{◌≡◌, ◌⊎◌, ℕ, ◌≤◌, Bool, true, false, List, ◌++◌, length, take, min}
 use Rattle.mail_world.specs.Failures.{Rises}
 use Rattle.mail_world.specs.Prefixes.{IsPrefix}
 use Rattle.mbox_file.specs.declared.file.FileEnd.{FileEnd}
@@ -20,6 +20,8 @@ pub record FileState : Type 0 where
   pub has_range_lock : Bool
   -- the open file is the one that the path names
   pub is_named : Bool
+  -- how often what the path names was opened anew
+  pub openings : ℕ
   -- how often a call that asks for a turn wasn't granted
   pub refusals : ℕ
   -- how often the lock file couldn't be removed
@@ -67,33 +69,37 @@ pub record HasNotLockedRange (old new : FileState) : Type 0 where
   pub refused : Rises old.refusals new.refusals
 
 -- what is open now is what the path names or named; no lock goes with it
-abbrev pub HasReopened : FileState → FileState → Type 0
-HasReopened old new = IsSharedSince (record old { has_range_lock = false }) new
+pub record HasReopened (old new : FileState) : Type 0 where
+  pub same : IsSharedSince (record old { has_range_lock = false; openings = new.openings }) new
+  pub opened : Rises old.openings new.openings
 
 -- it changed nothing, and wasn't granted
 pub record HasRefused (old new : FileState) : Type 0 where
   pub same : new ≡ record old { refusals = new.refusals }
   pub refused : Rises old.refusals new.refusals
 
--- the path names the open file
-pub record IsFoundNamed (old new : FileState) : Type 0 where
-  pub same : new ≡ old
-  pub named : new.is_named ≡ true
-
--- what the path is found to name
+-- whether the path is found to name the open file
 abbrev pub HasLooked : FileState → FileState → Bool → Type 0
-HasLooked old new true = IsFoundNamed old new
+HasLooked old new true = new ≡ record old { is_named = true }
 HasLooked old new false = HasRefused old new
+
+-- Both locks are held, and the open file is the one that the path names: others neither write it nor put another in its
+-- place.
+pub record IsHeld (file : FileState) : Type 0 where
+  pub lock_file : file.has_lock_file ≡ true
+  pub range_lock : file.has_range_lock ≡ true
+  pub named : file.is_named ≡ true
 
 -- so the file ends
 pub record IsEnd (file : FileState) (end : FileEnd) : Type 0 where
-  pub at : end.at ≡ counted (length file.bytes)
+  pub at : end.at ≡ length file.bytes
   pub tail : ending_of end.tail ≡ ending file.bytes
 
--- the end was read, and nothing changed
-pub record HasFoundEnd (old new : FileState) (end : FileEnd) : Type 0 where
-  pub same : new ≡ old
+-- The end was read. Which bytes stand there, and how many of them are kept, is told anew.
+pub record HasMeasured (old new : FileState) (end : FileEnd) : Type 0 where
+  pub same : new ≡ record old { bytes = new.bytes; kept = new.kept }
   pub is_end : IsEnd new end
+  pub covered : new.kept ≤ length new.bytes
 
 -- the bytes stand after what was there
 pub record HasAppended (old new : FileState) (text : List ℕ) : Type 0 where
@@ -128,17 +134,3 @@ pub record HasNotCut (old new : FileState) : Type 0 where
   pub same : new ≡ record old { changes = new.changes; faults = new.faults }
   pub changed : Rises old.changes new.changes
   pub failed : Rises old.faults new.faults
-
--- of a file that tells nothing
-abbrev pub untold : FileState
-untold = record {
-  bytes = [];
-  kept = 0;
-  has_lock_file = false;
-  has_range_lock = false;
-  is_named = false;
-  refusals = 0;
-  unremoved = 0;
-  changes = 0;
-  faults = 0;
-}

@@ -8,11 +8,6 @@ pub record HasBothLocks (file : FileState) : Type 0 where
   pub lock_file : file.has_lock_file ≡ true
   pub range_lock : file.has_range_lock ≡ true
 
--- all of the open file is to be read
-pub record HasRewound (old new : FileState) (unread : Option (List ℕ)) : Type 0 where
-  pub same : new ≡ old
-  pub all : unread ≡ Some new.bytes
-
 -- it couldn't be read, and nothing else changed
 abbrev pub HasNotRead : FileState → FileState → Type 0
 HasNotRead old new = new ≡ record old { faults = new.faults }

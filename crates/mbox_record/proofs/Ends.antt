@@ -2,26 +2,26 @@
 use Rattle.std.proofs.Common.{◌≡◌, ℕ, zero, suc, ◌+◌, ◌<◌, arith, true, false, ◌==◌, List, [], ◌∷◌, ◌++◌, length, take, drop, sym, ap, ◌∙◌, refl, append_assoc}
 use Rattle.std.proofs.Common.{append-nil}
 use Rattle.std.specs.Prelude.{slice_index}
-use Rattle.std.proofs.lemmas.Bool.{or_parts, or_from, eqb-true, false≢true}
+use Rattle.std.proofs.lemmas.Bool.{false_from_ne_true, or_parts, or_from, eqb-true, false≢true}
 use Rattle.std.proofs.lemmas.List.{take_more, drop_more, take-append-drop, length-append, length-take}
 use Rattle.std.proofs.Math.Seq.{take-append_seam, drop-length, take-length}
 use Rattle.memchr.specs.Find.{Nowhere, NoneBefore, Passes, is_byte}
 use Rattle.mail_world.specs.Text.{cr, lf, has_byte, unix}
 use Rattle.mail_world.specs.Records.{quoted_text}
 use Rattle.mbox_record.specs.Quoted.{line_rest}
-use Rattle.mbox_record.proofs.Rests.{EndsPlainly, inside_line, not_true}
+use Rattle.mbox_record.proofs.Rests.{EndsPlainly, inside_line}
 
 -- what a search for LF says
 no_lf_before : (s : List ℕ) (k : ℕ) → ((j : ℕ) → j < k → ¬ ((slice_index s j == lf) ≡ true)) → has_byte (take k s) lf ≡ false
 no_lf_before s zero p = refl
 no_lf_before [] (suc k) p = refl
 no_lf_before (c ∷ s) (suc k) p =
-    rw (not_true (c == lf) (p 0 (omega arith))) (no_lf_before s k (λ j q. p (suc j) (omega arith)))
+    rw (false_from_ne_true (c == lf) (p 0 (omega arith))) (no_lf_before s k (λ j q. p (suc j) (omega arith)))
 
 no_lf_within : (s : List ℕ) → ((j : ℕ) → j < length s → ¬ ((slice_index s j == lf) ≡ true)) → has_byte s lf ≡ false
 no_lf_within [] p = refl
 no_lf_within (c ∷ s) p =
-    rw (not_true (c == lf) (p 0 (omega arith))) (no_lf_within s (λ j q. p (suc j) (omega arith)))
+    rw (false_from_ne_true (c == lf) (p 0 (omega arith))) (no_lf_within s (λ j q. p (suc j) (omega arith)))
 
 pub no_lf : (s : List ℕ) → Nowhere (Passes (is_byte 10) s) 0 (length s) → has_byte s lf ≡ false
 no_lf s none = no_lf_within s (λ j q. none j (omega arith) q)

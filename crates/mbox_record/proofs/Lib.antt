@@ -8,9 +8,6 @@ pub mod Ends
 pub mod Runs
 pub mod Pieces
 pub mod Onward
-pub mod Renamed
-pub mod Fields
-pub mod FieldEnds
 pub mod Written
 pub mod Wholes
 pub mod Bodies

@@ -2,25 +2,21 @@
 use Rattle.std.proofs.Common.{◌≡◌, ◌≢◌, ℕ, zero, suc, ◌+◌, ◌-◌, ◌<◌, take, drop, length, arith, Bool, true, false, ◌==◌, List, [], ◌∷◌, ◌++◌, sym, ap, ◌∙◌}
 use Rattle.std.proofs.Common.{refl, append_assoc}
 use Rattle.std.specs.Prelude.{slice_index}
-use Rattle.std.proofs.lemmas.Bool.{eqb-true}
+use Rattle.std.proofs.lemmas.Bool.{false_from_ne_true, eqb-true}
 use Rattle.std.proofs.lemmas.List.{take_more, take-append-drop}
 use Rattle.std.proofs.lemmas.Grind.{common_steps}
 use Rattle.memchr.specs.Find.{Nowhere, NoneBefore, Passes, is_byte}
 use Rattle.mail_world.specs.Text.{lf, has_byte}
 use Rattle.mbox_record.specs.Letters.{IsLineCut}
 
-not_true : (t : Bool) → ¬ (t ≡ true) → t ≡ false
-not_true true h = absurd (h refl)
-not_true false h = refl
-
 none_before : (text : List ℕ) (k : ℕ) → ((j : ℕ) → j < k → ¬ ((slice_index text j == lf) ≡ true)) → has_byte (take k text) lf ≡ false
 none_before text zero p = refl
 none_before [] (suc k) p = refl
-none_before (b ∷ text) (suc k) p = rw (not_true (b == lf) (p 0 (omega arith))) (none_before text k (λ j q. p (suc j) (omega arith)))
+none_before (b ∷ text) (suc k) p = rw (false_from_ne_true (b == lf) (p 0 (omega arith))) (none_before text k (λ j q. p (suc j) (omega arith)))
 
 none_within : (text : List ℕ) → ((j : ℕ) → j < length text → ¬ ((slice_index text j == lf) ≡ true)) → has_byte text lf ≡ false
 none_within [] p = refl
-none_within (b ∷ text) p = rw (not_true (b == lf) (p 0 (omega arith))) (none_within text (λ j q. p (suc j) (omega arith)))
+none_within (b ∷ text) p = rw (false_from_ne_true (b == lf) (p 0 (omega arith))) (none_within text (λ j q. p (suc j) (omega arith)))
 
 -- what stands after a place, as a slice gives it
 rest_is : (text : List ℕ) (k : ℕ) → take (length text - k) (drop k text) ≡ drop k text

@@ -2,7 +2,7 @@
 use Rattle.std.proofs.Common.{◌≡◌, ◌≢◌, ℕ, Bool, true, false, ◌&&◌, ◌==◌, List, [], ◌∷◌, ◌++◌, map, sym, ap, ◌∙◌, refl, inl, inr, append_assoc}
 use Rattle.std.specs.Prelude.{codes, if◌then◌else◌}
 use Rattle.std.specs.List.{onto_first}
-use Rattle.std.proofs.lemmas.Bool.{or_parts, eqb-true, cases_Bool}
+use Rattle.std.proofs.lemmas.Bool.{false_from_ne_true, or_parts, eqb-true, cases_Bool}
 use Rattle.mail_world.specs.Text.{cr, lf, has_byte, begins, unix, lines, with_lf}
 use Rattle.mail_world.specs.Records.{is_from_line, quoted, quoted_text}
 use Rattle.mail_world.proofs.Quoting.{quoted_more}
@@ -68,10 +68,6 @@ kept_by : (t : Bool) (u v : List ℕ) → (if t && false then u else v) ≡ v
 kept_by true u v = refl
 kept_by false u v = refl
 
-pub not_true : (t : Bool) → ¬ (t ≡ true) → t ≡ false
-not_true true h = absurd (h refl)
-not_true false h = refl
-
 -- the line's last byte isn't CR
 abbrev pub EndsPlainly : List ℕ → Type 0
 EndsPlainly line = (before : List ℕ) → line ≢ before ++ cr ∷ []
@@ -83,7 +79,7 @@ inside_line (b ∷ []) rest e free =
     let here = (or_parts (b == lf) false e).0 in
     elim (cases_Bool (begins lf rest)) [
       | inl before ↦
-          let other = not_true (b == cr) (λ t. free before [] (ap (λ (c : ℕ). c ∷ []) (eqb-true b cr t))) in
+          let other = false_from_ne_true (b == cr) (λ t. free before [] (ap (λ (c : ℕ). c ∷ []) (eqb-true b cr t))) in
           rw (other, here) refl
       | inr before ↦
           let same : unix (b ∷ rest) ≡ b ∷ unix rest = rw before (kept_by (b == cr) (unix rest) (b ∷ unix rest)) in

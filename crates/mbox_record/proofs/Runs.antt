@@ -1,12 +1,11 @@
 -- Lines that are written as they are.
 use Rattle.std.proofs.Common.{◌≡◌, ◌≢◌, ℕ, suc, ◌+◌, ◌<◌, ◌≤◌, arith, ◌==◌, List, [], ◌∷◌, ◌++◌, length, take, drop, slice_index_or, sym, ap, ◌∙◌, append-nil}
-use Rattle.std.proofs.lemmas.Bool.{eqb-true}
+use Rattle.std.proofs.lemmas.Bool.{false_from_ne_true, eqb-true}
 use Rattle.mail_world.specs.Text.{lf, unix}
 use Rattle.mail_world.specs.Records.{quoted_text}
 use Rattle.mbox_record.specs.declared.pending.Pending.TheVariants.{Start, Inside}
 use Rattle.mbox_record.specs.Quoted.{line_rest}
 use Rattle.mbox_record.specs.Steps.{IsWriterRun}
-use Rattle.mbox_record.proofs.Rests.{not_true}
 use Rattle.mbox_record.proofs.Words.{plain_first}
 use Rattle.mbox_record.proofs.Ends.{IsEndOfPiece}
 
@@ -17,7 +16,7 @@ plain_text : (piece rest : List ℕ) → 0 < length piece → slice_index_or pie
     → line_rest (unix (piece ++ rest)) ≡ quoted_text (unix (piece ++ rest))
 plain_text [] rest some p q = absurd (omega arith)
 plain_text (b ∷ piece) rest some p q =
-    plain_first b (piece ++ rest) (not_true (b == 62) (λ t. p (eqb-true b 62 t))) (not_true (70 == b) (λ t. q (sym (eqb-true 70 b t))))
+    plain_first b (piece ++ rest) (false_from_ne_true (b == 62) (λ t. p (eqb-true b 62 t))) (false_from_ne_true (70 == b) (λ t. q (sym (eqb-true 70 b t))))
 
 -- from a line's start, up to its LF
 pub run_at_start : (piece : List ℕ) (len n : ℕ) → IsEndOfPiece piece n → len ≤ n

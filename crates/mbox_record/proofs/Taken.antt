@@ -1,5 +1,5 @@
 -- Texts that a spool takes one after another.
-use Rattle.std.proofs.Common.{◌≡◌, ◌||◌, ℕ, ◌+◌, ◌-◌, ◌<◌, arith, List, ◌++◌, length, Option, Some, None, Result, Ok, Err, take, drop, get_or, sym, ap, ◌∙◌}
+use Rattle.std.proofs.Common.{◌≡◌, ◌||◌, ℕ, ◌+◌, ◌-◌, ◌<◌, arith, Bool, List, ◌++◌, length, Option, Some, None, Result, Ok, Err, take, drop, get_or, sym, ap, ◌∙◌}
 use Rattle.std.proofs.Common.{subst, append_assoc}
 use Rattle.std.proofs.lemmas.List.{take-append-drop, take_rest, drop_more, length-append}
 use Rattle.std.proofs.lemmas.List.Concat.{flat_map-append}
@@ -9,7 +9,9 @@ use Rattle.std.specs.Io.KnownBytes.{Appends}
 use Rattle.mail_world.specs.Counts.{counted}
 use Rattle.mail_world.specs.Failures.{Rises}
 use Rattle.mbox_record.specs.Sharing.{Sharing}
-use Rattle.mbox_record.specs.Spool.{SpoolState, SpoolTook, SpoolFailed, IsSameTurn, FailsTurn, Grows}
+use Rattle.mail_world.specs.Turns.{Standing}
+use Rattle.mbox_record.specs.Sharing.{lock_of}
+use Rattle.mbox_record.specs.Spool.{SpoolState, SpoolTook, SpoolFailed, LeavesPart, StaysCovered, IsSameTurn, FailsTurn, Grows}
 
 pub Appends-then : (u v w : Option (List ℕ)) (a b : List ℕ) → Appends u v a → Appends v w b → Appends u w (a ++ b)
 Appends-then None v w a b x y = tt
@@ -61,34 +63,69 @@ SpoolTook-then s t u a b x y = record {
   turn = IsSameTurn-then s.sharing t.sharing u.sharing x.turn y.turn;
 }
 
--- a failure in the first text, in the second
-pub SpoolFailed-first : (s t : SpoolState) (a b : List ℕ) → SpoolFailed s t a → SpoolFailed s t (a ++ b)
-SpoolFailed-first s t a b x = record {
+-- what is left of a text is left of a longer one
+LeavesPart-first : (lock : Option Standing) (u v : Option (List ℕ)) (a b : List ℕ) → LeavesPart lock u v a → LeavesPart lock u v (a ++ b)
+LeavesPart-first None u v a b x = record {
   prefix = x.prefix;
   rest = x.rest ++ b;
   whole = ap (λ (w : List ℕ). w ++ b) x.whole ∙ append_assoc x.prefix x.rest b;
   appended = x.appended;
+}
+LeavesPart-first (Some lock) None v a b x = tt
+LeavesPart-first (Some lock) (Some held) None a b x = absurd x
+LeavesPart-first (Some lock) (Some held) (Some left) a b x = record {
+  above = x.above;
+  below = record {
+    rest = x.below.rest ++ b;
+    whole = sym (append_assoc held a b) ∙ ap (λ (w : List ℕ). w ++ b) x.below.whole ∙ append_assoc left x.below.rest b;
+  };
+}
+
+-- and what is left of a text that followed another, of both
+LeavesPart-later : (lock : Option Standing) (u v w : Option (List ℕ)) (a b : List ℕ) → Appends u v a → LeavesPart lock v w b
+    → LeavesPart lock u w (a ++ b)
+LeavesPart-later None u v w a b x y = record {
+  prefix = a ++ y.prefix;
+  rest = y.rest;
+  whole = ap (λ (t : List ℕ). a ++ t) y.whole ∙ sym (append_assoc a y.prefix y.rest);
+  appended = Appends-then u v w a y.prefix x y.appended;
+}
+LeavesPart-later (Some lock) None v w a b x y = tt
+LeavesPart-later (Some lock) (Some held) None w a b x y = absurd x
+LeavesPart-later (Some lock) (Some held) (Some now) None a b x y = absurd y
+LeavesPart-later (Some lock) (Some held) (Some now) (Some left) a b x y = record {
+  above = y.above;
+  below = record {
+    rest = y.below.rest;
+    whole = sym (append_assoc held a b) ∙ ap (λ (t : List ℕ). t ++ b) (sym x) ∙ y.below.whole;
+  };
+}
+
+-- a failure in the first text, in the second
+pub SpoolFailed-first : (s t : SpoolState) (a b : List ℕ) → SpoolFailed s t a → SpoolFailed s t (a ++ b)
+SpoolFailed-first s t a b x = record {
+  left = LeavesPart-first (lock_of s.sharing) s.bytes t.bytes a b x.left;
   failed = x.failed;
   limited = x.limited;
   covered = x.covered;
-  grown = x.grown;
   full = x.full;
   turn = x.turn;
 }
 
 pub SpoolFailed-later : (s t u : SpoolState) (a b : List ℕ) → SpoolTook s t a → SpoolFailed t u b → SpoolFailed s u (a ++ b)
-SpoolFailed-later s t u a b x y = record {
-  prefix = a ++ y.prefix;
-  rest = y.rest;
-  whole = ap (λ (w : List ℕ). a ++ w) y.whole ∙ sym (append_assoc a y.prefix y.rest);
-  appended = Appends-then s.bytes t.bytes u.bytes a y.prefix x.appended y.appended;
-  failed = let P : ℕ → Type 0 = λ n. Rises n u.failures in subst P x.sound y.failed;
-  limited = y.limited ∙ x.limited;
-  covered = y.covered ∙ x.covered;
-  grown = Grows-then s.held t.held u.held a y.prefix x.grown y.grown;
-  full = y.full;
-  turn = FailsTurn-then s.sharing t.sharing u.sharing x.turn y.turn;
-}
+SpoolFailed-later s t u a b x y =
+    let same : lock_of t.sharing ≡ lock_of s.sharing = ap lock_of x.turn in
+    let L : Option Standing → Type 0 = λ lock. LeavesPart lock t.bytes u.bytes b in
+    let C : Bool → ℕ → Type 0 = λ is_shared n. StaysCovered is_shared n u.synced in
+    record {
+      left = LeavesPart-later (lock_of s.sharing) s.bytes t.bytes u.bytes a b x.appended (subst L same y.left);
+      failed = let P : ℕ → Type 0 = λ n. Rises n u.failures in subst P x.sound y.failed;
+      limited = y.limited ∙ x.limited;
+      covered = subst (λ is_shared. C is_shared s.synced) (ap (λ (v : Sharing). v.is_shared) x.turn)
+          (subst (C t.sharing.is_shared) x.covered y.covered);
+      full = y.full;
+      turn = FailsTurn-then s.sharing t.sharing u.sharing x.turn y.turn;
+    }
 
 -- the spool took the text up to the rest
 pub record TakesUpTo (old new : SpoolState) (text rest : List ℕ) : Type 0 where

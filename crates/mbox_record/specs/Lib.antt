@@ -7,8 +7,6 @@ pub mod CountSpool
 pub mod Mending
 pub mod Parts
 pub mod Quoted
-pub mod Marking
-pub mod Marked
 pub mod Writing
 pub mod Steps
 pub mod Letters

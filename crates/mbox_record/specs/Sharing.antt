@@ -1,5 +1,5 @@
 -- Whose a spool is, and the turns at one that other programs read and empty too.
-use Rattle.std.specs.Prelude.{ℕ, Bool, false, List, [], ◌∷◌, Option, Some, None}
+use Rattle.std.specs.Prelude.{ℕ, Bool, false, ◌||◌, ◌&&◌, not, if◌then◌else◌, List, [], ◌∷◌, Option, Some, None}
 use Rattle.mail_world.specs.Turns.{Standing, Turn, NotHad, Had}
 
 pub record Sharing : Type 0 where
@@ -28,6 +28,14 @@ unshared is_unsynced = record {
   began = None;
   turns = [];
 }
+
+-- how a shared one stood at this turn's lock, where it tells that
+abbrev pub lock_of : Sharing → Option Standing
+lock_of sharing = if sharing.is_shared then sharing.began else None
+
+-- it knows how it ends: nobody else changes it, and, of a shared one, no call failed in this turn
+abbrev pub knows_end : Sharing → Bool
+knows_end sharing = not sharing.is_shared || (sharing.in_turn && not sharing.has_failed)
 
 -- the turn that is over, of a spool that tells its bytes
 abbrev pub had : Option Standing → Option Standing → List Turn

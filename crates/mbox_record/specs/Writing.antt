@@ -3,8 +3,8 @@ use Rattle.std.specs.Prelude.{◌≡◌, ℕ, List, ◌++◌}
 use Rattle.mail_world.specs.Prefixes.{IsPrefix}
 use Rattle.mbox_record.specs.Spool.{SpoolState, SpoolTook, SpoolFailed}
 use Rattle.mbox_record.specs.Quoted.{Pending, quoted_owed}
-use Rattle.mbox_record.specs.Marking.{Place, marks_owed}
-use Rattle.mbox_record.specs.Marked.{MayBeHeld}
+use Rattle.mbox_marks.specs.Marking.{Place, marks_owed}
+use Rattle.mbox_marks.specs.Marked.{MayBeHeld}
 
 -- The spool took a text, and what was owed before, whatever the rest is, is that text and what is owed after it.
 pub record Writes (old new : SpoolState) (before after : List ℕ → List ℕ) : Type 0 where

@@ -6,7 +6,7 @@ ghost use Rattle.mail_world.specs.Counts.{counted};
 ghost use Rattle.mbox_record.specs.Spool.{SpoolTook, SpoolFailed, HasSynced, HasNotSynced};
 ghost use Rattle.mail_world.specs.Endings.{ending};
 ghost use Rattle.mbox_record.specs.Tail.{ending_of};
-ghost use Rattle.mbox_record.specs.Sharing.{unshared};
+ghost use Rattle.mbox_record.specs.Sharing.{knows_end, unshared};
 
 use crate::spool::{InUse, Spool, SpoolFault};
 use crate::tail::{Tail, tail_of};
@@ -152,7 +152,8 @@ impl Spool for MemorySpool {
         ensures exact { ending_of result ≡ ending self.now.bytes }
 
         // what every spool ensures
-        ensures known { IfSome (⟦<MemorySpool as Spool>⟧.state self.now).bytes (λ held. ending_of result ≡ ending held) }
+        ensures known { knows_end (⟦<MemorySpool as Spool>⟧.state self.now).sharing ≡ true
+            → IfSome (⟦<MemorySpool as Spool>⟧.state self.now).bytes (λ held. ending_of result ≡ ending held) }
     {
         tail_of(&self.bytes)
     }
@@ -161,8 +162,8 @@ impl Spool for MemorySpool {
         ensures exact { result ≡ counted (length self.now.bytes) }
 
         // what every spool ensures
-        ensures known { IfSome (⟦<MemorySpool as Spool>⟧.state self.now).bytes
-            (λ held. result ≡ counted (length held)) }
+        ensures known { knows_end (⟦<MemorySpool as Spool>⟧.state self.now).sharing ≡ true
+            → IfSome (⟦<MemorySpool as Spool>⟧.state self.now).bytes (λ held. result ≡ counted (length held)) }
     {
         self.bytes.len() as u64
     }

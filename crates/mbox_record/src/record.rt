@@ -7,17 +7,16 @@ ghost use Rattle.lmtp_text.specs.Calendar.{civil_at};
 ghost use Rattle.mbox_record.specs.Envelope.{head_text};
 ghost use Rattle.mbox_record.specs.Spool.{SpoolTook, SpoolFailed};
 ghost use Rattle.mbox_record.specs.Quoted.{quoted_owed};
-ghost use Rattle.mbox_record.specs.Marking.{marks_owed};
+ghost use Rattle.mbox_marks.specs.Marking.{marks_owed};
 ghost use Rattle.mbox_record.specs.Writing.{bytes_owed, Writes, Fails, WritesPiece, FailsPiece};
-ghost use Rattle.mbox_record.specs.declared.marking.Place.TheVariants.{Line, Body};
+ghost use Rattle.mbox_marks.specs.declared.marking.Place.TheVariants.{Line, Body};
 
 use crate::envelope::Envelope;
 use crate::head::write_head;
-use crate::held::Held;
-use crate::marking::{Place, WAS, find_mark};
 use crate::quoted::QuotedText;
 use crate::spool::{Spool, SpoolFault};
 use lmtp_text::Site;
+use mbox_marks::{Held, Place, WAS, find_mark};
 use std::marker::Model;
 
 /// Writes the record of a message that comes in pieces. Of the message it holds back 15 bytes at most: a CR, a prefix

@@ -6,6 +6,7 @@ ghost use Rattle.mbox_record.specs.Spool.{SpoolState, SpoolTook, SpoolFailed, Ha
 ghost use Rattle.mail_world.specs.Endings.{ending};
 ghost use Rattle.mbox_record.specs.Tail.{ending_of};
 ghost use Rattle.mbox_record.specs.Spool.{AsksForTurn, EndsTurn};
+ghost use Rattle.mbox_record.specs.Sharing.{knows_end};
 
 use crate::tail::Tail;
 use thiserror::Error;
@@ -72,12 +73,14 @@ pub trait Spool {
         ensures outside { (state self.old).sharing.is_shared ≡ true → (state self.old).sharing.in_turn ≡ false
             → IsErr result };
 
-    /// How its bytes end.
+    /// How its bytes end, while others can't change them and no call failed since they could.
     fn tail(&self) -> Tail
-        ensures { IfSome (state self.now).bytes (λ held. ending_of result ≡ ending held) };
+        ensures { knows_end (state self.now).sharing ≡ true
+            → IfSome (state self.now).bytes (λ held. ending_of result ≡ ending held) };
 
-    /// How many bytes it holds. The count stays at 2^64 - 1.
+    /// How many bytes it holds, as far as it knows how it ends. The count stays at 2^64 - 1.
     fn held(&self) -> u64
         ensures exact { result ≡ counted (state self.now).held }
-        ensures known { IfSome (state self.now).bytes (λ held. result ≡ counted (length held)) };
+        ensures known { knows_end (state self.now).sharing ≡ true
+            → IfSome (state self.now).bytes (λ held. result ≡ counted (length held)) };
 }

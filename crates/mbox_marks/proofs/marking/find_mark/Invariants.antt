@@ -1,7 +1,7 @@
 use Rattle.std.proofs.Common.{◌+◌, ◌-◌, ◌*◌, length}
-use Rattle.mbox_record.specs.Marked.{place_weight}
-use Rattle.mbox_record.proofs.FieldEnds.{HasGone}
-use Rattle.mbox_record.proofs.marking.find_mark.Given as goal
+use Rattle.mbox_marks.specs.Marked.{place_weight}
+use Rattle.mbox_marks.proofs.FieldEnds.{HasGone}
+use Rattle.mbox_marks.proofs.marking.find_mark.Given as goal
 
 abbrev pub invariant-loop-at : goal.invariant-loop-at
 invariant-loop-at l = HasGone l.fn.place l.bytes l.at l.place

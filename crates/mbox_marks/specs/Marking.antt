@@ -3,8 +3,8 @@ use Rattle.std.specs.Prelude.{ℕ, Bool, true, false, not, ◌&&◌, ◌||◌, �
 use Rattle.std.specs.List.{list_all}
 use Rattle.mail_world.specs.Text.{cr, lf, begins}
 use Rattle.mail_world.specs.Marks.{ends_field, was, is_mark}
-use Rattle.mbox_record.specs.declared.marking.Place.{Place as Declared}
-use Rattle.mbox_record.specs.declared.marking.Place.TheVariants.{Line, Field, Inside, Body}
+use Rattle.mbox_marks.specs.declared.marking.Place.{Place as Declared}
+use Rattle.mbox_marks.specs.declared.marking.Place.TheVariants.{Line, Field, Inside, Body}
 
 -- where in the message a writer stands
 abbrev pub Place : Type 0

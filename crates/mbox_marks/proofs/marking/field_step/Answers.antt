@@ -1,8 +1,8 @@
 use Rattle.std.proofs.Common.{drop}
 use Rattle.mail_world.specs.Marks.{was}
 use Rattle.mail_world.proofs.Places.{begins_with-prefix}
-use Rattle.mbox_record.proofs.Fields.{goes_mark, goes_was, goes_begun, goes_other}
-use Rattle.mbox_record.proofs.marking.field_step.Goals as goal
+use Rattle.mbox_marks.proofs.Fields.{goes_mark, goes_was, goes_begun, goes_other}
+use Rattle.mbox_marks.proofs.marking.field_step.Goals as goal
 
 pub returns-in-Mark : goal.returns-in-Mark
 returns-in-Mark c = goes_mark c.args.bytes.now c.requires.some c.in-Mark.ensures

@@ -9,12 +9,12 @@ use Rattle.std.specs.Char.{to_ascii_lowercase}
 use Rattle.mail_world.specs.Text.{cr, has_byte, begins_with}
 use Rattle.mail_world.specs.Marks.{ends_field, was, has_name, is_named, is_mark}
 use Rattle.mail_world.proofs.Marks.{at_end}
-use Rattle.mbox_record.specs.declared.marking.Place.TheVariants.{Line, Field, Inside, Body}
-use Rattle.mbox_record.specs.declared.marking.Step.{Step}
-use Rattle.mbox_record.specs.declared.marking.Step.TheVariants as steps
-use Rattle.mbox_record.specs.Marking.{is_empty_line, renamed_from, is_unended}
-use Rattle.mbox_record.specs.Marked.{is_plain_name, Tells, either, GoesOn, BeginsMark, MayBeHeld, IsStep}
-use Rattle.mbox_record.proofs.Renamed.{unended_stays, after_was, line_first, head_ends}
+use Rattle.mbox_marks.specs.declared.marking.Place.TheVariants.{Line, Field, Inside, Body}
+use Rattle.mbox_marks.specs.declared.marking.Step.{Step}
+use Rattle.mbox_marks.specs.declared.marking.Step.TheVariants as steps
+use Rattle.mbox_marks.specs.Marking.{is_empty_line, renamed_from, is_unended}
+use Rattle.mbox_marks.specs.Marked.{is_plain_name, Tells, either, GoesOn, BeginsMark, MayBeHeld, IsStep}
+use Rattle.mbox_marks.proofs.Renamed.{unended_stays, after_was, line_first, head_ends}
 
 -- ---- tests that may not be told yet
 

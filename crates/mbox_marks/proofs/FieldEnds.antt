@@ -2,26 +2,26 @@
 use Rattle.std.proofs.Common.{◌≡◌, ℕ, zero, suc, ◌+◌, ◌<◌, ◌≤◌, arith, Bool, true, false, cond, ◌==◌, List, [], ◌∷◌, ◌++◌, length, take, drop, sym, ap, ◌∙◌, refl, append_assoc}
 use Rattle.std.proofs.Common.{subst, ◌-◌, ◌*◌, true≢false}
 use Rattle.std.specs.Prelude.{slice_index}
+use Rattle.std.proofs.lemmas.Bool.{false_from_ne_true}
 use Rattle.std.proofs.lemmas.List.{take_more, take-append-drop, length-drop, drop-drop}
 use Rattle.std.proofs.Math.Seq.{drop-length, take-length, take-add}
 use Rattle.memchr.specs.Find.{Nowhere, NoneBefore, Passes, is_byte2}
 use Rattle.mail_world.specs.Text.{lf}
 use Rattle.mail_world.specs.Marks.{ends_field}
-use Rattle.mbox_record.specs.declared.marking.Place.TheVariants.{Line, Field, Inside, Body}
-use Rattle.mbox_record.specs.Marking.{Place, renamed_from, marks_owed, is_unended}
-use Rattle.mbox_record.specs.Marked.{GoesOn, BeginsMark, MayBeHeld, FindsMark, place_weight}
-use Rattle.mbox_record.proofs.Rests.{not_true}
-use Rattle.mbox_record.proofs.Renamed.{unended_run, place_rest, field_ends}
+use Rattle.mbox_marks.specs.declared.marking.Place.TheVariants.{Line, Field, Inside, Body}
+use Rattle.mbox_marks.specs.Marking.{Place, renamed_from, marks_owed, is_unended}
+use Rattle.mbox_marks.specs.Marked.{GoesOn, BeginsMark, MayBeHeld, FindsMark, place_weight}
+use Rattle.mbox_marks.proofs.Renamed.{unended_run, place_rest, field_ends}
 
 unended_before : (s : List ℕ) (k : ℕ) → ((j : ℕ) → j < k → ¬ (ends_field (slice_index s j) ≡ true)) → is_unended (take k s) ≡ true
 unended_before s zero p = refl
 unended_before [] (suc k) p = refl
 unended_before (c ∷ s) (suc k) p =
-    rw (not_true (ends_field c) (p 0 (omega arith))) (unended_before s k (λ j q. p (suc j) (omega arith)))
+    rw (false_from_ne_true (ends_field c) (p 0 (omega arith))) (unended_before s k (λ j q. p (suc j) (omega arith)))
 
 unended_within : (s : List ℕ) → ((j : ℕ) → j < length s → ¬ (ends_field (slice_index s j) ≡ true)) → is_unended s ≡ true
 unended_within [] p = refl
-unended_within (c ∷ s) p = rw (not_true (ends_field c) (p 0 (omega arith))) (unended_within s (λ j q. p (suc j) (omega arith)))
+unended_within (c ∷ s) p = rw (false_from_ne_true (ends_field c) (p 0 (omega arith))) (unended_within s (λ j q. p (suc j) (omega arith)))
 
 -- up to the end
 run_ends : (run : List ℕ) (b : ℕ) (rest : List ℕ) → is_unended run ≡ true → ends_field b ≡ true

@@ -3,12 +3,12 @@ ghost use Rattle.std.specs.Prelude.{◌≡◌, ◌≤◌, ◌<◌, ◌==◌, ◌
 
 use std::marker::Model;
 
-// As many as the longest name of a mark has, and the byte after it.
-pub(crate) const HELD_LIMIT: usize = 15;
+/// As many as the longest name of a mark has, and the byte after it.
+pub const HELD_LIMIT: usize = 15;
 
-// Bytes at the beginning of a field, or a CR at that of a line.
+/// Bytes at the beginning of a field, or a CR at that of a line.
 #[derive(Debug, Drop)]
-pub(crate) struct Held {
+pub struct Held {
     bytes: [u8; HELD_LIMIT],
     len: usize,
 }
@@ -24,7 +24,8 @@ impl Model for Held {
 }
 
 impl Held {
-    pub(crate) fn of(bytes: &[u8]) -> Held
+    /// These bytes.
+    pub fn of(bytes: &[u8]) -> Held
         requires { length bytes.now ≤ 15 }
         ensures { result ≡ bytes.now }
     {
@@ -36,8 +37,8 @@ impl Held {
         }
     }
 
-    // With one byte more.
-    pub(crate) fn with(&self, byte: u8) -> Held
+    /// With one byte more.
+    pub fn with(&self, byte: u8) -> Held
         requires { length self.now < 15 }
         ensures { result ≡ self.now ++ byte ∷ [] }
     {
@@ -49,13 +50,15 @@ impl Held {
         }
     }
 
-    pub(crate) fn is_empty(&self) -> bool
+    /// Whether none is held back.
+    pub fn is_empty(&self) -> bool
         ensures { result ≡ (length self.now == 0) }
     {
         self.len == 0
     }
 
-    pub(crate) fn as_slice(&self) -> &[u8]
+    /// All that are held back, in their order.
+    pub fn as_slice(&self) -> &[u8]
         ensures { result.now ≡ self.now }
     {
         &self.bytes[..self.len]

@@ -1,5 +1,5 @@
-use Rattle.mbox_record.proofs.FieldEnds.{inside_found, inside_on}
-use Rattle.mbox_record.proofs.marking.inside_step.Goals as goal
+use Rattle.mbox_marks.proofs.FieldEnds.{inside_found, inside_on}
+use Rattle.mbox_marks.proofs.marking.inside_step.Goals as goal
 
 pub returns-in-Some : goal.returns-in-Some
 returns-in-Some c =

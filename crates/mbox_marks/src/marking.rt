@@ -5,25 +5,25 @@ ghost use Rattle.std.specs.List.{list_all};
 ghost use Rattle.std.specs.Char.{to_ascii_lowercase};
 ghost use Rattle.mail_world.specs.Marks.{has_name, is_named, was};
 ghost use Rattle.mail_world.specs.Text.{cr, lf, has_byte, begins_with};
-ghost use Rattle.mbox_record.specs.Marking.{is_empty_line};
-ghost use Rattle.mbox_record.specs.Marked.{Tells, either, IsStart, IsStep, FindsMark, is_plain_name};
-ghost use Rattle.mbox_record.specs.declared.marking.Place.TheVariants.{Line, Field, Inside};
+ghost use Rattle.mbox_marks.specs.Marking.{is_empty_line};
+ghost use Rattle.mbox_marks.specs.Marked.{Tells, either, IsStart, IsStep, FindsMark, is_plain_name};
+ghost use Rattle.mbox_marks.specs.declared.marking.Place.TheVariants.{Line, Field, Inside};
 
 use memchr::memchr2;
 
-// What a mark is renamed by.
-pub(crate) const WAS: &[u8] = b"X-Was-";
+/// What a mark is renamed by.
+pub const WAS: &[u8] = b"X-Was-";
 
-// Where in the message a writer stands.
+/// Where in the message a writer stands.
 #[derive(Clone, Copy, Debug)]
-pub(crate) enum Place {
-    // At the beginning of a line of the head.
+pub enum Place {
+    /// At the beginning of a line of the head.
     Line,
-    // At the beginning of a field within a line, after a CR or after `X-Was-`.
+    /// At the beginning of a field within a line, after a CR or after `X-Was-`.
     Field,
-    // Within a field.
+    /// Within a field.
     Inside,
-    // Past the head, or in a message whose marks stay.
+    /// Past the head, or in a message whose marks stay.
     Body,
 }
 
@@ -51,16 +51,16 @@ enum Step {
     Held,
 }
 
-// The first `at` bytes of a piece stay as they are. Either a mark stands there, or all bytes after these are held back.
+/// The first `at` bytes of a piece stay as they are. Either a mark stands there, or all bytes after these are held back.
 #[derive(Clone, Copy)]
-pub(crate) struct Found {
-    pub(crate) at: usize,
-    pub(crate) place: Place,
-    pub(crate) is_mark: bool,
+pub struct Found {
+    pub at: usize,
+    pub place: Place,
+    pub is_mark: bool,
 }
 
-// Finds the first mark of a piece of the message.
-pub(crate) fn find_mark(place: Place, bytes: &[u8]) -> Found
+/// Finds the first mark of a piece of the message that begins at that place.
+pub fn find_mark(place: Place, bytes: &[u8]) -> Found
     ensures { FindsMark place bytes.now result }
 {
     let mut at = 0;

@@ -5,13 +5,13 @@ use Rattle.std.specs.List.{list_all}
 use Rattle.std.specs.Char.{to_ascii_lowercase}
 use Rattle.mail_world.specs.Text.{begins_with}
 use Rattle.mail_world.specs.Marks.{ends_field, was, is_mark}
-use Rattle.mbox_record.specs.declared.marking.Place.TheVariants.{Line, Field, Inside, Body}
-use Rattle.mbox_record.specs.declared.marking.Start.{Start}
-use Rattle.mbox_record.specs.declared.marking.Start.TheVariants as starts
-use Rattle.mbox_record.specs.declared.marking.Step.{Step}
-use Rattle.mbox_record.specs.declared.marking.Step.TheVariants as steps
-use Rattle.mbox_record.specs.declared.marking.Found.{Found}
-use Rattle.mbox_record.specs.Marking.{Place, marks_owed, is_unended}
+use Rattle.mbox_marks.specs.declared.marking.Place.TheVariants.{Line, Field, Inside, Body}
+use Rattle.mbox_marks.specs.declared.marking.Start.{Start}
+use Rattle.mbox_marks.specs.declared.marking.Start.TheVariants as starts
+use Rattle.mbox_marks.specs.declared.marking.Step.{Step}
+use Rattle.mbox_marks.specs.declared.marking.Step.TheVariants as steps
+use Rattle.mbox_marks.specs.declared.marking.Found.{Found}
+use Rattle.mbox_marks.specs.Marking.{Place, marks_owed, is_unended}
 
 -- no field ends within the name, whatever the case of its letters
 abbrev pub is_plain_name : List ℕ → Bool

@@ -2,9 +2,9 @@ use Rattle.std.proofs.Common.{◌≡◌, ℕ, Bool, false, List, [], ◌∷◌, 
 use Rattle.std.specs.Prelude.{codes}
 use Rattle.std.specs.List.{list_any}
 use Rattle.mail_world.specs.Marks.{has_name}
-use Rattle.mbox_record.specs.Marked.{Tells, either}
-use Rattle.mbox_record.proofs.Fields.{either_tells}
-use Rattle.mbox_record.proofs.marking.is_named.Goals as goal
+use Rattle.mbox_marks.specs.Marked.{Tells, either}
+use Rattle.mbox_marks.proofs.Fields.{either_tells}
+use Rattle.mbox_marks.proofs.marking.is_named.Goals as goal
 
 -- one more name
 more : (a b r : Option Bool) (bytes name : List ℕ) (names : List (List ℕ)) → r ≡ either a b → Tells a bytes (has_name name)

@@ -1,8 +1,8 @@
 use Rattle.std.proofs.Common.{ℕ, List, subst}
 use Rattle.std.proofs.lemmas.List.{take_rest}
-use Rattle.mbox_record.specs.Marked.{GoesOn}
-use Rattle.mbox_record.proofs.FieldEnds.{HasGone-on}
-use Rattle.mbox_record.proofs.marking.find_mark.Goals as goal
+use Rattle.mbox_marks.specs.Marked.{GoesOn}
+use Rattle.mbox_marks.proofs.FieldEnds.{HasGone-on}
+use Rattle.mbox_marks.proofs.marking.find_mark.Goals as goal
 
 pub loop-at-preserved : goal.loop-at-preserved
 loop-at-preserved c =

@@ -5,8 +5,8 @@ use Rattle.std.proofs.lemmas.Bool.{cases_Bool, eqb-true, or_parts, and_parts, no
 use Rattle.mail_world.specs.Text.{cr, lf, begins, unix}
 use Rattle.mail_world.specs.Marks.{ends_field, was, is_mark, marked}
 use Rattle.mail_world.proofs.Marks.{at_end, first_part, same_mark, is_mark-was, marked_from, marked_bytes}
-use Rattle.mbox_record.specs.declared.marking.Place.TheVariants.{Line, Field, Body}
-use Rattle.mbox_record.specs.Marking.{is_empty_line, renamed_from, marks_owed, is_unended}
+use Rattle.mbox_marks.specs.declared.marking.Place.TheVariants.{Line, Field, Body}
+use Rattle.mbox_marks.specs.Marking.{is_empty_line, renamed_from, marks_owed, is_unended}
 
 and_false : (t : Bool) → (t && false) ≡ false
 and_false true = refl

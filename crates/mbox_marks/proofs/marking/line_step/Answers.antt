@@ -1,5 +1,5 @@
-use Rattle.mbox_record.proofs.Fields.{line_as_field}
-use Rattle.mbox_record.proofs.marking.line_step.Goals as goal
+use Rattle.mbox_marks.proofs.Fields.{line_as_field}
+use Rattle.mbox_marks.proofs.marking.line_step.Goals as goal
 
 pub returns-in-Some-false : goal.returns-in-Some-false
 returns-in-Some-false c =

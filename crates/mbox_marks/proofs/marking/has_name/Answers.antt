@@ -1,6 +1,6 @@
 use Rattle.std.proofs.Common.{arith}
-use Rattle.mbox_record.proofs.Fields.{name_begun}
-use Rattle.mbox_record.proofs.marking.has_name.Goals as goal
+use Rattle.mbox_marks.proofs.Fields.{name_begun}
+use Rattle.mbox_marks.proofs.marking.has_name.Goals as goal
 
 pub returns : goal.returns
 returns c =

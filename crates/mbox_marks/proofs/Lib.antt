@@ -1,0 +1,3 @@
+pub mod Renamed
+pub mod Fields
+pub mod FieldEnds
