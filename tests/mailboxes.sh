@@ -19,7 +19,7 @@ import time
 
 from cases import compare, none_failed
 
-TEST = pathlib.Path("crates/mbox_record/src/reading/tests.rt.in")
+TEST = pathlib.Path("crates/mbox_letters/src/reading/tests.rt.in")
 DATE = b"Thu Jan  1 00:00:00 1970"
 BOXES = ["anna", "ben"]
 # the sender, the recipients, and the message in lines without their ends

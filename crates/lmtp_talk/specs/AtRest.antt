@@ -1,6 +1,6 @@
--- Which lines of a client at rest end the conversation of a server that is to stop, which answers them with 421 in place
--- of their own reply (RFC 5321, 3.8: that reply may come after any command). A line counts once its CRLF is there, and
--- by its verb alone, whatever follows that.
+-- Which lines of a client at rest end the conversation of a server that is to stop, which answers them with 421 in
+-- place of their own reply (RFC 5321, 3.8: that reply may come after any command). A line counts once its CRLF is
+-- there, and by its verb alone, whatever follows that.
 use Rattle.std.specs.Prelude.{Bool, false, ◌&&◌, ◌||◌, ◌==◌, ℕ, List, Option, Some, None, codes}
 use Rattle.std.specs.List.{before_first}
 use Rattle.mail_world.specs.Text.{space}

@@ -42,7 +42,8 @@ WaitedFor remaining old new Waited.Came = (0 < length (waiting new.buffer))
 WaitedFor remaining old new Waited.End = HasBrought (tcp_state remaining old) (tcp_state remaining new) [] End
 WaitedFor remaining old new _ = HasTransferred (tcp_state remaining old) (tcp_state remaining new) [] []
 
--- the server's end was asked for, and what waits begins with a line that ends the conversation of a client who stands so
+-- the server's end was asked for, and what waits begins with a line that ends the conversation of a client who stands
+-- so
 abbrev pub EndsAtRest : {T E : Type 0} → (E → Type 0) → Pause → TcpPeer T E → TcpPeer T E → Type 0
 EndsAtRest IsAsked pause old new = IsAsked (arc_value old.curfew)
     × (ends_at_rest pause old.had_mail (waiting new.buffer) ≡ true)

@@ -166,8 +166,8 @@ fn tally_of(text: &[u8], offered: Extensions) -> Tally
     tally
 }
 
-/// Whether SMTPUTF8 is among the text's parameters, where MAIL may have them; else Parameter where a keyword is unknown,
-/// Arguments where a value is wrong or a keyword stands twice, TooLarge where the size is above the limit.
+/// Whether SMTPUTF8 is among the text's parameters, where MAIL may have them; else Parameter where a keyword is
+/// unknown, Arguments where a value is wrong or a keyword stands twice, TooLarge where the size is above the limit.
 pub(crate) fn read_mail_parameters(text: &[u8], offered: Extensions) -> Result<bool, BadCommand>
     ensures { (sender : List ℕ) → mail_answer sender result ≡ m.mail_with offered sender (m.parameters text.now) }
 {

@@ -13,9 +13,9 @@ pub data Part : Type 0 where
   Fro : Part
   From : Part
 
--- How bytes end: there are none; with a part of `From ` where a letter may begin, which is at the start or after an empty
--- line; within a From line, which has room for that many bytes more, and of which that is missing; in any other line;
--- with the end of a line; with an empty line.
+-- How bytes end: there are none; with a part of `From ` where a letter may begin, which is at the start or after an
+-- empty line; within a From line, which has room for that many bytes more, and of which that is missing; in any other
+-- line; with the end of a line; with an empty line.
 pub data Ending : Type 0 where
   Empty : Ending
   Begun : Part → Ending

@@ -1,5 +1,5 @@
--- The grammar of paths (RFC 5321, 4.1.2; with `utf8` that of RFC 6531, 3.3): which mailboxes there are, and how they are
--- spelled.
+-- The grammar of paths (RFC 5321, 4.1.2; with `utf8` that of RFC 6531, 3.3): which mailboxes there are, and how they
+-- are spelled.
 use Rattle.std.specs.Prelude.{◌≡◌, ◌⊎◌, ⊤, ℕ, ◌<◌, ◌≤◌, Bool, true, false, not, ◌&&◌, ◌||◌, ◌==◌, nat_le, List, [], ◌∷◌}
 use Rattle.std.specs.Prelude.{◌++◌, length, map, Option, Some, None, codes}
 use Rattle.std.specs.List.{list_all, join_with_byte, AllByRecursion}

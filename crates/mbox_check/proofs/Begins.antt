@@ -5,8 +5,8 @@ use Rattle.std.specs.Prelude.{codes}
 use Rattle.mail_world.specs.Text.{lf, IsOneLine}
 use Rattle.mail_world.specs.Reading.{Letter, AreLetters, written}
 use Rattle.mail_world.proofs.OneLine.{literal}
-use Rattle.mbox_record.specs.Letters.{is_boundary}
-use Rattle.mbox_record.proofs.Bodies.{begins_from}
+use Rattle.mbox_letters.specs.Letters.{is_boundary}
+use Rattle.mbox_letters.proofs.Bodies.{begins_from}
 use Rattle.mbox_check.specs.declared.state.Part.{Part}
 use Rattle.mbox_check.specs.declared.state.Part.TheVariants.{Nothing, F, Fr, Fro, From}
 use Rattle.mbox_check.specs.declared.state.FormState.{FormState}

@@ -12,9 +12,9 @@ use Rattle.mail_world.specs.Reading.{Letter, IsLetter, AreLetters, letter_text, 
 use Rattle.mail_world.proofs.OneLine.{one_line-tail, head_byte}
 use Rattle.mail_world.proofs.Letters.{ends-with_lf}
 use Rattle.mail_world.proofs.OneReading.{all-append}
-use Rattle.mbox_record.specs.Letters.{is_boundary}
-use Rattle.mbox_record.proofs.Bodies.{begins_from, lines-whole}
-use Rattle.mbox_record.proofs.Mailboxes.{letter-lines, boundary-letters}
+use Rattle.mbox_letters.specs.Letters.{is_boundary}
+use Rattle.mbox_letters.proofs.Bodies.{begins_from, lines-whole}
+use Rattle.mbox_letters.proofs.Mailboxes.{letter-lines, boundary-letters}
 use Rattle.mbox_check.specs.Form.{IsMailboxOf, BeginsMailbox}
 use Rattle.mbox_check.specs.SoFar.{EndsInLine, IsBody}
 use Rattle.mbox_check.proofs.MailLines.{no_nil, written_end}

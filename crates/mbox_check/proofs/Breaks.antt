@@ -6,7 +6,7 @@ use Rattle.std.proofs.lemmas.List.{length-append, take_all}
 use Rattle.mail_world.specs.Counts.{counted}
 use Rattle.mail_world.specs.Text.{lf}
 use Rattle.mail_world.specs.Reading.{Letter, written}
-use Rattle.mbox_record.specs.Letters.{is_boundary}
+use Rattle.mbox_letters.specs.Letters.{is_boundary}
 use Rattle.mbox_check.specs.declared.state.Part.{Part}
 use Rattle.mbox_check.specs.declared.state.FormState.{FormState}
 use Rattle.mbox_check.specs.declared.state.FormState.TheVariants.{Start, Open, Line, Inside}
@@ -15,7 +15,7 @@ use Rattle.mbox_check.specs.Form.{IsMailboxOf, BeginsMailbox, BreaksAt, IsBad}
 use Rattle.mbox_check.specs.States.{part_text, next_byte, longer_part, is_whole, bad_at}
 use Rattle.mbox_check.specs.SoFar.{IsLine, EndsAt}
 use Rattle.mbox_check.proofs.MailLines.{from_after}
-use Rattle.mbox_record.proofs.Mailboxes.{boundary-letters}
+use Rattle.mbox_letters.proofs.Mailboxes.{boundary-letters}
 use Rattle.mbox_check.proofs.Bodies.{ends_not_lf, ends_not_empty}
 use Rattle.mbox_check.proofs.Begins.{part_grown, boundary_else, line_started, started_begins, at_begins, at_short, start_bad, open_good, line_good, inside_good}
 

@@ -7,7 +7,7 @@ use Rattle.mail_world.specs.Counts.{counted}
 use Rattle.mail_world.specs.Text.{lf, IsOneLine}
 use Rattle.mail_world.specs.Reading.{Letter, AreLetters, written}
 use Rattle.mail_world.proofs.OneLine.{one_line-cons, one_line-append, literal}
-use Rattle.mbox_record.specs.Letters.{is_boundary}
+use Rattle.mbox_letters.specs.Letters.{is_boundary}
 use Rattle.mbox_check.specs.declared.state.Part.{Part}
 use Rattle.mbox_check.specs.declared.state.Part.TheVariants.{Nothing, F, Fr, Fro, From}
 use Rattle.mbox_check.specs.declared.state.FormState.{FormState}
@@ -17,7 +17,7 @@ use Rattle.mbox_check.specs.declared.state.Effect.TheVariants.{To, Begin, Break}
 use Rattle.mbox_check.specs.Form.{IsBad}
 use Rattle.mbox_check.specs.States.{part_text, next_byte, longer_part, is_nothing, line_state, start_with, open_with, line_with, effect_at, bad_at}
 use Rattle.mbox_check.specs.SoFar.{EndsInLine, IsBody, IsOpen, IsLine, IsInsideLine, EndsAt}
-use Rattle.mbox_record.proofs.Mailboxes.{boundary-letters}
+use Rattle.mbox_letters.proofs.Mailboxes.{boundary-letters}
 use Rattle.mbox_check.proofs.Bodies.{ends_after, line_ends, body_line, body_ended, body_first}
 use Rattle.mbox_check.proofs.Begins.{part_one, part_grown, part_else, ends_in_part, IsStarted, open_started, line_started, started_begins, started_line}
 use Rattle.mbox_check.proofs.Breaks.{start_breaks, line_breaks}

@@ -11,7 +11,7 @@ use Rattle.mail_world.proofs.OneLine.{one_line-cons, literal}
 use Rattle.mail_world.proofs.Letters.{ends-with_lf}
 use Rattle.mail_world.proofs.OneReading.{letters_lines, written-lines, letters_lines-each, quoted-not_from_by}
 use Rattle.mail_world.proofs.Places.{begins_with-append}
-use Rattle.mbox_record.proofs.Bodies.{begins_from, same_cut, from-line}
+use Rattle.mbox_letters.proofs.Bodies.{begins_from, same_cut, from-line}
 
 pub no_nil : (xs ys : List ℕ) (b : ℕ) → [] ≡ xs ++ b ∷ ys → ⊥
 no_nil [] ys b e = cc

@@ -7,7 +7,7 @@ use Rattle.std.proofs.lemmas.List.{length-append, length-take-le, take_more, tak
 use Rattle.memchr.specs.Find.{Nowhere, NoneBefore, Passes, is_byte}
 use Rattle.mail_world.specs.Counts.{counted}
 use Rattle.mail_world.specs.Text.{lf, IsOneLine}
-use Rattle.mbox_record.proofs.LineCuts.{IsLineCut-found, has_no_lf}
+use Rattle.mbox_letters.proofs.LineCuts.{IsLineCut-found, has_no_lf}
 use Rattle.mbox_check.specs.declared.fault.BadForm.{BadForm}
 use Rattle.mbox_check.specs.declared.form.FormCheck.{FormCheck}
 use Rattle.mbox_check.specs.declared.state.Part.{Part}

@@ -2,7 +2,7 @@
 use Rattle.std.specs.Prelude.{◌≡◌, ◌<◌, ◌≤◌, ℕ, suc, List, ◌++◌, length, take, true, false, Option, None, Some, ⊤}
 use Rattle.mail_world.specs.Counts.{counted}
 use Rattle.mail_world.specs.Reading.{Letter, AreLetters, written}
-use Rattle.mbox_record.specs.Letters.{is_boundary}
+use Rattle.mbox_letters.specs.Letters.{is_boundary}
 use Rattle.mbox_check.specs.declared.fault.BadForm.{BadForm}
 use Rattle.mbox_check.specs.declared.fault.BadForm.TheVariants.{NoFromLine, NoEmptyLine}
 use Rattle.mbox_check.specs.declared.fault.CheckFault.{CheckFault}

@@ -5,7 +5,7 @@ use Rattle.mail_world.specs.Counts.{counted}
 use Rattle.mail_world.specs.Text.{lf, with_lf, IsOneLine}
 use Rattle.mail_world.specs.Records.{quoted}
 use Rattle.mail_world.specs.Reading.{Letter, AreLetters, written}
-use Rattle.mbox_record.specs.Letters.{is_boundary}
+use Rattle.mbox_letters.specs.Letters.{is_boundary}
 use Rattle.mbox_check.specs.declared.fault.BadForm.{BadForm}
 use Rattle.mbox_check.specs.declared.form.FormCheck.{FormCheck}
 use Rattle.mbox_check.specs.declared.state.Part.{Part}

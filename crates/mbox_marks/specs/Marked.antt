@@ -1,5 +1,6 @@
 -- Marks as they are found in a piece of the message.
-use Rattle.std.specs.Prelude.{◌≡◌, ℕ, ◌+◌, ◌-◌, ◌*◌, ◌<◌, ◌≤◌, Bool, true, false, not, List, [], ◌++◌, length, take, drop, if◌then◌else◌}
+use Rattle.std.specs.Prelude.{◌≡◌, ℕ, ◌+◌, ◌-◌, ◌*◌, ◌<◌, ◌≤◌, Bool, true, false, not, List, [], ◌++◌, length}
+use Rattle.std.specs.Prelude.{take, drop, if◌then◌else◌}
 use Rattle.std.specs.Prelude.{Option, Some, None}
 use Rattle.std.specs.List.{list_all}
 use Rattle.std.specs.Char.{to_ascii_lowercase}
@@ -75,7 +76,8 @@ IsStep place bytes steps.Held = MayBeHeld place bytes
 pub record FindsMark (place : Place) (bytes : List ℕ) (found : Found) : Type 0 where
   pub within : found.at ≤ length bytes
   pub goes : (rest : List ℕ)
-      → take found.at bytes ++ ((if found.is_mark then was else []) ++ marks_owed found.place (drop found.at bytes ++ rest))
+      → take found.at bytes
+      ++ ((if found.is_mark then was else []) ++ marks_owed found.place (drop found.at bytes ++ rest))
       ≡ marks_owed place (bytes ++ rest)
   pub inside : found.is_mark ≡ true → found.place ≡ Inside
   pub smaller : found.is_mark ≡ true → 2 * (length bytes - found.at) < 2 * length bytes + place_weight place

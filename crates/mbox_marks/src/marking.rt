@@ -51,7 +51,8 @@ enum Step {
     Held,
 }
 
-/// The first `at` bytes of a piece stay as they are. Either a mark stands there, or all bytes after these are held back.
+/// The first `at` bytes of a piece stay as they are. Either a mark stands there, or all bytes after these are held
+/// back.
 #[derive(Clone, Copy)]
 pub struct Found {
     pub at: usize,

@@ -10,6 +10,3 @@ pub mod Pieces
 pub mod Onward
 pub mod Written
 pub mod Wholes
-pub mod Bodies
-pub mod LineCuts
-pub mod Mailboxes

@@ -9,4 +9,3 @@ pub mod Parts
 pub mod Quoted
 pub mod Writing
 pub mod Steps
-pub mod Letters

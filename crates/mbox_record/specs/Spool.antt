@@ -64,8 +64,8 @@ pub record IsWithin (lock most left : List ℕ) : Type 0 where
   pub below : IsPrefix left most
 
 -- What is left after a fault, where a text was to be appended. Outside a turn, and of a spool that tells nothing, a
--- prefix of that text was taken. In a turn the bytes at its lock are left, and a prefix of what was appended in it, that
--- text included: what waited to be written may be lost.
+-- prefix of that text was taken. In a turn the bytes at its lock are left, and a prefix of what was appended in it,
+-- that text included: what waited to be written may be lost.
 abbrev pub LeavesPart : Option Standing → Option (List ℕ) → Option (List ℕ) → List ℕ → Type 0
 LeavesPart None old new text = LeavesPrefix old new text
 LeavesPart (Some lock) None new text = ⊤
@@ -123,7 +123,8 @@ pub record BeginsTurn (old new : SpoolState) (held : ℕ) : Type 0 where
     began = standing new;
   }
 
--- A turn was missed, and one more refusal is counted: nothing was appended. Others may have changed the bytes meanwhile.
+-- A turn was missed, and one more refusal is counted: nothing was appended. Others may have changed the bytes
+-- meanwhile.
 pub record MissesTurn (old new : SpoolState) : Type 0 where
   pub telling : is_some new.bytes ≡ is_some old.bytes
   pub same : new ≡ record old {

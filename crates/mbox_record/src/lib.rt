@@ -1,8 +1,7 @@
-//! The record of a delivered message in the mboxrd format (RFC 4155), the spool that takes it, and the letters that are
-//! read back.
+//! The record of a delivered message in the mboxrd format (RFC 4155), and the spool that takes it.
 //!
 //! A `RecordWriter` writes a record to any `Spool` while its message comes, `mend` writes what an old mailbox lacks at
-//! its end, and `read_mailbox` gives the letters of a mailbox. The layer above stores by these, or is a spool itself.
+//! its end. The layer above stores by these, or is a spool itself.
 //! What a spool is made of is never asked here: of the two that stand here one is in memory, and one only counts.
 #![tactic(auto)]
 
@@ -11,22 +10,19 @@ mod count;
 mod envelope;
 mod from_line;
 mod head;
-mod letter;
 mod memory;
 mod mending;
 mod pending;
 mod quoted;
-mod reading;
 mod record;
 mod spool;
 mod tail;
 
 pub use count::CountSpool;
 pub use envelope::Envelope;
-pub use letter::Letter;
+pub use mbox_letters::{BadMailbox, Letter, read_mailbox};
 pub use memory::MemorySpool;
 pub use mending::mend;
-pub use reading::{BadMailbox, read_mailbox};
 pub use record::RecordWriter;
 pub use spool::{InUse, Spool, SpoolFault};
 pub use tail::{Tail, tail_after, tail_of, tail_of_last, what_mends};

@@ -1,6 +1,6 @@
 use Rattle.std.proofs.Common.{length}
-use Rattle.mbox_record.proofs.Bodies.{IsBodyUpTo}
-use Rattle.mbox_record.proofs.reading.read_body.Given as goal
+use Rattle.mbox_letters.proofs.Bodies.{IsBodyUpTo}
+use Rattle.mbox_letters.proofs.reading.read_body.Given as goal
 
 -- the lines before the rest are read, and any reading goes on in the rest
 abbrev pub invariant-loop-line : goal.invariant-loop-line

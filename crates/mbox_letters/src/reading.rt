@@ -5,7 +5,7 @@ ghost use Rattle.mail_world.specs.Reading as m;
 ghost use Rattle.mail_world.specs.Reading.{AreLetters, written};
 ghost use Rattle.mail_world.specs.Records.{is_from_line};
 ghost use Rattle.mail_world.specs.Text.{lf, has_byte, begins_with};
-ghost use Rattle.mbox_record.specs.Letters.{is_boundary, is_quoted, IsLineCut, IsBodyRead, IsLetterRead};
+ghost use Rattle.mbox_letters.specs.Letters.{is_boundary, is_quoted, IsLineCut, IsBodyRead, IsLetterRead};
 
 use crate::letter::Letter;
 use memchr::memchr;
@@ -24,7 +24,7 @@ pub enum BadMailbox {
 }
 
 impl From<AllocError> for BadMailbox {
-    ghost use Rattle.mbox_record.specs.declared.reading.BadMailbox.TheVariants.{Memory};
+    ghost use Rattle.mbox_letters.specs.declared.reading.BadMailbox.TheVariants.{Memory};
 
     ghost from_gives = { λ _ fault. fault ≡ Memory };
 
@@ -34,7 +34,7 @@ impl From<AllocError> for BadMailbox {
 }
 
 impl<T: Drop> From<AllocFailed<T>> for BadMailbox {
-    ghost use Rattle.mbox_record.specs.declared.reading.BadMailbox.TheVariants.{Memory};
+    ghost use Rattle.mbox_letters.specs.declared.reading.BadMailbox.TheVariants.{Memory};
 
     ghost from_gives = { λ _ fault. fault ≡ Memory };
 

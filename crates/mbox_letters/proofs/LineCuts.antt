@@ -7,7 +7,7 @@ use Rattle.std.proofs.lemmas.List.{take_more, take-append-drop}
 use Rattle.std.proofs.lemmas.Grind.{common_steps}
 use Rattle.memchr.specs.Find.{Nowhere, NoneBefore, Passes, is_byte}
 use Rattle.mail_world.specs.Text.{lf, has_byte}
-use Rattle.mbox_record.specs.Letters.{IsLineCut}
+use Rattle.mbox_letters.specs.Letters.{IsLineCut}
 
 none_before : (text : List ℕ) (k : ℕ) → ((j : ℕ) → j < k → ¬ ((slice_index text j == lf) ≡ true)) → has_byte (take k text) lf ≡ false
 none_before text zero p = refl

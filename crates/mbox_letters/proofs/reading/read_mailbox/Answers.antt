@@ -1,8 +1,8 @@
 use Rattle.std.proofs.Common.{ap, Err}
 use Rattle.std.proofs.lemmas.Result.{err_from_is_err_and}
-use Rattle.mbox_record.proofs.LineCuts.{some_by}
-use Rattle.mbox_record.proofs.Mailboxes.{IsReadUpTo-none, same_cause}
-use Rattle.mbox_record.proofs.reading.read_mailbox.Goals as goal
+use Rattle.mbox_letters.proofs.LineCuts.{some_by}
+use Rattle.mbox_letters.proofs.Mailboxes.{IsReadUpTo-none, same_cause}
+use Rattle.mbox_letters.proofs.reading.read_mailbox.Goals as goal
 
 pub returns-in_err-letter-clause-no_empty_line : goal.returns-in_err-letter-clause-no_empty_line
 returns-in_err-letter-clause-no_empty_line c = λ e.

@@ -12,7 +12,7 @@ use Rattle.mail_world.specs.Records.{is_from_line, quoted}
 use Rattle.mail_world.proofs.OneLine.{head_byte, one_line-tail, literal}
 use Rattle.mail_world.proofs.Letters.{lines-with_lf, ends-with_lf}
 use Rattle.mail_world.proofs.OneReading.{lines-each, quoted-each, quoted-not_from_by, all-append}
-use Rattle.mbox_record.specs.Letters.{is_boundary, is_quoted, IsLineCut, IsBodyRead}
+use Rattle.mbox_letters.specs.Letters.{is_boundary, is_quoted, IsLineCut, IsBodyRead}
 
 abbrev pub begins_from : List ℕ → Bool
 begins_from text = begins_with (codes "From ") text

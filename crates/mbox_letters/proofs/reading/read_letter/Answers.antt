@@ -1,7 +1,7 @@
 use Rattle.std.proofs.Common.{ap, Err}
 use Rattle.std.proofs.lemmas.Result.{err_from_is_err_and}
-use Rattle.mbox_record.proofs.Mailboxes.{IsLetterRead-lines, no_head, no_body, same_cause}
-use Rattle.mbox_record.proofs.reading.read_letter.Goals as goal
+use Rattle.mbox_letters.proofs.Mailboxes.{IsLetterRead-lines, no_head, no_body, same_cause}
+use Rattle.mbox_letters.proofs.reading.read_letter.Goals as goal
 
 pub returns-in_default-clause-no_empty_line : goal.returns-in_default-clause-no_empty_line
 returns-in_default-clause-no_empty_line c = λ e. no_head c.args.text.now c.requires c.in_default.ensures.none

@@ -1,5 +1,5 @@
-use Rattle.mbox_record.proofs.LineCuts.{IsLineCut-found, has_no_lf}
-use Rattle.mbox_record.proofs.reading.cut_line.Goals as goal
+use Rattle.mbox_letters.proofs.LineCuts.{IsLineCut-found, has_no_lf}
+use Rattle.mbox_letters.proofs.reading.cut_line.Goals as goal
 
 pub returns-in-Some-clause-cut : goal.returns-in-Some-clause-cut
 returns-in-Some-clause-cut c = IsLineCut-found c.args.text.now c.in-Some.at c.in-Some.ensures.0 c.in-Some.ensures.1

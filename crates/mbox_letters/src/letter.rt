@@ -2,7 +2,7 @@
 ghost use Rattle.std.specs.Prelude.{◌≡◌, ◌++◌, [], ◌∷◌};
 ghost use Rattle.mail_world.specs.Text.{lf, IsOneLine, EmptyOrEndsIn};
 ghost use Rattle.mail_world.specs.Reading.{IsLetter};
-ghost use Rattle.mbox_record.specs.Letters.{letter_headed};
+ghost use Rattle.mbox_letters.specs.Letters.{letter_headed};
 
 use std::marker::Model;
 

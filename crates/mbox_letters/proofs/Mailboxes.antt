@@ -11,8 +11,8 @@ use Rattle.mail_world.specs.Reading.{Letter, IsLetter, AreLetters, letter_text, 
 use Rattle.mail_world.proofs.OneReading.{lines-each, quoted-each}
 use Rattle.mail_world.proofs.OneLine.{literal}
 use Rattle.mail_world.proofs.Places.{begins_with-prefix, begins_with-append}
-use Rattle.mbox_record.specs.Letters.{is_boundary, letter_headed, IsLineCut, IsBodyRead, IsLetterRead}
-use Rattle.mbox_record.proofs.Bodies.{begins_from, same_cut, has_lf, tail-cons, inside, IsTail, IsTail-inside, IsTail-next}
+use Rattle.mbox_letters.specs.Letters.{is_boundary, letter_headed, IsLineCut, IsBodyRead, IsLetterRead}
+use Rattle.mbox_letters.proofs.Bodies.{begins_from, same_cut, has_lf, tail-cons, inside, IsTail, IsTail-inside, IsTail-next}
 
 -- the text of a letter, its head first
 pub letter-lines : (letter : Letter) (rest : List ℕ)

@@ -1,6 +1,6 @@
 use Rattle.std.proofs.Common.{◌≡◌, drop}
 use Rattle.mail_world.specs.Records.{is_from_line}
-use Rattle.mbox_record.proofs.reading.is_from_line.Given as goal
+use Rattle.mbox_letters.proofs.reading.is_from_line.Given as goal
 
 -- what was passed is `>` and decides nothing
 abbrev pub invariant-loop-i : goal.invariant-loop-i

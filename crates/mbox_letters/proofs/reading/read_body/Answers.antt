@@ -1,9 +1,9 @@
 use Rattle.std.proofs.Common.{◌≡◌, [], false, rules}
-use Rattle.mbox_record.specs.Letters.{is_boundary}
-use Rattle.mbox_record.proofs.LineCuts.{empty_by}
-use Rattle.mbox_record.proofs.Bodies.{IsBodyUpTo-start, IsBodyUpTo-plain, IsBodyUpTo-quoted, IsBodyUpTo-end, IsBodyUpTo-none}
-use Rattle.mbox_record.proofs.reading.read_body.Goals as goal
-use Rattle.mbox_record.proofs.reading.read_body.Goals.{else-is_empty-via-then-is_empty+else-is_boundary, else-is_empty-via-else-is_empty}
+use Rattle.mbox_letters.specs.Letters.{is_boundary}
+use Rattle.mbox_letters.proofs.LineCuts.{empty_by}
+use Rattle.mbox_letters.proofs.Bodies.{IsBodyUpTo-start, IsBodyUpTo-plain, IsBodyUpTo-quoted, IsBodyUpTo-end, IsBodyUpTo-none}
+use Rattle.mbox_letters.proofs.reading.read_body.Goals as goal
+use Rattle.mbox_letters.proofs.reading.read_body.Goals.{else-is_empty-via-then-is_empty+else-is_boundary, else-is_empty-via-else-is_empty}
 
 pub loop-line-init : goal.loop-line-init
 loop-line-init c = rw c.new-body.ensures.items (IsBodyUpTo-start c.args.text.now)

@@ -1,6 +1,6 @@
 use Rattle.std.proofs.Common.{length}
-use Rattle.mbox_record.proofs.Mailboxes.{IsReadUpTo}
-use Rattle.mbox_record.proofs.reading.read_mailbox.Given as goal
+use Rattle.mbox_letters.proofs.Mailboxes.{IsReadUpTo}
+use Rattle.mbox_letters.proofs.reading.read_mailbox.Given as goal
 
 -- the letters before the rest are read
 abbrev pub invariant-loop-rest : goal.invariant-loop-rest

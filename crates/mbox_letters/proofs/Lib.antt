@@ -1,0 +1,3 @@
+pub mod LineCuts
+pub mod Bodies
+pub mod Mailboxes
