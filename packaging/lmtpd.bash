@@ -4,7 +4,7 @@ _lmtpd() {
     serve='--host --listen --dir --domains --recipient-delimiter --message-limit --lanes --blocks --capacity --reads'
     serve+=' --rename-marks --smtputf8 --timeout --session-time --log --log-addresses --quota --lock-wait --mailbox-suffix'
     serve+=' --mailbox-mode'
-    serve+=' --socket-mode --connections --stop-file --heal --start-anyway --check-words --boxes --help'
+    serve+=' --socket-mode --connections --stop-file --start-anyway --check-words --boxes --help'
     rehearse='--host --time --domains --recipient-delimiter --message-limit --rename-marks --smtputf8 --blocks --quota --boxes'
     rehearse+=' --help'
     check='--help'

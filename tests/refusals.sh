@@ -173,8 +173,8 @@ for time in 0 86401 -1 x ''; do try 2 clap "${serve[@]}" --dir /nowhere --sessio
 for number in 0 1000001 -1 x ''; do try 2 clap "${serve[@]:0:5}" --dir /nowhere --connections "$number" anna; done
 try 2 clap "${serve[@]}" --dir /nowhere --stop-file '' anna
 try 2 clap "${serve[@]}" --dir /nowhere --stop-file= anna
-try 2 clap "${serve[@]}" --dir /nowhere --heal=yes anna
-try 2 clap "${serve[@]}" --dir /nowhere --heal --heal anna
+# a word that there was once
+try 2 clap "${serve[@]}" --dir /nowhere --heal anna
 try 2 clap "${serve[@]}" --dir /nowhere --start-anyway=yes anna
 try 2 clap "${serve[@]}" --dir /nowhere --start-anyway --start-anyway anna
 try 2 clap "${serve[@]}" --dir /nowhere --check-words=yes anna
@@ -188,7 +188,7 @@ try 2 'lmtpd: no box' "${serve[@]}" --dir /nowhere --check-words
 try 2 $'[ERROR lmtpd] bad box name=Anna\nlmtpd: bad box' "${serve[@]}" --dir /nowhere --check-words Anna
 try 2 clap "${serve[@]}" --dir /nowhere --log-addresses=yes anna
 try 2 clap "${serve[@]}" --dir /nowhere --log-addresses --log-addresses anna
-for word in --heal --start-anyway --log-addresses --stop-file=stop --socket-mode=0660 --session-time=9 --connections=9; do
+for word in --start-anyway --log-addresses --stop-file=stop --socket-mode=0660 --session-time=9 --connections=9; do
     try 2 clap "${good[@]}" "$word" anna
     try 2 clap check "$word" anna.mbox
     try 1 'lmtpd: cannot open anna.mbox' "${serve[@]:0:5}" --dir /nowhere "$word" anna

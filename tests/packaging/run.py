@@ -156,7 +156,7 @@ def check_instances(unit, units):
 
 # The words of the service's environment, and those of the program that come of them but for ALWAYS.
 FOLDER = ["--dir", "/var/mail/lmtpd"]
-ALWAYS = ["--listen", "inherited", "--stop-file", "/run/lmtpd/stop", "--heal", "--start-anyway", "--log", "info"]
+ALWAYS = ["--listen", "inherited", "--stop-file", "/run/lmtpd/stop", "--start-anyway", "--log", "info"]
 STARTED = [
     ({}, FOLDER),
     ({"HOST": ""}, FOLDER),

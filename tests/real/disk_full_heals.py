@@ -1,97 +1,159 @@
-"""The service as it is installed, with its mailboxes on a file system of fixed size, full for a while."""
+"""The service as it is installed, with a mailbox on a file system of its own, of fixed size, that is full for a minute,
+and with all of them on one in which no lock file has room."""
 
+import concurrent.futures
 import contextlib
 import os
 import pathlib
+import statistics
 import subprocess
+import threading
 import time
 
 import letters
 from cases import Absent, case, equal
-from clients import Client
+from clients import deliver_one
 from in_a_machine import installed
 from packages import program
-from replies import STOPPING, not_stored, stored
+from replies import not_stored, stored
 
 STORED, NOT_STORED = stored("anna"), not_stored("anna")
 MAIL = "/var/mail/lmtpd"
-CUT_OFF = "no reply to the data"
+OWN = "/mnt/anna"
 SOCKET = "/var/spool/postfix/private/lmtpd"
-SIZE = 8 * 1024 * 1024
+SIZE = 16 * 1024 * 1024
 BLOCK = 4096
-# A lock file takes a block; beside those of anna and ben some are left, in which no record of these lines has room.
+# A part of a record of these lines has room there.
 LEFT = 4 * BLOCK
 LINES = ["x" * 70] * 600
-# Longer than it takes until a server whose mailbox failed has ended and another one begun, which finds a full disk.
-FULL_SECONDS = 45
-HEALED_WITHIN = 60
+FULL_SECONDS = 60
+BESIDE = ["ben", "carla"]
+# How much longer a letter for another mailbox may take while the disk is full, in seconds: in the middle, and at most.
+MIDDLE_MORE = 0.01
+LONGEST_MORE = 0.5
 
 
 @case
-def tmpfs_with_room_for_the_lock_file(folder):
-    """systemd and --heal, a full tmpfs where the lock file has room and the record hasn't: 451, and 250 within a minute
-    once there is room, with nobody's hand; what was told 250 is there, once and whole"""
-    with service(folder) as there, on_tmpfs(there):
-        heals_where_the_lock_file_fits(there)
+def tmpfs_with_room_for_a_part(folder):
+    """systemd, a mailbox on a tmpfs of its own in which a part of a record has room, for a minute: 451 for it alone,
+    the others wait no longer, and with room the first copy is told 250 by the same process; each letter once and
+    whole"""
+    with service(folder) as there, on_tmpfs(there, OWN), its_own(there):
+        is_full_for_a_while(there, LEFT)
+
+
+@case
+def tmpfs_without_room(folder):
+    """systemd, a mailbox on a tmpfs of its own without room, for a minute: 451 for it alone, the others wait no longer,
+    and with room the first copy is told 250 by the same process; each letter once and whole"""
+    with service(folder) as there, on_tmpfs(there, OWN), its_own(there):
+        is_full_for_a_while(there, 0)
+
+
+@case
+def ext4_with_room_for_a_part(folder):
+    """systemd, a mailbox on an ext4 of its own in which a part of a record has room, for a minute: 451 for it alone,
+    the others wait no longer, and with room the first copy is told 250 by the same process; each letter once and
+    whole"""
+    with service(folder) as there, on_ext4(there, folder / "disk", OWN), its_own(there):
+        is_full_for_a_while(there, LEFT)
+
+
+@case
+def ext4_without_room(folder):
+    """systemd, a mailbox on an ext4 of its own without room, for a minute: 451 for it alone, the others wait no longer,
+    and with room the first copy is told 250 by the same process; each letter once and whole"""
+    with service(folder) as there, on_ext4(there, folder / "disk", OWN), its_own(there):
+        is_full_for_a_while(there, 0)
 
 
 @case
 def tmpfs_without_room_for_the_lock_file(folder):
-    """systemd and --heal, a full tmpfs where neither lock file nor record has room: 451, and 250 within a minute once
-    there is room, with nobody's hand; what was told 250 is there, once and whole"""
-    with service(folder) as there, on_tmpfs(there):
-        heals_where_nothing_fits(there)
-
-
-@case
-def ext4_with_room_for_the_lock_file(folder):
-    """systemd and --heal, a full ext4 where the lock file has room and the record hasn't: 451, and 250 within a minute
-    once there is room, with nobody's hand; what was told 250 is there, once and whole"""
-    with service(folder) as there, on_ext4(there, folder / "disk"):
-        heals_where_the_lock_file_fits(there)
+    """systemd, a folder on a full tmpfs where neither lock file nor record has room: 451, and 250 with the first copy
+    once there is room; each letter once and whole"""
+    with service(folder) as there, on_tmpfs(there, MAIL):
+        has_no_room_for_the_lock_file(there)
 
 
 @case
 def ext4_without_room_for_the_lock_file(folder):
-    """systemd and --heal, a full ext4 where neither lock file nor record has room: 451, and 250 within a minute once
-    there is room, with nobody's hand; what was told 250 is there, once and whole"""
-    with service(folder) as there, on_ext4(there, folder / "disk"):
-        heals_where_nothing_fits(there)
+    """systemd, a folder on a full ext4 where neither lock file nor record has room: 451, and 250 with the first copy
+    once there is room; each letter once and whole"""
+    with service(folder) as there, on_ext4(there, folder / "disk", MAIL):
+        has_no_room_for_the_lock_file(there)
 
 
-for one in [tmpfs_with_room_for_the_lock_file, ext4_with_room_for_the_lock_file]:
-    one.seconds = 180 + FULL_SECONDS + HEALED_WITHIN
+for one in [tmpfs_with_room_for_a_part, tmpfs_without_room, ext4_with_room_for_a_part, ext4_without_room]:
+    one.seconds = 180 + 2 * FULL_SECONDS
 for one in [tmpfs_without_room_for_the_lock_file, ext4_without_room_for_the_lock_file]:
-    one.seconds = 180 + HEALED_WITHIN
+    one.seconds = 180
 
 
-def heals_where_the_lock_file_fits(there):
-    """The disk is filled while the server runs: the first record fails, and with it the mailbox."""
-    sender = Sender(there)
-    sender.delivers(3, 10)
-    fill(there.mail, LEFT)
-    sender.hears_451(FULL_SECONDS)
-    restarts = restarts_of(there)
-    assert restarts >= 1, restarts
-    make_room(there.mail)
-    took = sender.delivers(3, HEALED_WITHIN)
-    print(f"a lock file has room, {restarts} restarts on the full disk: {sender.story(took)}")
-    equal(is_logged(there, "mailbox failed mailbox=anna reason=No space left on device (os error 28)"), True)
+def is_full_for_a_while(there, left):
+    """The disk of anna's mailbox alone is filled while the server runs."""
+    sender, disk = Sender(there), there.root / OWN.lstrip("/")
+    before = waits_beside(there, lambda: sender.hears_250(FULL_SECONDS))
+    process = process_of(there)
+    fill(disk, left)
+    meanwhile = waits_beside(there, lambda: sender.hears_451(FULL_SECONDS))
+    make_room(disk)
+    sender.hears_250(3)
+    equal(process_of(there), process)
+    print(f"{sender.refused} tries told 451; beside it {of_waits(before)} before, {of_waits(meanwhile)} meanwhile")
+    assert statistics.median(meanwhile) < statistics.median(before) + MIDDLE_MORE, (before, meanwhile)
+    assert max(meanwhile) < max(before) + LONGEST_MORE, (before, meanwhile)
+    failed = "[ERROR lmtpd] mailbox failed mailbox=anna reason=No space left on device (os error 28)"
+    equal(errors_of(there), [failed, "[ERROR lmtpd] mailbox stores again mailbox=anna"])
     sender.found_all()
 
 
-def heals_where_nothing_fits(there):
+def waits_beside(there, work):
+    """How long each letter for another mailbox took while that was done, in seconds; each is told 250."""
+    done = threading.Event()
+    with concurrent.futures.ThreadPoolExecutor(len(BESIDE)) as pool:
+        jobs = [pool.submit(deliver_until, there, name, done) for name in BESIDE]
+        try:
+            work()
+        finally:
+            done.set()
+        return [took for job in jobs for took in job.result()]
+
+
+def deliver_until(there, name, done):
+    waits = []
+    while not done.is_set():
+        since = time.monotonic()
+        equal(deliver_one(there.socket, [name], "hello"), [stored(name)])
+        waits.append(time.monotonic() - since)
+        time.sleep(0.05)
+    return waits
+
+
+def of_waits(waits):
+    middle, longest = statistics.median(waits) * 1000, max(waits) * 1000
+    return f"{len(waits)} letters of {middle:.1f} ms in the middle, {longest:.1f} at most"
+
+
+def process_of(there):
+    """The server's process, and how often systemd began one again."""
+    status, said = there.run("systemctl show -p MainPID -p NRestarts lmtpd")
+    equal((status, "MainPID=0\n" in said), (0, False))
+    return said
+
+
+def has_no_room_for_the_lock_file(there):
     """The disk is filled while no server runs, so that nothing is there that lock files are linked from."""
     sender = Sender(there)
-    sender.delivers(3, 10)
+    sender.hears_250(3)
     stop_in_order(there)
     fill(there.mail, 0)
     makes_no_file(there)
     sender.hears_451(10)
+    process = process_of(there)
     make_room(there.mail)
-    took = sender.delivers(3, HEALED_WITHIN)
-    print(f"no lock file has room: {sender.story(took)}")
-    equal(is_logged(there, "mailbox in use mailbox=anna reason="), True)
+    sender.hears_250(3)
+    equal(process_of(there), process)
+    equal(any(line.startswith("[ERROR lmtpd] mailbox in use mailbox=anna reason=") for line in errors_of(there)), True)
     sender.found_all()
 
 
@@ -110,60 +172,37 @@ def makes_no_file(there):
 
 
 class Sender:
-    """A client that tries each second to deliver a numbered letter, each time the same one until it is told 250."""
+    """A client that delivers numbered letters, each until it is told 250."""
 
     def __init__(self, there):
         self.there = there
-        self.told, self.refused, self.longest = [], 0, 0
+        self.told, self.refused = [], 0
 
-    def letter(self):
-        return [f"letter {len(self.told)}", *LINES]
-
-    def story(self, took):
-        return f"{self.refused} tries told 451, {self.longest:.1f} s the longest of all; 250 after {took:.1f} s of room"
-
-    def try_once(self):
-        """The last reply that it hears; an empty text where there is none."""
-        since = time.monotonic()
-        final = self.try_to_deliver()
-        self.longest = max(self.longest, time.monotonic() - since)
+    def hears(self):
+        """What it is told of the letter whose turn it is."""
+        lines = [f"letter {len(self.told)}", *LINES]
+        (final,) = deliver_one(self.there.socket, ["anna"], *lines)
+        if final == STORED:
+            self.told.append("\n".join([*lines, ""]).encode())
         return final
 
-    def try_to_deliver(self):
-        with Client(self.there.socket) as client:
-            heard = client.hear_or_end()
-            for line in ["LHLO relay.example", "MAIL FROM:<carl@a.example>", "RCPT TO:<anna@mx.example>", "DATA"]:
-                if heard[:3] not in ["220", "250"]:
-                    return heard
-                heard = client.ask_or_end(line)
-            if not heard.startswith("354"):
-                return heard
-            return client.ask_or_end("\r\n".join([*self.letter(), "."])) or CUT_OFF
-
-    def delivers(self, count, seconds):
-        """Delivers that many letters; how long the first one took, which is to be told 250 within these seconds."""
-        since, first = time.monotonic(), None
-        for _ in range(count):
-            while (final := self.try_once()) != STORED:
-                assert time.monotonic() - since < seconds, f"after {seconds} s: {final}"
-                self.refused += self.is_refused(final)
-                time.sleep(1)
-            first = first or time.monotonic() - since
-            self.told.append("\n".join([*self.letter(), ""]).encode())
-        return first
+    def hears_250(self, seconds):
+        """Delivers a letter each second for that long."""
+        self.hears_for(seconds, STORED)
 
     def hears_451(self, seconds):
-        """Tries for that long on a full disk."""
-        until = time.monotonic() + seconds
-        while time.monotonic() < until:
-            self.refused += self.is_refused(self.try_once())
-            time.sleep(1)
-        assert self.refused > 1, self.refused
+        """Tries the same letter each second for that long."""
+        before = len(self.told)
+        self.refused += self.hears_for(seconds, NOT_STORED)
+        equal(len(self.told), before)
 
-    def is_refused(self, final):
-        """A server that ends in order tells 421 to a client that it waits for, and cuts data under way off."""
-        assert final in [NOT_STORED, STOPPING, CUT_OFF], final
-        return final == NOT_STORED
+    def hears_for(self, seconds, final):
+        until, count = time.monotonic() + seconds, 0
+        while time.monotonic() < until:
+            equal(self.hears(), final)
+            count += 1
+            time.sleep(1)
+        return count
 
     def found_all(self):
         """What was told 250 is in the mailbox, in its order, each once and whole, and nothing else is."""
@@ -176,19 +215,34 @@ class Sender:
 def service(folder):
     """The installed service; nothing listens yet."""
     with installed(folder) as there:
-        root = pathlib.Path(f"/proc/{there.first()}/root")
-        there.mail, there.socket = root / MAIL.lstrip("/"), root / SOCKET.lstrip("/")
+        there.root = pathlib.Path(f"/proc/{there.first()}/root")
+        there.mail, there.socket = there.root / MAIL.lstrip("/"), there.root / SOCKET.lstrip("/")
         yield there
 
 
 @contextlib.contextmanager
-def on_tmpfs(there):
-    mount(there, f"-t tmpfs -o size={SIZE},nr_inodes=64 none")
+def its_own(there):
+    """Anna's mailbox is a file of that file system, and the others aren't; a client may come."""
+    place, made = f"{MAIL}/anna.mbox", f"{OWN}/anna.mbox"
+    for line in [
+        f"for name in {' '.join(BESIDE)}; do grep -qx $name /etc/lmtpd.boxes || echo $name >> /etc/lmtpd.boxes; done",
+        f"setpriv --reuid lmtpd --regid lmtpd --clear-groups sh -c 'umask 077; touch {place} {made}'",
+        f"mount --bind {made} {place}",
+        "systemctl start lmtpd.socket",
+    ]:
+        equal((line, *there.run(line)), (line, 0, ""))
+    yield
+    equal(there.run(f"systemctl stop lmtpd.socket lmtpd; umount {place}"), (0, ""))
+
+
+@contextlib.contextmanager
+def on_tmpfs(there, place):
+    mount(there, f"-t tmpfs -o size={SIZE},nr_inodes=64 none", place)
     yield
 
 
 @contextlib.contextmanager
-def on_ext4(there, disk):
+def on_ext4(there, disk, place):
     """On a disk that is a file."""
     with disk.open("wb") as file:
         file.truncate(SIZE)
@@ -201,18 +255,19 @@ def on_ext4(there, disk):
     try:
         number = os.stat(device).st_rdev
         equal(there.run(f"mknod {device} b {os.major(number)} {os.minor(number)}"), (0, ""))
-        mount(there, device)
+        mount(there, device, place)
         yield
-        equal(there.run(f"systemctl stop lmtpd.socket lmtpd; umount {MAIL}"), (0, ""))
+        equal(there.run(f"systemctl stop lmtpd.socket lmtpd; umount {place}"), (0, ""))
     finally:
         subprocess.run(["losetup", "--detach", device], check=True)
 
 
-def mount(there, words):
-    status, said = there.run(f"mount {words} {MAIL} && chown lmtpd: {MAIL} && chmod 700 {MAIL}")
+def mount(there, words, place):
+    status, said = there.run(f"mkdir -p {place}; mount {words} {place} && chown lmtpd: {place} && chmod 700 {place}")
     if status != 0:
         raise Absent(f"no file system can be mounted there: {said}")
-    equal(there.run("systemctl start lmtpd.socket"), (0, ""))
+    if place == MAIL:
+        equal(there.run("systemctl start lmtpd.socket"), (0, ""))
 
 
 def fill(place, left):
@@ -244,10 +299,6 @@ def make_room(place):
         path.unlink()
 
 
-def restarts_of(there):
-    return int(there.run("systemctl show -p NRestarts --value lmtpd")[1])
-
-
-def is_logged(there, text):
-    """Whether the journal has it as an error."""
-    return text in there.run("journalctl -u lmtpd -p err --no-pager")[1]
+def errors_of(there):
+    """What the journal has of the service as errors."""
+    return there.run("journalctl -u lmtpd -p err -o cat --no-pager")[1].splitlines()

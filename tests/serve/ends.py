@@ -1,13 +1,12 @@
 """What ends the server though its clients aren't done, and what ends a conversation."""
 
-import resource
-import signal
 import threading
 import time
 
 import failing
 from cases import case, equal
 from clients import Client, deliver_one
+from files import give_room, of_size
 from inherited import Inheriting, passed
 from replies import STOPPING, not_stored, stored
 from restarts import MANY, SECONDS_ALONE, asked_to_stop, ended_in_time, restart_under_load
@@ -15,8 +14,7 @@ from server import Server, run, words
 
 STORED, NOT_STORED = stored("anna"), not_stored("anna")
 LANES = 4
-HEAL_SECONDS = 30
-FILE_BYTES = 4_096
+OLD = b"x" * 9_998 + b"\n\n"
 RESTARTS = 20
 
 
@@ -79,45 +77,59 @@ def no_number_ends_it(folder):
     equal((ended.status, ended.said), (0, ["anna stored 20"]))
 
 
-def small_files():
-    """No file of the server may have more bytes than a few letters."""
-    signal.signal(signal.SIGXFSZ, signal.SIG_IGN)
-    resource.setrlimit(resource.RLIMIT_FSIZE, (FILE_BYTES, FILE_BYTES))
+@case
+def a_mailbox_without_room(folder):
+    """a mailbox whose file can't grow is told 451, it alone, and the first copy after there is room 250, with no
+    restart; the status is 0, and where there is no room again as the server ends, it is 1 with a device fault"""
+    for is_full_again in [False, True]:
+        place = folder / str(is_full_again)
+        place.mkdir()
+        (place / "anna.mbox").write_bytes(OLD)
+        letters_told = 4 + is_full_again
+        with Server(place, ["anna", "ben"], letters_told, "--lanes", 1, **of_size(len(OLD))) as server:
+            told = [deliver_both(server, number) for number in range(3)]
+            equal(told, [[NOT_STORED, stored("ben")]] * 3)
+            equal(server.mailbox("anna").read_bytes() == OLD, True)
+            give_room(server.process.pid, 2 * len(OLD))
+            equal(deliver_both(server, 3), [STORED, stored("ben")])
+            if is_full_again:
+                give_room(server.process.pid, server.mailbox("anna").stat().st_size)
+                equal(deliver_both(server, 4), [NOT_STORED, stored("ben")])
+            ended = server.end()
+        equal((ended.status, ended.errors), (int(is_full_again), ["lmtpd: device fault"] * is_full_again))
+        equal(ended.said, ["anna stored 1", f"ben stored {letters_told}"])
+        found = server.mailbox("anna").read_bytes()
+        equal((found.startswith(OLD + b"From "), found.endswith(b"\n\nletter 3\n\n")), (True, True))
+
+
+def deliver_both(server, number):
+    return deliver_one(server.address, ["anna", "ben"], f"letter {number}")
 
 
 @case
-def a_mailbox_that_alone_has_no_room(folder):
-    """with --heal a server goes on whose mailbox can't grow beyond what the system allows its file: 451 for it alone"""
-    with Server(folder, ["anna", "ben"], MANY, "--lanes", LANES, "--heal", preexec_fn=small_files) as server:
-        while deliver_one(server.address, ["anna"], "x" * 500) == [STORED]:
-            pass
-        time.sleep(HEAL_SECONDS + 3)
-        equal(deliver_one(server.address, ["anna", "ben"], "hello"), [NOT_STORED, stored("ben")])
-        equal(server.process.poll(), None)
-
-
-@case
-def a_server_that_heals(folder):
-    """with --heal a server whose mailbox failed serves the others for 30 seconds, and ends then with a device fault"""
+def a_call_that_failed_once(folder):
+    """a mailbox of which one write fails: that copy is told 451, the next 250, and the other mailbox 250 all the while;
+    the status is 0, and where nothing comes after it, 1 with a device fault"""
     library, trial = failing.built(folder), folder / "trial"
     trial.mkdir()
     given = failing.with_calls(library, trial)
     with failing.environment(given), Server(trial, ["anna"], 1, "--lanes", 1) as server:
         equal(deliver_one(server.address, ["anna"], "hello"), [STORED])
         equal(server.end().status, 0)
-    given = failing.with_calls(library, folder, failing.called(trial).index("write mailbox") + 1)
-    with failing.environment(given):
-        server = Server(folder, ["anna", "ben"], MANY, "--lanes", LANES, "--heal")
-    with server:
-        since = time.monotonic()
-        equal(deliver_one(server.address, ["anna"], "hello"), [NOT_STORED])
-        equal(deliver_one(server.address, ["anna"], "hello"), [NOT_STORED])
-        equal(deliver_one(server.address, ["ben"], "hello"), [stored("ben")])
-        said, errors = server.process.communicate(timeout=HEAL_SECONDS + 10)
-        took = time.monotonic() - since
-    assert HEAL_SECONDS - 2 < took < HEAL_SECONDS + 3, took
-    equal((server.process.returncode, errors.splitlines()), (1, ["lmtpd: device fault"]))
-    equal(said.splitlines()[1:], ["ben stored 1"])
+    write = failing.called(trial).index("write mailbox") + 1
+    for after in range(3):
+        place = folder / str(after)
+        place.mkdir()
+        given = failing.with_calls(library, place, write)
+        with failing.environment(given):
+            server = Server(place, ["anna", "ben"], 1 + after, "--lanes", 1)
+        with server:
+            equal(deliver_both(server, 0), [NOT_STORED, stored("ben")])
+            for number in range(after):
+                equal(deliver_both(server, 1 + number), [STORED, stored("ben")])
+            ended = server.end()
+        equal((ended.status, ended.errors), (0, []) if after else (1, ["lmtpd: device fault"]))
+        equal(ended.said, [f"anna stored {after}", f"ben stored {1 + after}"])
 
 
 @case

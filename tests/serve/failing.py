@@ -17,7 +17,7 @@ OLD = b"abc"
 CLOSED = b"abc\n\n"
 STORED, NOT_STORED = stored("anna"), not_stored("anna")
 LETTERS = 3
-# These on the mailbox change what stands in it, or are to keep it: a fault of one breaks the mailbox.
+# These on the mailbox change what stands in it, or are to keep it: a fault of one breaks the turn.
 BREAKING = ["write mailbox", "fdatasync mailbox"]
 CUTTING = ["ftruncate mailbox", "fdatasync mailbox"]
 GIVING_BACK = ["fcntl mailbox", "unlink lock"]
@@ -31,8 +31,9 @@ BOXES = ["anna", "ben", "carla"]
 
 @case
 def one_call_fails(folder):
-    """each call on a mailbox and its lock file fails in turn: before the first byte that copy alone is told 451, after
-    it all later ones, where the lock file isn't written or removed none; the other mailbox 250"""
+    """each call on a mailbox and its lock file fails in turn: that copy alone is told 451, where the lock file isn't
+    written or removed none, and nothing of it is left; the other mailbox 250; a device fault where the last turn
+    broke"""
     fail_in_turn(folder, {}, {"refused", "in use", "broken", "harmless", "well"})
 
 
@@ -115,7 +116,7 @@ def deliver_a_few(folder, given, words):
     check_turns(turns, came_to, "FAIL_ALL" in given)
     count = sum(is_stored for _, is_stored, _ in turns)
     equal(ended.said, [f"anna stored {count}", f"ben stored {LETTERS}"])
-    equal((ended.status, ended.errors), how_it_ends(came_to, LETTERS - count))
+    equal((ended.status, ended.errors), how_it_ends(turns))
     equal(letters.messages(server.mailbox("ben")), [b"letter %d\n" % number for number in range(LETTERS)])
     whole = [b"letter %d\n" % number for number, (_, is_stored, _) in enumerate(turns) if is_stored]
     check_mailbox(server.mailbox("anna"), whole, is_cut="FAIL_ALL" not in given)
@@ -147,18 +148,17 @@ def check_turns(turns, came_to, is_for_good):
     """What is stored, and where a lock file is left, as the call that failed says."""
     at = next((number for number, (turn, _, _) in enumerate(turns) if turn != "well"), LETTERS)
     for number, (turn, is_stored, is_left) in enumerate(turns):
-        is_needed = turn in ["well", "harmless"]
-        if number > at and (is_for_good or came_to == "broken"):
-            is_needed = False
+        is_needed = turn in ["well", "harmless"] and not (is_for_good and number > at)
         equal((number, is_stored), (number, is_needed))
         may_be_left = is_for_good and number >= at or number == at and came_to == "harmless" and is_stored
         assert may_be_left or not is_left, f"a lock file is left after letter {number}"
 
 
-def how_it_ends(came_to, refused):
-    if came_to == "broken":
-        return 1, ["lmtpd: device fault"]
-    return 0, [f"lmtpd: anna in use {refused}"] * (refused > 0)
+def how_it_ends(turns):
+    """The status and the lines on standard error: how many turns were missed, and whether the last one had broke."""
+    had = [turn for turn, is_stored, _ in turns if is_stored or turn == "broken"]
+    missed, broke = len(turns) - len(had), had[-1:] == ["broken"]
+    return int(broke), [f"lmtpd: anna in use {missed}"] * (missed > 0) + ["lmtpd: device fault"] * broke
 
 
 def check_mailbox(path, whole, is_cut):

@@ -36,8 +36,13 @@ def a_device_that_is_full(folder):
 
 def of_size(limit):
     """How a server is started whose files grow to that many bytes at most: a write beyond fails without a signal."""
-    both = (limit, limit)
-    return {"restore_signals": False, "preexec_fn": lambda: resource.setrlimit(resource.RLIMIT_FSIZE, both)}
+    return {"restore_signals": False, "preexec_fn": lambda: give_room(0, limit)}
+
+
+def give_room(process, size):
+    """From now on the files of that process, of this one by 0, grow to that many bytes at most."""
+    most = resource.prlimit(process, resource.RLIMIT_FSIZE)[1]
+    resource.prlimit(process, resource.RLIMIT_FSIZE, (size, most))
 
 
 @case

@@ -9,6 +9,7 @@ import failing
 import letters
 from cases import case, equal
 from clients import Client, deliver_one
+from files import give_room, of_size
 from replies import CLOSING, GO_AHEAD, GREETING, OFFER, RECIPIENT_OK, SENDER_OK, as_bytes
 from replies import not_stored, over_quota, stored
 from server import Server, run, start, words
@@ -35,9 +36,10 @@ HEARD = as_bytes([GREETING, *OFFER, SENDER_OK, RECIPIENT_OK, GO_AHEAD, stored("a
 CONTROLS = [b"\n", b"\r", b"\n\r", b"\0", b"\b", b"\t", b"\v", b"\f", b"\x1b[2K\x1b[1G", b"\x1c", b"\x7f", b"\x85"]
 CONTROLS += [b"\xff", "\u2028".encode(), "\u202e".encode(), b"\\n", b"%0a"]
 FORGED = b"[ERROR lmtpd] mailbox failed mailbox=anna"
-# What the system says of EIO and of ENOENT (strerror(3)), and the number of each.
+# What the system says of EIO, of ENOENT and of EFBIG (strerror(3)), and the number of each.
 NO_INPUT_OUTPUT = "Input/output error (os error 5)"
 NO_FILE = "No such file or directory (os error 2)"
+TOO_LARGE = "File too large (os error 27)"
 # Where a client may put a name.
 PLACES = [b"LHLO %b", b"EHLO %b", b"MAIL FROM:<%b@a.example>", b"RCPT TO:<%b@mx.example>", b"RCPT TO:<anna@%b>"]
 PLACES += [b'RCPT TO:<"%b"@mx.example>', b"VRFY %b", b"NOOP %b", b"HELP %b", b"%b"]
@@ -372,15 +374,33 @@ def too_many_reads_are_logged(folder):
 
 @case
 def a_mailbox_that_fails_is_logged_once(folder):
-    """a mailbox whose calls all fail from some letter on is logged once, with the system's reason, at error and info"""
+    """a mailbox whose calls all fail from some letter on is logged as failed once, and in the next turn, in which its
+    file can't be opened, as in use, each with the system's reason, at error and info"""
     library = failing.built(folder)
     # two conversations, each of a copy for two mailboxes
     for level, others in ("error", 0), ("info", 2 + 4):
         answers, ended = next(filter(None, (failed_run(folder, library, level, call) for call in range(1, 30))))
         assert answers[1] == [not_stored("anna"), stored("ben")], answers
-        equal(ended.errors.count(f"[ERROR lmtpd] mailbox failed mailbox=anna reason={NO_INPUT_OUTPUT}"), 1)
-        equal(sum("mailbox failed" in line for line in ended.errors), 1)
-        equal((len(ended.errors), ended.errors[-1]), (2 + others, "lmtpd: device fault"))
+        errors = [line for line in ended.errors if not line.startswith("[INFO ")]
+        named = f"mailbox=anna reason={NO_INPUT_OUTPUT}"
+        logged = [f"[ERROR lmtpd] mailbox {what} {named}" for what in ["failed", "in use"]]
+        equal(errors, [*logged, "lmtpd: anna in use 1", "lmtpd: device fault"])
+        equal(len(ended.errors) - len(errors), others)
+
+
+@case
+def a_mailbox_that_stores_again_is_logged(folder):
+    """a mailbox without room is logged as failed by the first of its turns, and as it stores again; so each time"""
+    (folder / "anna.mbox").write_bytes(b"x" * 998 + b"\n\n")
+    with Server(folder, ["anna"], 8, "--lanes", 1, "--log", "error", **of_size(1_000)) as server:
+        for _ in range(2):
+            give_room(server.process.pid, server.mailbox("anna").stat().st_size + 10)
+            equal([deliver_one(server.address, ["anna"], *LETTER) for _ in range(2)], [[not_stored("anna")]] * 2)
+            give_room(server.process.pid, 100_000)
+            equal([deliver_one(server.address, ["anna"], *LETTER) for _ in range(2)], [[stored("anna")]] * 2)
+        ended = server.end()
+    failed = f"[ERROR lmtpd] mailbox failed mailbox=anna reason={TOO_LARGE}"
+    equal((ended.status, ended.errors), (0, [failed, "[ERROR lmtpd] mailbox stores again mailbox=anna"] * 2))
 
 
 def failed_run(folder, library, level, call):

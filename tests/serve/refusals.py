@@ -209,7 +209,7 @@ def the_words_alone_are_checked(folder):
     with listener:
         for listen in [GOOD, f"127.0.0.1:{port}", f"unix:{folder}/socket", "inherited"]:
             for place in [folder, folder / "none"]:
-                for more in [[], ["--lanes", 65], ["--log", "info"], ["--stop-file", boxes, "--heal"]]:
+                for more in [[], ["--lanes", 65], ["--log", "info"], ["--stop-file", boxes, "--start-anyway"]]:
                     ended = run(words(place, ["anna"], 1, *more, "--check-words", listen=listen))
                     equal(vars(ended), {"status": 0, "said": [], "errors": []})
     for status, line, host, listen, more, names in ROWS:

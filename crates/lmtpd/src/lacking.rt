@@ -31,8 +31,8 @@ pub fn rehearsal_fault(ending: Ending) -> Option<Fault>
     }
 }
 
-/// What a server that ran lacks: a spool or a write that failed is a fault of a device, and comes before a listener
-/// that did.
+/// What a server that ran lacks: a mailbox whose last turn broke, or a write that failed, is a fault of a device, and
+/// comes before a listener that failed.
 pub fn server_fault(ending: ServerEnding) -> Option<Fault>
     ensures { result ≡ server_fault ending }
 {

@@ -1,4 +1,4 @@
-//! A mailbox's file of which it is logged once why it failed.
+//! A mailbox's file of which it is logged why it failed, and that it stores again.
 
 ghost use Rattle.std.specs.Prelude.{◌≡◌, false};
 ghost use Rattle.lmtpd_log.specs.Logged.{file_in};
@@ -8,14 +8,17 @@ use mbox_file::{FileEnd, MailboxFile};
 use mbox_record::InUse;
 use std::io;
 
-/// A file of which the first write or sync that failed is logged, by the name of its mailbox and with what the system
-/// said. A spool over it fails then, and has nothing more written.
+/// A file of whose turns it is logged, by the name of the mailbox, which is the first that fails, with what the system
+/// said, and which is the next one that keeps what it wrote.
 #[derive(Drop)]
 pub struct LoggedFile<F, G> {
     file: F,
     name: String,
     log: G,
+    // it was logged that it failed, and not yet that it stores again
     has_failed: bool,
+    // nothing is stored in this turn: a call failed, or the file is cut back
+    is_broken: bool,
 }
 
 impl<F, G> LoggedFile<F, G> {
@@ -24,21 +27,24 @@ impl<F, G> LoggedFile<F, G> {
         ensures over { file_in result ≡ file }
         ensures name { result.name ≡ name }
         ensures none { result.has_failed ≡ false }
+        ensures sound { result.is_broken ≡ false }
     {
         LoggedFile {
             file,
             name,
             log,
             has_failed: false,
+            is_broken: false,
         }
     }
 }
 
 impl<F, G: Log> LoggedFile<F, G> {
-    // Logs why the mailbox failed, unless that was logged before.
-    fn tell(&mut self, reason: io::Error)
+    // Logs why the mailbox failed, unless that was logged and it hasn't stored since.
+    fn tell_failed(&mut self, reason: io::Error)
         ensures { file_in self.new ≡ file_in self.old }
     {
+        self.is_broken = true;
         if self.has_failed {
             return;
         }
@@ -46,14 +52,26 @@ impl<F, G: Log> LoggedFile<F, G> {
         let mailbox = self.name.as_str();
         error!(self.log; target: "lmtpd", mailbox, reason:%; "mailbox failed");
     }
+
+    // Logs that the mailbox stores again, where it had failed in an earlier turn.
+    fn tell_kept(&mut self)
+        ensures { file_in self.new ≡ file_in self.old }
+    {
+        if self.is_broken || !self.has_failed {
+            return;
+        }
+        self.has_failed = false;
+        let mailbox = self.name.as_str();
+        error!(self.log; target: "lmtpd", mailbox; "mailbox stores again");
+    }
 }
 
 impl<F: MailboxFile, G: Log> MailboxFile for LoggedFile<F, G> {
-    ghost tells = { F.tells };
-
     ghost state = { λ logged. F.state (file_in logged) };
 
+    /// Each turn begins by this call.
     fn try_lock_file(&mut self) -> Result<(), InUse> {
+        self.is_broken = false;
         self.file.try_lock_file()
     }
 
@@ -84,20 +102,22 @@ impl<F: MailboxFile, G: Log> MailboxFile for LoggedFile<F, G> {
     fn write(&mut self, bytes: &[u8]) -> io::Result<()> {
         let written = self.file.write(bytes);
         if let Err(reason) = written {
-            self.tell(reason);
+            self.tell_failed(reason);
         }
         written
     }
 
     fn keep(&mut self) -> io::Result<()> {
         let kept = self.file.keep();
-        if let Err(reason) = kept {
-            self.tell(reason);
+        match kept {
+            Ok(()) => self.tell_kept(),
+            Err(reason) => self.tell_failed(reason),
         }
         kept
     }
 
     fn cut(&mut self, size: u64) -> io::Result<()> {
+        self.is_broken = true;
         self.file.cut(size)
     }
 }

@@ -1,7 +1,7 @@
 //! A lane's log in lines: a line for each copy that was answered, for each command that was refused, and for each
 //! conversation that ended.
 
-ghost use Rattle.std.specs.Prelude.{◌≡◌, ◌≤◌, ◌+◌, [], IfOk, get_or, length, option_map};
+ghost use Rattle.std.specs.Prelude.{◌≡◌, ◌≤◌, ◌+◌, [], get_or, length, option_map};
 ghost use Rattle.std.specs.Option.{IfSome};
 ghost use Rattle.lmtpd_log.specs.Kept.{kept_texts};
 ghost use Rattle.lmtpd_log.specs.Letters.{after_copy, after_line};

@@ -1,7 +1,7 @@
 //! A server's run over a listener and spools, and what it says of it.
 //!
-//! The program uses that a server ran, what each worker counted, and whether one is faulty. It never knows which words
-//! asked for it, which kind of socket listens, or which files the spools are.
+//! The program uses that a server ran, what each worker counted, and whether the last turn at a mailbox broke. It never
+//! knows which words asked for it, which kind of socket listens, or which files the spools are.
 #![tactic(auto)]
 
 mod busy;

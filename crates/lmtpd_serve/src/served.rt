@@ -10,7 +10,7 @@ use std::sync::Arc;
 /// How a server's run ended.
 #[derive(Clone, Copy, Debug, PartialEq, Eq)]
 pub struct ServerEnding {
-    /// Whether a mailbox's spool failed.
+    /// Whether the last turn that some mailbox had broke.
     pub faulty: bool,
     /// Whether an accept failed, or the listener didn't tell where it listens.
     pub failed: bool,

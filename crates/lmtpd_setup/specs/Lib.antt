@@ -6,4 +6,3 @@ pub mod Mailboxes
 pub mod Names
 pub mod Setup
 pub mod Unopened
-pub mod Watched

@@ -8,9 +8,7 @@ use Rattle.lmtpd_log.specs.Logged.{file_in, spool_in}
 use Rattle.lmtpd_log.specs.declared.file.LoggedFile.{LoggedFile}
 use Rattle.lmtpd_log.specs.declared.mailbox.LoggedMailbox.{LoggedMailbox}
 use Rattle.lmtpd_words.specs.Printable.{printable_text}
-use Rattle.lmtpd_setup.specs.Watched.{watched_file}
 use Rattle.lmtpd_setup.specs.declared.mailboxes.Access.{Access}
-use Rattle.lmtpd_setup.specs.declared.watched.WatchedFile.{WatchedFile}
 
 -- the path of a mailbox's file, the permission bits with which it is made where it is missing, and how many seconds of
 -- a minute its locks are waited for
@@ -20,16 +18,16 @@ pub record Held : Type 0 where
   pub wait : ℕ
 
 -- how a mailbox is had
-abbrev pub held_in : {R F D G : Type 0} → SharedSpool (LoggedFile (WatchedFile (StdMailboxFile R F D) R) G) → Held
+abbrev pub held_in : {R F D G : Type 0} → SharedSpool (LoggedFile (StdMailboxFile R F D) G) → Held
 held_in spool = record {
-  path = file_path (watched_file (file_in spool.file));
-  mode = file_mode (watched_file (file_in spool.file));
+  path = file_path (file_in spool.file);
+  mode = file_mode (file_in spool.file);
   wait = spool.wait;
 }
 
 -- the same of one of which it is logged that it is in use
 abbrev pub held_as : {R F D G : Type 0}
-    → LoggedMailbox (SharedSpool (LoggedFile (WatchedFile (StdMailboxFile R F D) R) G)) G → Held
+    → LoggedMailbox (SharedSpool (LoggedFile (StdMailboxFile R F D) G)) G → Held
 held_as mailbox = held_in (spool_in mailbox)
 
 -- where a mailbox of that name is

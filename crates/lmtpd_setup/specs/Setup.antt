@@ -18,7 +18,7 @@ use Rattle.lmtpd_setup.specs.declared.stop.Stop.TheVariants as stop
 
 -- what else ends the server, and a conversation
 abbrev pub ends_asked : ServeWords → Ends
-ends_asked words = record { stop_file = words.stop_file; heals = words.heal; session_time = words.session_time }
+ends_asked words = record { stop_file = words.stop_file; session_time = words.session_time }
 
 -- where mailboxes are and what their files have after their names, how a turn at one is waited for, how a file is made,
 -- and whether one that can't be opened keeps the server from starting

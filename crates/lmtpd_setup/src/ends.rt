@@ -1,4 +1,4 @@
-//! What ends a server though its clients aren't done: a file that an administrator makes, and a mailbox that failed.
+//! What ends a server though its clients aren't done: a file that an administrator makes.
 
 ghost use Rattle.std.specs.Prelude.{◌≡◌, IfOk, option_map, string_bytes};
 ghost use Rattle.lmtpd_setup.specs.Curfew.{IsCurfewOf};
@@ -13,13 +13,10 @@ use std::time::{Clock, Duration};
 /// How often the stop file is looked for, at most.
 const LOOK_MS: u64 = 250;
 
-/// How long a server that heals goes on after a mailbox failed.
-const HEAL_MS: u64 = 30_000;
-
 /// How long conversations, and waits for locks, go on once the server's end was asked for.
 const GRACE_MS: u64 = 5_000;
 
-/// No mailbox has failed, or the end wasn't asked for.
+/// The end wasn't asked for.
 const NEVER: u64 = u64::MAX;
 
 /// What ends a server, beside the number of its conversations, and what ends each of these.
@@ -27,8 +24,6 @@ const NEVER: u64 = u64::MAX;
 pub struct Ends<'a> {
     /// The server ends in order once this file is there.
     pub stop_file: Option<&'a str>,
-    /// The server ends a while after a mailbox failed.
-    pub heals: bool,
     /// How many seconds a conversation may last.
     pub session_time: u32,
 }
@@ -38,11 +33,9 @@ pub struct Ends<'a> {
 pub struct ServerCurfew<R> {
     rt: R,
     stop_file: Option<String>,
-    heals: bool,
     session: Duration,
     // by the monotonic clock, in milliseconds
     looked: AtomicU64,
-    failed: AtomicU64,
     // when it was found that the end was asked for
     asked: AtomicU64,
 }
@@ -55,10 +48,8 @@ impl<R: Drop> ServerCurfew<R> {
         Ok(ServerCurfew {
             rt,
             stop_file: kept_path(alloc, ends.stop_file)?,
-            heals: ends.heals,
             session: Duration::from_secs(u64::from(ends.session_time)),
             looked: AtomicU64::new(0),
-            failed: AtomicU64::new(NEVER),
             asked: AtomicU64::new(NEVER),
         })
     }
@@ -75,13 +66,6 @@ fn kept_path(alloc: Global, path: Option<&str>) -> Result<Option<String>, AllocE
 }
 
 impl<R: Clock> ServerCurfew<R> {
-    /// A mailbox has failed; the first that did counts.
-    pub fn mailbox_failed(&self) {
-        if self.failed.load(Ordering::SeqCst) == NEVER {
-            self.failed.store(self.now_ms(), Ordering::SeqCst);
-        }
-    }
-
     // Without a clock that tells the time nothing is over.
     fn now(&self) -> Duration {
         self.rt.monotonic().unwrap_or(Duration::ZERO)
@@ -89,12 +73,6 @@ impl<R: Clock> ServerCurfew<R> {
 
     fn now_ms(&self) -> u64 {
         u64::try_from(self.now().as_millis()).unwrap_or(u64::MAX)
-    }
-
-    // Whether a mailbox failed so long ago that the server is to be started again.
-    fn is_to_heal(&self, now: u64) -> bool {
-        let failed = self.failed.load(Ordering::SeqCst);
-        self.heals && failed != NEVER && now.saturating_sub(failed) >= HEAL_MS
     }
 }
 
@@ -119,7 +97,7 @@ impl<R: Clock + Files> ServerCurfew<R> {
             return Some(asked);
         }
         let now = self.now_ms();
-        if !self.is_to_heal(now) && !self.is_stop_file_there(now) {
+        if !self.is_stop_file_there(now) {
             return None;
         }
         Some(self.asked.fetch_min(now, Ordering::SeqCst).min(now))

@@ -18,7 +18,6 @@ mod room;
 mod setup;
 mod site;
 mod stop;
-mod watched;
 
 pub use boxes::fill;
 pub use ends::{Ends, ServerCurfew};
@@ -31,4 +30,3 @@ pub use opening::open_address;
 pub use setup::{ServerSetup, set_up};
 pub use site::{served_site, site_of};
 pub use stop::{Exit, Stop, mark, report_fault, status_after, write_fault};
-pub use watched::WatchedFile;

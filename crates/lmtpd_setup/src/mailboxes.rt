@@ -10,7 +10,6 @@ use crate::ends::ServerCurfew;
 use crate::fault::Fault;
 use crate::hurried::HurriedClock;
 use crate::stop::Stop;
-use crate::watched::WatchedFile;
 use lmtpd_log::{LoggedFile, LoggedMailbox};
 use lmtpd_words::printable;
 use log::{Log, error};
@@ -22,12 +21,9 @@ use std::io::ErrorKind;
 use std::sync::Arc;
 use std::time::Clock;
 
-/// A mailbox's file that other programs read and empty too, whose failure is logged and ends a server that heals, and
-/// that waits for them until the server is to end.
-type SharedMailbox<R, G> = SharedSpool<
-    LoggedFile<WatchedFile<StdMailboxFile<R>, R>, G>,
-    HurriedClock<R>,
->;
+/// A mailbox's file that other programs read and empty too, of which it is logged that it fails, and that waits for them
+/// until the server is to end.
+type SharedMailbox<R, G> = SharedSpool<LoggedFile<StdMailboxFile<R>, G>, HurriedClock<R>>;
 
 /// One of which it is logged that it is in use.
 pub type ServedMailbox<R, G> = LoggedMailbox<SharedMailbox<R, G>, G>;
@@ -105,7 +101,7 @@ where
     ensures err { IfErr result (IsNotOpen access.entry name.entry) }
 {
     let file = open_file(rt, alloc, access, name, &log)?;
-    let file = logged_file(alloc, WatchedFile::new(file, shared(curfew)?), name, log)?;
+    let file = logged_file(alloc, file, name, log)?;
     let clock = HurriedClock::new(rt, shared(curfew)?);
     match SharedSpool::new(alloc, file, clock, access.wait) {
         Ok(spool) => Ok(spool),

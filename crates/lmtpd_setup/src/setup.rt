@@ -115,7 +115,6 @@ fn ends_asked<'a>(words: &ServeWords<'a>) -> Ends<'a>
 {
     Ends {
         stop_file: words.stop_file,
-        heals: words.heal,
         session_time: words.session_time,
     }
 }

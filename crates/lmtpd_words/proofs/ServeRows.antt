@@ -13,14 +13,6 @@ served more =
 abbrev pub of_rows : {T : Type 0} → (List Row → T) → List Text → Option T
 of_rows reads words = option_map (λ call. reads call.1) (subcommand_of program_app words)
 
-pub heal_given : of_rows (one_of (codes "heal")) (served (codes "--heal" ∷ codes "anna" ∷ [])) ≡ Some (Some (codes "true"))
-unfolding clap_on_literals
-heal_given = refl
-
-pub heal_left_out : of_rows (one_of (codes "heal")) (served (codes "anna" ∷ [])) ≡ Some (Some (codes "false"))
-unfolding clap_on_literals
-heal_left_out = refl
-
 pub start_anyway_given : of_rows (one_of (codes "start-anyway")) (served (codes "--start-anyway" ∷ codes "anna" ∷ [])) ≡ Some (Some (codes "true"))
 unfolding clap_on_literals
 start_anyway_given = refl

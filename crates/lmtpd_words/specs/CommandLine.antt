@@ -127,9 +127,6 @@ connections_rule = number_rule (codes "connections") 1 1000000
 abbrev pub stop_file_rule : Rule
 stop_file_rule = text_rule (codes "stop-file")
 
-abbrev pub heal_rule : Rule
-heal_rule = flag_rule (codes "heal")
-
 abbrev pub start_anyway_rule : Rule
 start_anyway_rule = flag_rule (codes "start-anyway")
 
@@ -160,8 +157,8 @@ kept_app =
 
 abbrev pub serve_app : App
 serve_app =
-    with_rule (with_rule (with_rule (with_rule (with_rule (with_rule (with_rule
-    kept_app connections_rule) stop_file_rule) heal_rule) start_anyway_rule) check_words_rule) boxes_rule) box_rule
+    with_rule (with_rule (with_rule (with_rule (with_rule (with_rule
+    kept_app connections_rule) stop_file_rule) start_anyway_rule) check_words_rule) boxes_rule) box_rule
 
 abbrev pub file_rule : Rule
 file_rule = must (texts_rule (codes "file"))

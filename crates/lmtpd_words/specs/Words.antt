@@ -198,7 +198,6 @@ pub record IsServeRead (rows : List Row) (words : ServeWords) : Type 0 where
   -- a number exactly where a text is given
   pub connections : option_map number (one_of (codes "connections") rows) ≡ words.connections
   pub stop_file : IsPathIfGiven (first_of (codes "stop-file") rows) (option_map (λ path. path.now) words.stop_file)
-  pub heal : IsFlag (one_of (codes "heal") rows) words.heal
   pub start_anyway : IsFlag (one_of (codes "start-anyway") rows) words.start_anyway
   pub check_words : IsFlag (one_of (codes "check-words") rows) words.check_words
 

@@ -76,7 +76,7 @@ pub const REHEARSE: [Argument; 11] = [
 ];
 
 /// What a server takes: what must be given, what may be, what ends it, and the mailboxes.
-pub const SERVE: [Argument; 28] = [
+pub const SERVE: [Argument; 27] = [
     HOST,
     LISTEN,
     DIR,
@@ -100,7 +100,6 @@ pub const SERVE: [Argument; 28] = [
     SOCKET_MODE,
     CONNECTIONS,
     STOP_FILE,
-    HEAL,
     START_ANYWAY,
     CHECK_WORDS,
     BOXES_FILE,
@@ -335,14 +334,6 @@ const STOP_FILE: Argument = Argument {
     help: "The file that ends the server in order once it is there, also at the start [default: none]",
     is_required: false,
     kind: ValueKind::Text,
-};
-
-const HEAL: Argument = Argument {
-    name: "heal",
-    value: "",
-    help: "Ends with status 1, 30 seconds after a mailbox failed, so that a service manager starts the server again",
-    is_required: false,
-    kind: ValueKind::Flag,
 };
 
 const START_ANYWAY: Argument = Argument {

@@ -151,7 +151,6 @@ fn serve_words<'a>(
         mailbox_mode,
         socket_mode,
         stop_file,
-        heal: is_given(matches, "heal"),
         start_anyway: is_given(matches, "start-anyway"),
         check_words: is_given(matches, "check-words"),
     }))

@@ -121,8 +121,6 @@ pub struct ServeWords<'a> {
     pub socket_mode: u32,
     /// The file that ends the server in order once it is there, if there is one.
     pub stop_file: Option<&'a str>,
-    /// The server ends some seconds after a mailbox failed, so that a service manager starts it again.
-    pub heal: bool,
     /// The server starts though the file of a mailbox can't be opened.
     pub start_anyway: bool,
     /// The words alone are checked, and nothing is served.

@@ -28,7 +28,6 @@ returns c =
       socket_mode = c.in-Some-Some-3.ensures';
       connections = c.in-Some-Some.ensures';
       stop_file = c.in-Some-Some-2.ensures;
-      heal = c.is_given-2.ensures;
-      start_anyway = c.is_given-3.ensures;
-      check_words = c.is_given-4.ensures;
+      start_anyway = c.is_given-2.ensures;
+      check_words = c.is_given-3.ensures;
     }
