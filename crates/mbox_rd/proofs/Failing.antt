@@ -1,10 +1,10 @@
 -- What a shared spool is left with where a call failed, and where its turn is over.
-use Rattle.std.proofs.Common.{◌≡◌, ◌⊎◌, ◌||◌, ◌&&◌, not, ℕ, ◌≤◌, Bool, true, false, take, List, [], ◌++◌, refl, sym, ap, ◌∙◌, subst, arith}
-use Rattle.std.proofs.Common.{inl, Some, append-nil as append_nil}
+use Rattle.std.proofs.Common.{◌≡◌, ◌⊎◌, ◌&&◌, not, ℕ, Bool, true, false, take, List, [], ◌++◌, refl, sym, ap, ◌∙◌}
+use Rattle.std.proofs.Common.{subst, arith, inl, Some, append-nil as append_nil}
 use Rattle.mail_world.specs.Failures.{Rises}
-use Rattle.mail_world.specs.Prefixes.{IsPrefix}
-use Rattle.mbox_file.specs.MailboxFile.{FileState, HasNotAppended}
-use Rattle.mbox_record.specs.Spool.{SpoolFailed, EndsTurn, LeavesPart}
+use Rattle.mail_world.specs.Turns.{Standing}
+use Rattle.mbox_file.specs.MailboxFile.{FileState}
+use Rattle.mbox_record.specs.Spool.{SpoolFailed, EndsTurn}
 use Rattle.mbox_record.specs.Sharing.{Sharing}
 use Rattle.mail_world.specs.Endings.{Ending, ending, ending_from}
 use Rattle.mbox_record.specs.Tail.{ending_of}
@@ -20,72 +20,85 @@ is_sound true false h = (refl, refl)
 is_sound true true h = cc
 is_sound false has_failed h = cc
 
-stays_or_is_cut : (broke : Bool) (old new : FileState) (n : ℕ) → HasEndedTurn old new broke n → (new.bytes ≡ old.bytes) ⊎ (new.bytes ≡ take n old.bytes)
+stays_or_is_cut : (broke : Bool) (old new : FileState) (n : ℕ) → HasEndedTurn old new broke n
+    → (new.bytes ≡ old.bytes) ⊎ (new.bytes ≡ take n old.bytes)
 stays_or_is_cut true old new n ended = (ended.is_cut refl).left
 stays_or_is_cut false old new n ended = inl (ended.stays refl).0
 
 module _ {F : Type 0} (state : F → FileState) where
+  abbrev bytes_of : SharedSpool F → List ℕ
+  bytes_of spool = (state spool.file).bytes
+
+  -- the spool failed, once that is so of its count
+  abbrev Fails : List ℕ → SharedSpool F → SharedSpool F → Type 0
+  Fails text old new = Rises old.failures new.failures → SpoolFailed (state_of state old) (state_of state new) text
+
   -- how the file ends with what waits
-  pub knows_tail : (spool : SharedSpool F) (tail : Ending) → IsInOrder state spool → tail ≡ ending_from (ending_of spool.tail) spool.waiting
+  pub knows_tail : (spool : SharedSpool F) (tail : Ending) → IsInOrder state spool
+      → tail ≡ ending_from (ending_of spool.tail) spool.waiting
       → spool.in_turn && not spool.has_failed ≡ true → tail ≡ ending (contents_of state spool)
   knows_tail spool tail order is h =
       let sound = is_sound spool.in_turn spool.has_failed h in
-      goes_on (ending_of spool.tail) tail (state spool.file).bytes spool.waiting (contents_of state spool) is refl (order.ends sound.0 sound.1)
+      let ends = order.ends sound.0 sound.1 in
+      goes_on (ending_of spool.tail) tail (bytes_of spool) spool.waiting (contents_of state spool) is refl ends
 
   -- nothing of the file changed
-  pub fails_now : (old new : SharedSpool F) (text : List ℕ) → IsInOrder state old → new ≡ failed_again old → Rises old.failures new.failures
-      → SpoolFailed (state_of state old) (state_of state new) text
+  pub fails_now : (old new : SharedSpool F) (text : List ℕ) → IsInOrder state old → new ≡ failed_again old
+      → Fails text old new
   fails_now old new text order is rises =
-      let P : SharedSpool F → Type 0 = λ s. Rises old.failures s.failures → SpoolFailed (state_of state old) (state_of state s) text in
-      let now : P (failed_again old) = λ up. record {
-        left = none_written old.in_turn old.log.began old.began (state old.file).bytes old.waiting text order.free order.stands;
+      let now : Fails text old (failed_again old) = λ up. record {
+        left = none_written old.in_turn old.log.began old.began (bytes_of old) old.waiting text order.free order.stands;
         failed = up;
         limited = refl;
         covered = omega arith;
         full = tt;
         turn = refl;
-      } in subst P (sym is) now rises
+      } in subst (Fails text old) (sym is) now rises
 
   -- in a turn the file has a part of what waited
   pub fails_after : (old new : SharedSpool F) (text : List ℕ) → IsInOrder state old → old.in_turn ≡ true
-      → LosesPart (state old.file) (state new.file) old.waiting → Breaks old new → Rises old.failures new.failures
-      → SpoolFailed (state_of state old) (state_of state new) text
+      → LosesPart (state old.file) (state new.file) old.waiting → Breaks old new → Fails text old new
   fails_after old new text order turn lost breaks rises =
-      let broken : SharedSpool F = record (failed_again old) { file = new.file } in
-      let P : SharedSpool F → Type 0 = λ s. Rises old.failures s.failures → SpoolFailed (state_of state old) (state_of state s) text in
-      let now : P broken = λ up. record {
-        left = part_left old.log.began old.began (state old.file).bytes old.waiting lost.prefix text (state new.file).bytes (order.stands turn)
-            lost.part (ap (λ (s : FileState). s.bytes) lost.same);
+      let grown = ap (λ (s : FileState). s.bytes) lost.same in
+      let now : Fails text old (record (failed_again old) { file = new.file }) = λ up. record {
+        left = part_left old.log.began old.began (bytes_of old) old.waiting lost.prefix text (bytes_of new)
+            (order.stands turn) lost.part grown;
         failed = up;
         limited = refl;
         covered = lost.kept;
         full = tt;
         turn = refl;
-      } in subst P (sym breaks) now rises
+      } in subst (Fails text old) (sym breaks) now rises
 
-  -- its turn is over
-  pub ends : (old seen : SharedSpool F) (file : F) (waiting : List ℕ) (log : TurnLog) → seen ≡ old → IsInOrder state seen → seen.in_turn ≡ true
-      → HasEndedTurn (state seen.file) (state file) seen.has_failed seen.began → waiting ≡ [] → log ≡ ended_at seen.log (standing_of (state file) seen.failures)
-      → EndsTurn (state_of state old) (state_of state (record seen { file = file; waiting = waiting; in_turn = false; log = log }))
+  -- once its turn is over
+  abbrev over : SharedSpool F → F → List ℕ → TurnLog → SharedSpool F
+  over spool file waiting log = record spool { file = file; waiting = waiting; in_turn = false; log = log }
+
+  pub ends : (old seen : SharedSpool F) (file : F) (waiting : List ℕ) (log : TurnLog) → seen ≡ old
+      → IsInOrder state seen → seen.in_turn ≡ true
+      → HasEndedTurn (state seen.file) (state file) seen.has_failed seen.began → waiting ≡ []
+      → log ≡ ended_at seen.log (standing_of (state file) seen.failures)
+      → EndsTurn (state_of state old) (state_of state (over seen file waiting log))
   ends old seen file waiting log view order turn ended empty listed =
       let S = state_of state in
-      let now : List ℕ → TurnLog → SharedSpool F = λ w l. record seen { file = file; waiting = w; in_turn = false; log = l } in
-      let last = ended_at seen.log (standing_of (state file) seen.failures) in
-      let over : EndsTurn (S seen) (S (now [] last)) = record {
+      let at : List ℕ → Standing = λ b. record { bytes = b; synced = (state file).kept; failures = seen.failures } in
+      let last = over seen file [] (ended_at seen.log (at (state file).bytes)) in
+      let all = append_nil (state file).bytes in
+      let ends : EndsTurn (S seen) (S last) = record {
         stays = λ sound synced. (
-          ap Some (append_nil (state file).bytes ∙ (ended.stays sound).0 ∙ sym (append_nil (state seen.file).bytes)
-              ∙ ap (λ (l : List ℕ). (state seen.file).bytes ++ l) (sym (order.synced synced))),
+          ap Some (all ∙ (ended.stays sound).0 ∙ sym (append_nil (bytes_of seen))
+              ∙ ap (λ (l : List ℕ). bytes_of seen ++ l) (sym (order.synced synced))),
           (ended.stays sound).1,
         );
-        left = cut_left seen.log.began seen.began (state seen.file).bytes seen.waiting [] (state file).bytes (order.stands turn)
+        left = cut_left seen.log.began seen.began (bytes_of seen) seen.waiting [] (state file).bytes (order.stands turn)
             (stays_or_is_cut seen.has_failed (state seen.file) (state file) seen.began ended);
         sound = refl;
         limited = refl;
-        sharing = let at : List ℕ → Sharing = λ b. record (S (now [] last)).sharing {
-          turns = (ended_at seen.log (record { bytes = b; synced = (state file).kept; failures = seen.failures })).turns;
-        } in ap at (sym (append_nil (state file).bytes));
+        sharing = let listing : List ℕ → Sharing = λ b. record (S last).sharing {
+          turns = (ended_at seen.log (at b)).turns;
+        } in ap listing (sym all);
       } in
-      let P : SharedSpool F → Type 0 = λ s. EndsTurn (S s) (S (now waiting log)) in
-      let Q : List ℕ → Type 0 = λ w. EndsTurn (S seen) (S (now w log)) in
-      let R : TurnLog → Type 0 = λ l. EndsTurn (S seen) (S (now [] l)) in
-      subst P view (subst Q (sym empty) (subst R (sym listed) over))
+      let P : SharedSpool F → Type 0 = λ s. EndsTurn (S s) (S (over seen file waiting log)) in
+      let Q : List ℕ → Type 0 = λ w. EndsTurn (S seen) (S (over seen file w log)) in
+      let R : TurnLog → Type 0 = λ l. EndsTurn (S seen) (S (over seen file [] l)) in
+      subst P view (subst Q (sym empty) (subst R (sym listed) ends))

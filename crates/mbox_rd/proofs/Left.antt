@@ -1,11 +1,11 @@
 -- What is left of a turn: the bytes at its lock, and of those that were taken since a prefix.
-use Rattle.std.proofs.Common.{◌≡◌, ◌⊎◌, inl, inr, ℕ, Bool, true, false, take, drop, List, [], ◌++◌, refl, sym, ap, ◌∙◌, append_assoc, subst}
-use Rattle.std.proofs.Common.{Option, Some, None, append-nil as append_nil}
+use Rattle.std.proofs.Common.{◌≡◌, ◌⊎◌, inl, inr, ℕ, Bool, true, false, take, drop, List, [], ◌++◌, refl, sym, ap}
+use Rattle.std.proofs.Common.{◌∙◌, append_assoc, subst, Option, Some, None, append-nil as append_nil}
 use Rattle.std.proofs.lemmas.List.{take-append-drop}
 use Rattle.mail_world.specs.Prefixes.{IsPrefix}
 use Rattle.mail_world.specs.Turns.{Standing}
 use Rattle.mbox_record.specs.Spool.{IsWithin, LeavesPart}
-use Rattle.mbox_rd.specs.SharedSpool.{BeginsWith, StandsOn}
+use Rattle.mbox_rd.specs.SharedSpool.{StandsOn}
 
 none_of : (text : List ℕ) → IsPrefix [] text
 none_of text = record { rest = text; whole = refl }
@@ -30,7 +30,8 @@ within lock file waiting prefix text n still part = record {
 }
 
 -- what is cut back is as it was at the lock
-cut_within : (lock file waiting text : List ℕ) (n : ℕ) → take n file ≡ lock → IsWithin lock ((file ++ waiting) ++ text) (lock ++ [])
+cut_within : (lock file waiting text : List ℕ) (n : ℕ) → take n file ≡ lock
+    → IsWithin lock ((file ++ waiting) ++ text) (lock ++ [])
 cut_within lock file waiting text n still = record {
   above = record { rest = []; whole = refl };
   below = record {
@@ -43,8 +44,8 @@ cut_within lock file waiting text n still = record {
 }
 
 -- in a turn a part of what waited is written
-pub part_left : (began : Option Standing) (n : ℕ) (file waiting prefix text now : List ℕ) → StandsOn began n file → IsPrefix prefix waiting
-    → now ≡ file ++ prefix → LeavesPart began (Some (file ++ waiting)) (Some (now ++ [])) text
+pub part_left : (began : Option Standing) (n : ℕ) (file waiting prefix text now : List ℕ) → StandsOn began n file
+    → IsPrefix prefix waiting → now ≡ file ++ prefix → LeavesPart began (Some (file ++ waiting)) (Some (now ++ [])) text
 part_left None n file waiting prefix text now stands part grown = absurd stands
 part_left (Some lock) n file waiting prefix text now stands part grown =
     let P : List ℕ → Type 0 = λ l. IsWithin lock.bytes ((file ++ waiting) ++ text) l in

@@ -13,7 +13,14 @@ no_fewer : (u v : ℕ) → Rises u v → u ≤ v
 no_fewer u v x = grind arith
 
 pub between-start : (s : FileState) → IsBetweenTries s s
-between-start s = record { range_lock = λ h. h; unremoved = omega arith; refusals = omega arith; openings = omega arith; unchanged = refl; sound = refl }
+between-start s = record {
+  range_lock = λ h. h;
+  unremoved = omega arith;
+  refusals = omega arith;
+  openings = omega arith;
+  unchanged = refl;
+  sound = refl;
+}
 
 pub between-missed : (s t u : FileState) → IsBetweenTries s t → HasMissed t u → IsBetweenTries s u
 between-missed s t u x y = record {
@@ -57,7 +64,8 @@ missed-then s t u x y = record {
 }
 
 -- what one try came to, by its answer
-pub tried-some : (s t : FileState) (seen : Option FileEnd) (end : FileEnd) → seen ≡ Some end → HasTried s t seen → HasBegun s t end
+pub tried-some : (s t : FileState) (seen : Option FileEnd) (end : FileEnd) → seen ≡ Some end → HasTried s t seen
+    → HasBegun s t end
 tried-some s t seen end is x = let P : Option FileEnd → Type 0 = λ v. HasTried s t v in subst P is x
 
 pub tried-none : (s t : FileState) (seen : Option FileEnd) → seen ≡ None → HasTried s t seen → HasMissed s t

@@ -73,8 +73,9 @@ abbrev pub StandsOn : Option Standing → ℕ → List ℕ → Type 0
 StandsOn None began bytes = ⊥
 StandsOn (Some lock) began bytes = BeginsWith lock began bytes
 
--- What holds of it between two calls: outside a turn nothing waits, nor after a good sync; in a turn both locks are held and
--- the file still begins with what stood there at the lock; and as long as no call failed in it, the end is known.
+-- What holds of it between two calls: outside a turn nothing waits, nor after a good sync; in a turn both locks are
+-- held, and the file still begins with what stood there at the lock; and as long as no call failed in it, its end is
+-- known.
 pub record IsInOrder {F : Type 0} (state : F → FileState) (spool : SharedSpool F) : Type 0 where
   pub free : spool.in_turn ≡ false → (spool.waiting ≡ []) × (spool.log.began ≡ None)
   pub synced : spool.is_unsynced ≡ false → spool.waiting ≡ []
@@ -110,7 +111,8 @@ pub record HasNoTurn {F : Type 0} (state : F → FileState) (old new : SharedSpo
   pub refused : Rises (state old.file).refusals (state new.file).refusals
   pub unchanged : (state new.file).changes ≡ (state old.file).changes
 
--- What a turn is to the fields: nothing waits, no call failed in it yet, and its bytes are counted from the file's length.
+-- What a turn is to the fields: nothing waits, no call failed in it yet, and its bytes are counted from the file's
+-- length.
 pub record StartsTurn {F : Type 0} (state : F → FileState) (old new : SharedSpool F) : Type 0 where
   pub was_free : old.in_turn ≡ false
   pub same : new ≡ record old {

@@ -77,8 +77,8 @@ pub record HasCutBack (old new : FileState) (size : ℕ) : Type 0 where
   pub same : new ≡ record old { bytes = new.bytes; kept = new.kept; changes = new.changes; faults = new.faults }
   pub is_cut : IsCutBack old new size
 
--- Both locks were given back, but the lock file where it couldn't be removed. The bytes stay, or they were cut back before,
--- where that was asked for.
+-- Both locks were given back, but the lock file where it couldn't be removed. The bytes stay, or, where the turn broke,
+-- they were cut back before.
 pub record HasEndedTurn (old new : FileState) (is_broken : Bool) (size : ℕ) : Type 0 where
   pub range_lock : new.has_range_lock ≡ false
   pub free : LeavesNoLockFile old new

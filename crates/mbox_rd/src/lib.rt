@@ -1,9 +1,9 @@
 //! Mailboxes in the mboxrd format (RFC 4155) in files: a spool over a file that one program has alone, and one over a
 //! file that others use too, in turns.
 //!
-//! The program opens both by their paths, and has the names of the records and of the files below from here too. A copy
-//! of a mailbox takes its locks as a turn does. What a record is, how a file is locked and what the system says of it is
-//! never known here.
+//! The program opens both by their paths, and has the names of the records and of the files below from here too. A
+//! copy of a mailbox takes its locks as a turn does. What a record is, how a file is locked and what the system says of
+//! it is never known here.
 #![tactic(auto)]
 
 mod file;

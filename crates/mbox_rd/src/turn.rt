@@ -1,5 +1,5 @@
-//! How a turn at a mailbox's file begins and ends: both locks are taken, on the file that the path names, and its end is
-//! looked at again; what is to be cut is cut while both are held.
+//! How a turn at a mailbox's file begins and ends: both locks are taken, on the file that the path names, and its end
+//! is looked at again; what is to be cut is cut while both are held.
 ghost use Rattle.std.specs.Prelude.{◌≡◌, true, IfOk, OnOk, OnErr};
 ghost use Rattle.mail_world.specs.Failures.{Rises};
 ghost use Rattle.mbox_file.specs.MailboxFile.{IsHeld};

@@ -4,9 +4,12 @@ use Rattle.mbox_rd.proofs.Failing.{fails_now, fails_after}
 use Rattle.mbox_rd.proofs.shared.SharedSpoolSpool.append.Goals as goal
 
 pub returns-then-self-clause-err : goal.returns-then-self-clause-err
-returns-then-self-clause-err g c = fails_now g.F.MailboxFile.state c.args.self.now _ _
-    (subst (IsInOrder g.F.MailboxFile.state) c.self.view_is c.self.invariant.2) c.fail.ensures.new c.fail.ensures.counted
+returns-then-self-clause-err g c =
+    let S = g.F.MailboxFile.state in let order = subst (IsInOrder S) c.self.view_is c.self.invariant.2 in
+    fails_now S c.args.self.now c.fail.new.self c.args.piece.now order c.fail.ensures.new c.fail.ensures.counted
 
 pub returns-then-is_err-clause-err : goal.returns-then-is_err-clause-err
-returns-then-is_err-clause-err g c = fails_after g.F.MailboxFile.state c.args.self.now c.fail-then-is_err.new.self c.args.piece.now
-    (subst (IsInOrder g.F.MailboxFile.state) c.self.view_is c.self.invariant.2) (search rules) (search rules) (search rules) (search rules)
+returns-then-is_err-clause-err g c =
+    let S = g.F.MailboxFile.state in let order = subst (IsInOrder S) c.self.view_is c.self.invariant.2 in
+    fails_after S c.args.self.now c.fail-then-is_err.new.self c.args.piece.now order
+    (search rules) (search rules) (search rules) (search rules)

@@ -4,5 +4,7 @@ use Rattle.mbox_rd.proofs.Failing.{ends}
 use Rattle.mbox_rd.proofs.shared.SharedSpoolSpool.unlock.Goals as goal
 
 pub returns-clause-over : goal.returns-clause-over
-returns-clause-over g c = λ turn. ends g.F.MailboxFile.state c.args.self.now _ c.end_turn.new.file _ _ c.self.view_is c.self.invariant.2
-    (ap (λ (s : SharedSpool _). s.in_turn) c.self.view_is ∙ turn) c.end_turn.ensures c.clear.ensures.items c.end.ensures
+returns-clause-over g c = λ turn.
+    ends g.F.MailboxFile.state c.args.self.now _ c.end_turn.new.file _ _ c.self.view_is c.self.invariant.2
+    (ap (λ (s : SharedSpool _). s.in_turn) c.self.view_is ∙ turn)
+    c.end_turn.ensures c.clear.ensures.items c.end.ensures
