@@ -1,5 +1,5 @@
 -- A piece that is read of bytes.
-use Rattle.std.proofs.Common.{◌≡◌, ◌∙◌, ℕ, ◌+◌, ◌-◌, ◌<◌, ◌≤◌, List, [], ◌++◌, length, take, drop, min, ap, sym, subst, arith, length-append}
+use Rattle.std.proofs.Common.{◌≡◌, ◌∙◌, ℕ, ◌+◌, ◌-◌, ◌<◌, ◌≤◌, List, [], ◌++◌, length, take, drop, min, ap, sym, arith, length-append}
 use Rattle.std.proofs.lemmas.List.{take-append-le, take-append-drop, drop-drop, drop_min, length-drop, length-take, nil_from_length, take_all, take_rest}
 
 module _ (bytes held buffer copied : List ℕ) (r from size : ℕ) (same : held ≡ bytes) (place : from ≡ min r (length bytes))

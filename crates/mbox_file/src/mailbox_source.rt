@@ -2,8 +2,8 @@
 ghost use Rattle.std.specs.Prelude.{◌≡◌, ℕ, Bool, List, Option, Some, true, OnOk, OnErr};
 ghost use Rattle.std.specs.Io.{ReadsAtMost};
 ghost use Rattle.std.specs.Io.KnownBytes.{ReadConsumes};
-ghost use Rattle.mbox_file.specs.MailboxFile.{HasRefused};
-ghost use Rattle.mbox_file.specs.MailboxSource.{HasBothLocks, HasNotRead};
+ghost use Rattle.mbox_file.specs.MailboxFile.{HasRefused, IsHeld};
+ghost use Rattle.mbox_file.specs.MailboxSource.{HasNotRead};
 
 use crate::mailbox_file::MailboxFile;
 use mbox_record::InUse;
@@ -27,7 +27,7 @@ pub trait MailboxSource: MailboxFile {
     /// Reads what comes next, as much as there is room for at most; nothing comes where there is room only at the end.
     fn read(&mut self, buffer: &mut [u8]) -> io::Result<usize>
         ensures bound { ReadsAtMost result buffer.new }
-        ensures bytes { HasBothLocks (Self.state self.old)
+        ensures bytes { IsHeld (Self.state self.old)
             → ReadConsumes (unread self.old) (unread self.new) result buffer.new }
         ensures ok { OnOk result (Self.state self.new ≡ Self.state self.old) }
         ensures err { OnErr result (HasNotRead (Self.state self.old) (Self.state self.new)) };

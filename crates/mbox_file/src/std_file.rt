@@ -104,6 +104,11 @@ impl<R: Files + Clock + Drop> MailboxFile for StdMailboxFile<R>
 where
     R::File: RangeLock,
 {
+    ghost use Rattle.std.specs.Io.{appended_bytes};
+    ghost use Rattle.std.specs.Io.KnownBytes.{Appends};
+    ghost use Rattle.mbox_file.specs.MailboxFile.{HasAppended, HasNotAppended, IsHeld};
+    ghost use Rattle.mbox_file.specs.SystemFile.{known_of};
+
     ghost state = { λ s. s.told.state };
 
     fn try_lock_file(&mut self) -> Result<(), InUse> {
@@ -191,9 +196,16 @@ where
         }
     }
 
-    /// A write that a signal interrupted is made again.
-    #[tactic(auto, using(crate::proofs::Written::part_of))]
-    fn write(&mut self, bytes: &[u8]) -> io::Result<()> {
+    /// A write that a signal interrupted is made again. What is told is what the file took, where its bytes are known.
+    #[tactic(auto, using(crate::proofs::Written::part_of, crate::proofs::Written::told_all, crate::proofs::Written::told_part))]
+    fn write(&mut self, bytes: &[u8]) -> io::Result<()>
+        requires held { IsHeld self.old.told.state }
+        ensures ok { OnOk result (HasAppended self.old.told.state self.new.told.state bytes.now) }
+        ensures err { OnErr result (HasNotAppended self.old.told.state self.new.told.state bytes.now) }
+        ensures taken { Appends (known_of R.File.contents self.old.system.open)
+            (known_of R.File.contents self.new.system.open)
+            (appended_bytes self.old.told.state.bytes self.new.told.state.bytes) }
+    {
         match self.system.write(bytes) {
             (_, Ok(())) => {
                 self.told.add(Step::Wrote(bytes));
