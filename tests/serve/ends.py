@@ -99,7 +99,7 @@ def a_mailbox_without_room(folder):
         equal((ended.status, ended.errors), (int(is_full_again), ["lmtpd: device fault"] * is_full_again))
         equal(ended.said, ["anna stored 1", f"ben stored {letters_told}"])
         found = server.mailbox("anna").read_bytes()
-        equal((found.startswith(OLD + b"From "), found.endswith(b"\n\nletter 3\n\n")), (True, True))
+        equal((found.startswith(OLD + b"From "), found.endswith(b"\nletter 3\n\n")), (True, True))
 
 
 def deliver_both(server, number):
