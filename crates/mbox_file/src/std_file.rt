@@ -49,8 +49,8 @@ where
         })
     }
 
-    /// Opens the plain file at that path, whosever it is and for root too, and makes none. Neither lock is held. Its lock
-    /// file is made and not linked, since it is taken once.
+    /// Opens the plain file at that path, whosever it is and for root too, and makes none. Neither lock is held. Its
+    /// lock file is made and not linked, since it is taken once.
     pub fn existing(rt: R, alloc: Global, path: &str) -> io::Result<StdMailboxFile<R>>
         ensures path { IfOk result (λ file. file_path file ≡ path.now) }
         ensures mode { IfOk result (λ file. file_mode file ≡ None) }
@@ -197,7 +197,14 @@ where
     }
 
     /// A write that a signal interrupted is made again. What is told is what the file took, where its bytes are known.
-    #[tactic(auto, using(crate::proofs::Written::part_of, crate::proofs::Written::told_all, crate::proofs::Written::told_part))]
+    #[tactic(
+        auto,
+        using(
+            crate::proofs::Written::part_of,
+            crate::proofs::Written::told_all,
+            crate::proofs::Written::told_part
+        )
+    )]
     fn write(&mut self, bytes: &[u8]) -> io::Result<()>
         requires held { IsHeld self.old.told.state }
         ensures ok { OnOk result (HasAppended self.old.told.state self.new.told.state bytes.now) }

@@ -1,5 +1,5 @@
--- A walk by hand, since a struct with ghost data is made. The machine writes two locals, the marker and the struct of it;
--- the state is the one that was picked, and is made of nothing.
+-- A walk by hand, since a struct with ghost data is made. The machine writes two locals, the marker and the struct of
+-- it; the state is the one that was picked, and is made of nothing.
 use Rattle.std.proofs.Common.{[], ◌∷◌, refl}
 use Rattle.std.proofs.raw_atomic.Walks.{proved}
 use base.Fml.{Fml, ftrue}
