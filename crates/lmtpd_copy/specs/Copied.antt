@@ -24,8 +24,8 @@ pub record StandsLocked (old new : FileState) : Type 0 where
   pub held : IsHeld new
   pub unchanged : new.changes ≡ old.changes
 
--- Neither lock is left, but the lock file where it couldn't be removed, and nothing was written to the mailbox: the locks
--- were never had, or both were given back.
+-- Neither lock is left, but the lock file where it couldn't be removed, and nothing was written to the mailbox: the
+-- locks were never had, or both were given back.
 pub record GivesLocksBack (old new : FileState) : Type 0 where
   pub held : FileState
   pub stood : StandsLocked old held
@@ -67,8 +67,8 @@ module _ {F T : Type 0} (is_known : Bool) (source : F → FileState) (unread : F
     pub copied : IsMadeAndFilled locked done to_old to_new
     pub let_go : HasLetGo (source done) (source from_new)
 
--- Some mailbox's file and the copy's, of which only the bytes may be known: all that the one had left was written to the
--- other after it was made.
+-- Some mailbox's file and the copy's, of which only the bytes may be known: all that the one had left was written to
+-- the other after it was made.
 abbrev pub HasCopiedFile : {F T : Type 0} → (F → Option (List ℕ)) → (T → TargetState) → Type 0
 HasCopiedFile {F = F} {T = T} unread target =
     (first : F) × ((made : T) × ((after : T) × Copies (unread first) (target made).bytes (target after).bytes))

@@ -197,14 +197,7 @@ where
     }
 
     /// A write that a signal interrupted is made again. What is told is what the file took, where its bytes are known.
-    #[tactic(
-        auto,
-        using(
-            crate::proofs::Written::part_of,
-            crate::proofs::Written::told_all,
-            crate::proofs::Written::told_part
-        )
-    )]
+    #[tactic(auto, using(crate::proofs::Written::part_of, crate::proofs::Written::told_all, crate::proofs::Written::told_part))]
     fn write(&mut self, bytes: &[u8]) -> io::Result<()>
         requires held { IsHeld self.old.told.state }
         ensures ok { OnOk result (HasAppended self.old.told.state self.new.told.state bytes.now) }
