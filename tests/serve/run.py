@@ -24,6 +24,7 @@ import suffixes  # noqa: F401
 import torn_tails  # noqa: F401
 import torn_writes  # noqa: F401
 import unopened  # noqa: F401
+import written  # noqa: F401
 from cases import run_all
 
 sys.exit(0 if run_all(sys.argv[1:]) else 1)

@@ -2,6 +2,7 @@
 use Rattle.std.proofs.Common.{◌≡◌, ℕ, ◌+◌, List, [], ◌∷◌, ◌++◌, length, take, drop, Bool, true, false, Option, Some, None, inl, inr, refl, sym, ap, ◌∙◌, subst}
 use Rattle.std.proofs.Common.{true≢false, arith}
 use Rattle.std.specs.Prelude.{IsSome, is_some}
+use Rattle.std.specs.List.{list_any}
 use Rattle.std.specs.Option.{IfSome}
 use Rattle.std.specs.Io.KnownBytes.{Appends}
 use Rattle.mail_world.specs.declared.Note.{Note}
@@ -19,9 +20,10 @@ use Rattle.box_worker.specs.Turned.{SharedMailbox, shared_of, HaveTurned}
 use Rattle.box_worker.specs.Worked.{outcomes_after, IsAccounted}
 use Rattle.lmtp_threads.specs.Works.{BoxWork, IsBoxWork}
 use Rattle.lmtp_threads.specs.declared.tally.Tally.{Tally}
-use Rattle.lmtp_house.specs.RunOfModel.{IsToldAlone, IsModelled, IsCourseOf}
+use Rattle.lmtp_house.specs.RunOfModel.{IsToldAlone, NoneHeals, says_failed, IsModelled, IsCourseOf}
 use Rattle.lmtp_house.proofs.Copying.{marks, keeps, before_all, CourseTo, faulty_first, ends_whole, ends_torn, torn_none}
 use Rattle.lmtp_house.proofs.Turns.{turns_to}
+use Rattle.box_worker.proofs.Storing.{left_alone, knows_alone}
 use Rattle.mail_world.specs.Site.{Site}
 
 module _ (calendar : Calendar) (site : Site) where
@@ -50,7 +52,8 @@ module _ (at : Setting) (lanes boxes : ℕ) where
 
   -- a private mailbox whose worker settled some of these copies
   module _ (held : List ℕ) (copies : List Note) (outcomes : List Outcome) (old new : SpoolState) (start stored over : ℕ)
-      (known : IfSome at.quota (λ _. start ≡ length (held ++ mended held))) (told : outcomes ≡ outcomes_after at start (stored + over) copies) where
+      (alone : old.sharing.is_shared ≡ false) (known : IfSome at.quota (λ _. start ≡ length (held ++ mended held)))
+      (told : outcomes ≡ outcomes_after at start (stored + over) copies) where
     abbrev Settled : Bool → Type 0
     Settled faulty = HasSettled at start copies old (mailbox_of new stored over faulty)
 
@@ -108,11 +111,11 @@ module _ (at : Setting) (lanes boxes : ℕ) where
     telling : (bytes : List ℕ) → old.bytes ≡ Some held → new.bytes ≡ Some bytes → Settled true → To bytes true
     telling bytes e f h = elim (h.next refl) [
       | inl none ↦ (
-          let broken = none.1.failed in
+          let broken = left_alone old new none.1.text alone none.1.failed in
           let A : Option (List ℕ) → Option (List ℕ) → Type 0 = λ o p. Appends o p broken.prefix in
           let now : bytes ≡ held ++ broken.prefix = subst (A (Some held)) f (subst (λ o. A o new.bytes) e broken.appended) in
           let M : Option (List ℕ) → Type 0 = λ o. IfSome o (λ l. none.1.text ≡ mended l) in
-          let mends : none.1.text ≡ mended held = subst M e none.1.is in
+          let mends : none.1.text ≡ mended held = subst M e (none.1.is (knows_alone old.sharing alone)) in
           let P : List ℕ → Type 0 = λ l. To l true in
           subst P (sym now) (first_to broken.prefix (record { rest = broken.rest; whole = sym mends ∙ broken.whole }) none.0)
           )
@@ -160,36 +163,26 @@ module _ (at : Setting) (lanes boxes : ℕ) where
     Accounted = IsAccounted at work.taken work.outcomes old (mailbox_of new tally.stored tally.over tally.faulty)
 
     -- of a spool that isn't private, or tells nothing, nothing is said
-    unsaid : (held bytes : List ℕ) → (IsToldAlone old → ⊥) → IsCourse server (course_to held bytes) → HasCourse work old new tally
-    unsaid held bytes not is = record {
-      course = course_to held bytes;
-      is = is;
-      of_work = record { taken = refl; outcomes = refl; faulty = refl; old = λ t. absurd (not t); spool = λ t. absurd (not t) };
-    }
+    private_one : old.sharing.is_shared ≡ false → {A : Type 0} → old.sharing.is_shared ≡ true → A
+    private_one alone shared = absurd (true≢false (sym shared ∙ alone))
 
-    told_course : (held : List ℕ) → old.bytes ≡ Some held → Accounted → HasCourse work old new tally
-    told_course held e a =
+    told_course : old.sharing.is_shared ≡ false → (held : List ℕ) → old.bytes ≡ Some held → Accounted → HasCourse work old new tally
+    told_course alone held e a =
         let known = starts_known at.quota old a.start held e a.settled.starts in
-        let c = comes_told held work.taken work.outcomes old new a.start a.stored a.over known a.told e tally.faulty a.settled in
+        let c = comes_told held work.taken work.outcomes old new a.start a.stored a.over alone known a.told e tally.faulty a.settled in
         let P : Option (List ℕ) → Type 0 = λ o. IfSome o (λ l. held ≡ l) in
         record {
           course = course_to held c.0;
           is = c.1;
-          of_work = record { taken = refl; outcomes = refl; faulty = refl; old = λ t. subst P (sym e) refl; spool = λ t. c.2 };
+          of_work = record {
+            taken = refl;
+            outcomes = refl;
+            faulty = λ p. refl;
+            failed = private_one alone;
+            old = λ t. subst P (sym e) refl;
+            spool = λ t. c.2;
+          };
         }
-
-    untold_course : at.quota ≡ None → (IsToldAlone old → ⊥) → Accounted → HasCourse work old new tally
-    untold_course none not a =
-        let P : Option ℕ → Type 0 = λ q. IfSome q (λ _. a.start ≡ 0) in
-        let c = comes_untold [] work.taken work.outcomes old new a.start a.stored a.over (subst P (sym none) tt) a.told tally.faulty a.settled in
-        unsaid [] c.0 not c.1
-
-    shared_course : at.quota ≡ None → tally.in_use ≡ 0 → (IsToldAlone old → ⊥)
-        → HaveTurned at work.taken work.outcomes (shared_of old false 0) (shared_of new tally.faulty tally.in_use) → HasCourse work old new tally
-    shared_course none never not h =
-        let after : SharedMailbox = shared_of new tally.faulty tally.in_use in
-        let c = turns_to at.calendar at.site at.quota lanes boxes at.worker work.taken work.outcomes old after none never h in
-        unsaid [] c.0 not c.1
 
     not_shared : old.sharing.is_shared ≡ true → IsToldAlone old → ⊥
     not_shared e t = true≢false (sym e ∙ t.alone)
@@ -197,18 +190,54 @@ module _ (at : Setting) (lanes boxes : ℕ) where
     not_silent : old.bytes ≡ None → IsToldAlone old → ⊥
     not_silent e t = let some : IsSome old.bytes = t.telling in let none : is_some old.bytes ≡ false = ap is_some e in true≢false (sym some ∙ none)
 
-    -- a mailbox without a quota, none of whose turns was missed
-    unlimited_course : IsBoxWork at work old new tally → at.quota ≡ None → tally.in_use ≡ 0 → (shared : Bool) → old.sharing.is_shared ≡ shared
-        → (o : Option (List ℕ)) → old.bytes ≡ o → HasCourse work old new tally
-    unlimited_course w none never true s o e = shared_course none never (not_shared s) (w.shared s).each
-    unlimited_course w none never false s None e = untold_course none (not_silent e) (w.alone s).accounted
-    unlimited_course w none never false s (Some held) e = told_course held e (w.alone s).accounted
+    -- a private one that tells nothing
+    untold_course : at.quota ≡ None → old.sharing.is_shared ≡ false → old.bytes ≡ None → Accounted → HasCourse work old new tally
+    untold_course none alone e a =
+        let P : Option ℕ → Type 0 = λ q. IfSome q (λ _. a.start ≡ 0) in
+        let c = comes_untold [] work.taken work.outcomes old new a.start a.stored a.over alone (subst P (sym none) tt) a.told tally.faulty a.settled in
+        record {
+          course = course_to [] c.0;
+          is = c.1;
+          of_work = record {
+            taken = refl;
+            outcomes = refl;
+            faulty = λ p. refl;
+            failed = private_one alone;
+            old = λ t. absurd (not_silent e t);
+            spool = λ t. absurd (not_silent e t);
+          };
+        }
+
+    shared_course : at.quota ≡ None → old.sharing.is_shared ≡ true → NoneHeals work.outcomes
+        → HaveTurned at work.taken work.outcomes (shared_of old false 0) (shared_of new tally.faulty tally.in_use) → HasCourse work old new tally
+    shared_course none shared heals h =
+        let after : SharedMailbox = shared_of new tally.faulty tally.in_use in
+        let c = turns_to at.calendar at.site at.quota lanes boxes at.worker work.taken work.outcomes old after none heals h in
+        record {
+          course = record { old = []; taken = work.taken; outcomes = work.outcomes; spool = c.0; faulty = list_any says_failed work.outcomes };
+          is = c.1;
+          of_work = record {
+            taken = refl;
+            outcomes = refl;
+            faulty = λ p. private_one p shared;
+            failed = λ p. refl;
+            old = λ t. absurd (not_shared shared t);
+            spool = λ t. absurd (not_shared shared t);
+          };
+        }
+
+    -- a mailbox without a quota
+    unlimited_course : IsBoxWork at work old new tally → at.quota ≡ None → (old.sharing.is_shared ≡ true → NoneHeals work.outcomes)
+        → (shared : Bool) → old.sharing.is_shared ≡ shared → (o : Option (List ℕ)) → old.bytes ≡ o → HasCourse work old new tally
+    unlimited_course w none heals true s o e = shared_course none s (heals s) (w.shared s).each
+    unlimited_course w none heals false s None e = untold_course none s e (w.alone s).accounted
+    unlimited_course w none heals false s (Some held) e = told_course s held e (w.alone s).accounted
 
     alone_course : IsBoxWork at work old new tally → IsToldAlone old → (o : Option (List ℕ)) → old.bytes ≡ o → HasCourse work old new tally
     alone_course w t None e = absurd (not_silent e t)
-    alone_course w t (Some held) e = told_course held e (w.alone t.alone).accounted
+    alone_course w t (Some held) e = told_course t.alone held e (w.alone t.alone).accounted
 
-    pub course_of : IsBoxWork at work old new tally → IsModelled at.quota old tally → HasCourse work old new tally
+    pub course_of : IsBoxWork at work old new tally → IsModelled at.quota old work.outcomes → HasCourse work old new tally
     course_of w m = elim m [
       | inl t ↦ alone_course w t old.bytes refl
       | inr none ↦ unlimited_course w none.0 none.1 old.sharing.is_shared refl old.bytes refl

@@ -48,7 +48,7 @@ pub record HaveDeeds (site : Site) (n_lanes n_boxes capacity : ℕ) (lanes : ℕ
       (λ b k. times (those (tells_to k) (worker_deeds b))) (λ k. (lanes k).heard) (λ k. times (those is_heard (lane_deeds k)))
 
 module _ {V S : Type 0} (site : Site) (state : S → SpoolState) (lanes : ℕ → LaneWork) (boxes : ℕ → BoxWork)
-    (old : HandedIn V S) (new : HandedBack V S) (h : HaveExchanged site state lanes boxes old new) (modelled : AreModelled state old new)
+    (old : HandedIn V S) (new : HandedBack V S) (h : HaveExchanged site state lanes boxes old new) (modelled : AreModelled state boxes old)
     (each_box : length old.spools ≡ length site.boxes) (some_boxes : 0 < length old.spools)
     (d : HaveDeeds site (length old.visits) (length old.spools) old.capacity lanes boxes) where
   abbrev server : Server

@@ -68,13 +68,13 @@ module _ {V S : Type 0} (site : Site) (state : S → SpoolState) (lanes : ℕ �
   course_by b (Some x) None q has = record { course = nothing; takes = λ before after tally e f g. cc }
   course_by b (Some x) (Some y) None has = record { course = nothing; takes = λ before after tally e f g. cc }
 
-  module _ (h : HaveExchanged) (modelled : AreModelled state old new) where
+  module _ (h : HaveExchanged) (modelled : AreModelled state boxes old) where
     pub course_at : (b : ℕ) → CourseAt b (slice_get old.spools b) (slice_get new.spools b) (slice_get new.tallies b)
     course_at b =
         course_by b (slice_get old.spools b) (slice_get new.spools b) (slice_get new.tallies b)
         (λ before after tally e f g.
         course_of (setting_of (share_of site old.quota) b) (length old.visits) (length old.spools) (boxes b) (state before) (state after) tally
-        (h.stored b before after tally e f g) (modelled b before after tally e f g))
+        (h.stored b before after tally e f g) (modelled b before e))
 
     abbrev pub courses : ℕ → Course
     courses b = (course_at b).course

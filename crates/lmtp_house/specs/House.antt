@@ -63,4 +63,4 @@ pub record HasRun {V S : Type 0} (site : Site) (May : ℕ → Type 0) (view : Vi
   pub told_only : (k : ℕ) → k < length old.visits
       → AllByRecursion (λ slip. slip.worker < length old.spools) (lanes k).heard
   -- what lanes and workers did is an orderly run of the model, over channels of the server's capacity
-  pub is_run : AreModelled state old new → IsRunOfModel site state lanes boxes old new
+  pub is_run : AreModelled state boxes old → IsRunOfModel site state lanes boxes old new

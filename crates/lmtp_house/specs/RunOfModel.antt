@@ -1,8 +1,12 @@
 -- What a server's threads did is an orderly run of the model of `mail_world`: what holds of each run there, and what
 -- `mail_progress` says of each orderly run, holds of this server.
-use Rattle.std.specs.Prelude.{◌≡◌, ◌⊎◌, ◌<◌, ℕ, false, length, slice_get, Option, Some, None, IsSome}
+use Rattle.std.specs.Prelude.{◌≡◌, ◌⊎◌, ◌<◌, ℕ, Bool, true, false, ⊤, List, [], ◌∷◌, length, slice_get}
+use Rattle.std.specs.Prelude.{Option, Some, None, IsSome}
 use Rattle.std.specs.Option.{IfSome}
+use Rattle.std.specs.List.{AllByRecursion, list_any}
 use Rattle.mail_world.specs.declared.limits.TheConstants.{RECIPIENT_LIMIT}
+use Rattle.mail_world.specs.declared.Outcome.{Outcome}
+use Rattle.mail_world.specs.declared.Outcome.TheVariants.{Failed}
 use Rattle.mail_world.specs.Site.{Site}
 use Rattle.mail_world.specs.Lists.{transactions, due}
 use Rattle.mail_world.specs.Runs.{events_of, offers_by}
@@ -21,25 +25,36 @@ pub record IsToldAlone (spool : SpoolState) : Type 0 where
   pub alone : spool.sharing.is_shared ≡ false
   pub telling : IsSome spool.bytes
 
+-- from the first copy that is told Failed on each one is told that, as of a mailbox of the model, which never heals
+abbrev pub NoneHeals : List Outcome → Type 0
+NoneHeals [] = ⊤
+NoneHeals (Failed ∷ outcomes) = AllByRecursion (λ outcome. outcome ≡ Failed) outcomes
+NoneHeals (_ ∷ outcomes) = NoneHeals outcomes
+
+abbrev pub says_failed : Outcome → Bool
+says_failed Failed = true
+says_failed _ = false
+
 -- The model has what the worker of this mailbox did, and what its spool holds: the spool is private and tells that. Of
 -- any other spool, as of a mailbox that a mail reader empties too, it has what the worker did where there is no quota
--- and no turn was missed, and nothing of what the spool holds.
-abbrev pub IsModelled : Option ℕ → SpoolState → Tally → Type 0
-IsModelled quota before tally = IsToldAlone before ⊎ ((quota ≡ None) × (tally.in_use ≡ 0))
+-- and, of a shared one, no copy was stored after one that was told Failed; and nothing of what the spool holds.
+abbrev pub IsModelled : Option ℕ → SpoolState → List Outcome → Type 0
+IsModelled quota before outcomes = IsToldAlone before
+    ⊎ ((quota ≡ None) × (before.sharing.is_shared ≡ true → NoneHeals outcomes))
 
--- and so it is for each mailbox
-abbrev pub AreModelled : {V S : Type 0} → (S → SpoolState) → HandedIn V S → HandedBack V S → Type 0
-AreModelled {V} {S} state old new = (b : ℕ) (before after : S) (tally : Tally) → slice_get old.spools b ≡ Some before
-    → slice_get new.spools b ≡ Some after → slice_get new.tallies b ≡ Some tally
-    → IsModelled old.quota (state before) tally
+-- and so it is for each mailbox, whose worker told these outcomes
+abbrev pub AreModelled : {V S : Type 0} → (S → SpoolState) → (ℕ → BoxWork) → HandedIn V S → Type 0
+AreModelled {V} {S} state boxes old = (b : ℕ) (before : S) → slice_get old.spools b ≡ Some before
+    → IsModelled old.quota (state before) (boxes b).outcomes
 
 -- A mailbox of the model did what this server's did: it took the same copies in the same order, told the same of each,
--- and failed where its spool did. Where the spool is private and tells what it holds, the model's held and holds the
--- same bytes.
+-- and failed where its spool did: a shared one where some copy was told Failed, though its turn was only missed. Where
+-- the spool is private and tells what it holds, the model's held and holds the same bytes.
 pub record IsCourseOf (work : BoxWork) (before after : SpoolState) (tally : Tally) (course : Course) : Type 0 where
   pub taken : course.taken ≡ work.taken
   pub outcomes : course.outcomes ≡ work.outcomes
-  pub faulty : course.faulty ≡ tally.faulty
+  pub faulty : before.sharing.is_shared ≡ false → course.faulty ≡ tally.faulty
+  pub failed : before.sharing.is_shared ≡ true → course.faulty ≡ list_any says_failed work.outcomes
   pub old : IsToldAlone before → IfSome before.bytes (λ held. course.old ≡ held)
   pub spool : IsToldAlone before → IfSome after.bytes (λ held. course.spool ≡ held)
 

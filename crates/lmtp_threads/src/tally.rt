@@ -11,6 +11,6 @@ pub struct Tally {
     pub over: u64,
     /// Those whose turn at a mailbox that other programs use too was missed.
     pub in_use: u64,
-    /// Whether its spool failed.
+    /// Whether its spool failed: a shared one in the last turn that was had.
     pub faulty: bool,
 }

@@ -1,8 +1,8 @@
 //! `lmtpd`, the last hop of a mail site: it speaks LMTP (RFC 2033) and delivers into mboxrd mailboxes.
 //!
-//! `run_program` does what the words ask for: here a rehearsal, a server, a check or a copy is run over what was made ready for
-//! it, and faults become a line on standard error and a status. Nothing stands above it but the system; how mail is
-//! served it never knows: that is done below.
+//! `run_program` does what the words ask for: here a rehearsal, a server, a check or a copy is run over what was made
+//! ready for it, and faults become a line on standard error and a status. Nothing stands above it but the system; how
+//! mail is served it never knows: that is done below.
 #![tactic(auto)]
 
 mod check;

@@ -1,9 +1,8 @@
--- A mailbox that is copied under its locks.
+-- A mailbox that is copied under its locks. Whether what it is read as is what it tells, `is_known` says.
 use Rattle.std.specs.Prelude.{◌≡◌, ◌⊎◌, ℕ, Bool, true, false, List, Option, Some, None, ⊤}
 use Rattle.std.specs.Io.KnownBytes.{Appends}
 use Rattle.mail_world.specs.Failures.{Rises}
-use Rattle.mbox_file.specs.MailboxFile.{FileState}
-use Rattle.mbox_file.specs.MailboxSource.{HasBothLocks, HasRewound}
+use Rattle.mbox_file.specs.MailboxFile.{FileState, IsHeld}
 use Rattle.mbox_rd.specs.Turn.{HasMissed, HasLetGo}
 use Rattle.lmtpd_copy.specs.Target.{TargetState, HasMade}
 
@@ -22,12 +21,11 @@ StaysMade old new = new ≡ record old { bytes = new.bytes; kept = new.kept }
 
 -- both locks are held, on the file that the path names, and nothing was written to it
 pub record StandsLocked (old new : FileState) : Type 0 where
-  pub locks : HasBothLocks new
-  pub named : new.is_named ≡ true
+  pub held : IsHeld new
   pub unchanged : new.changes ≡ old.changes
 
--- Neither lock is left, but the lock file where it couldn't be removed, and nothing was written to the mailbox: the locks
--- were never had, or both were given back.
+-- Neither lock is left, but the lock file where it couldn't be removed, and nothing was written to the mailbox: the
+-- locks were never had, or both were given back.
 pub record GivesLocksBack (old new : FileState) : Type 0 where
   pub held : FileState
   pub stood : StandsLocked old held
@@ -40,15 +38,16 @@ IsFree old new = HasMissed old new ⊎ GivesLocksBack old new
 abbrev pub IsGone : TargetState → TargetState → Type 0
 IsGone old new = (new.is_made ≡ false) ⊎ Rises old.unremoved new.unremoved
 
-module _ {F T : Type 0} (source_tells : Bool) (source : F → FileState) (unread : F → Option (List ℕ))
+module _ {F T : Type 0} (is_known : Bool) (source : F → FileState) (unread : F → Option (List ℕ))
     (target_tells : Bool) (target : T → TargetState) where
   -- The copy, made and empty, was filled by all that the mailbox held while it was locked, and is kept so.
   pub record IsFilled (from_old from_new : F) (made : TargetState) (to_new : T) : Type 0 where
     -- the mailbox at its beginning
     pub first : F
-    pub begins : source_tells ≡ true → HasRewound (source from_old) (source first) (unread first)
+    pub same : source first ≡ source from_old
+    pub all : is_known ≡ true → unread first ≡ Some (source first).bytes
     pub copied : Copies (unread first) made.bytes (target to_new).bytes
-    pub stays : source_tells ≡ true → source from_new ≡ source first
+    pub stays : source from_new ≡ source first
     pub kept : target_tells ≡ true → (target to_new).kept ≡ (target to_new).bytes
     pub is_made : target_tells ≡ true → StaysMade made (target to_new)
 
@@ -64,12 +63,12 @@ module _ {F T : Type 0} (source_tells : Bool) (source : F → FileState) (unread
     -- the mailbox with the locks, before the copy and after it
     pub locked : F
     pub done : F
-    pub stands : source_tells ≡ true → StandsLocked (source from_old) (source locked)
+    pub stands : StandsLocked (source from_old) (source locked)
     pub copied : IsMadeAndFilled locked done to_old to_new
-    pub let_go : source_tells ≡ true → HasLetGo (source done) (source from_new)
+    pub let_go : HasLetGo (source done) (source from_new)
 
--- Some mailbox's file and the copy's, of which only the bytes may be known: all that the one had left was written to the
--- other after it was made.
+-- Some mailbox's file and the copy's, of which only the bytes may be known: all that the one had left was written to
+-- the other after it was made.
 abbrev pub HasCopiedFile : {F T : Type 0} → (F → Option (List ℕ)) → (T → TargetState) → Type 0
 HasCopiedFile {F = F} {T = T} unread target =
     (first : F) × ((made : T) × ((after : T) × Copies (unread first) (target made).bytes (target after).bytes))

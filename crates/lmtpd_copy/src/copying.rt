@@ -1,8 +1,8 @@
 //! A mailbox that is copied: both locks are taken, the copy is made, filled and kept, and the locks are given back.
-ghost use Rattle.std.specs.Prelude.{◌≡◌, ◌<◌, true, false, length, OnOk, OnErr};
+ghost use Rattle.std.specs.Prelude.{◌≡◌, ◌<◌, Some, true, false, length, OnOk, OnErr};
 ghost use Rattle.std.specs.Io.{ReadsAtMost};
 ghost use Rattle.std.specs.Io.KnownBytes.{Appends, Keeps, ReadConsumes};
-ghost use Rattle.mbox_file.specs.MailboxSource.{HasBothLocks, HasRewound};
+ghost use Rattle.mbox_file.specs.MailboxFile.{IsHeld};
 ghost use Rattle.lmtpd_copy.specs.Copied.{Copies, IsCopied, IsFilled, IsFree, IsGone, IsMadeAndFilled};
 ghost use Rattle.lmtpd_copy.specs.Copied.{StandsLocked, StaysLocked, StaysMade};
 ghost use Rattle.lmtpd_copy.specs.Target.{HasMade};
@@ -28,9 +28,9 @@ pub fn copy_mailbox<F: MailboxSource, T: CopyTarget, C: Clock>(
     buffer: &mut [u8],
 ) -> Result<(), CopyFault>
     requires { 0 < length buffer.old }
-    ensures copied { OnOk result (IsCopied F.tells F.state F.unread T.tells T.state
+    ensures copied { OnOk result (IsCopied F.is_known F.state F.unread T.tells T.state
         source.old source.new target.old target.new) }
-    ensures free { F.tells ≡ true → OnErr result (IsFree (F.state source.old) (F.state source.new)) }
+    ensures free { OnErr result (IsFree (F.state source.old) (F.state source.new)) }
     ensures gone { T.tells ≡ true → (T.state target.old).is_made ≡ false
         → OnErr result (IsGone (T.state target.old) (T.state target.new)) }
 {
@@ -48,10 +48,10 @@ fn make_copy<F: MailboxSource, T: CopyTarget, C: Clock>(
     buffer: &mut [u8],
 ) -> Result<(), CopyFault>
     requires room { 0 < length buffer.old }
-    requires held { F.tells ≡ true → HasBothLocks (F.state source.old) }
-    ensures filled { OnOk result (IsMadeAndFilled F.tells F.state F.unread T.tells T.state
+    requires held { IsHeld (F.state source.old) }
+    ensures filled { OnOk result (IsMadeAndFilled F.is_known F.state F.unread T.tells T.state
         source.old source.new target.old target.new) }
-    ensures locked { F.tells ≡ true → StaysLocked (F.state source.old) (F.state source.new) }
+    ensures locked { StaysLocked (F.state source.old) (F.state source.new) }
     ensures gone { T.tells ≡ true → (T.state target.old).is_made ≡ false
         → OnErr result (IsGone (T.state target.old) (T.state target.new)) }
 {
@@ -73,10 +73,10 @@ fn copy_and_keep<F: MailboxSource, T: CopyTarget, C: Clock>(
     buffer: &mut [u8],
 ) -> Result<(), CopyFault>
     requires room { 0 < length buffer.old }
-    requires held { F.tells ≡ true → HasBothLocks (F.state source.old) }
-    ensures filled { OnOk result (IsFilled F.tells F.state F.unread T.tells T.state
+    requires held { IsHeld (F.state source.old) }
+    ensures filled { OnOk result (IsFilled F.is_known F.state F.unread T.tells T.state
         source.old source.new (T.state target.old) target.new) }
-    ensures locked { F.tells ≡ true → StaysLocked (F.state source.old) (F.state source.new) }
+    ensures locked { StaysLocked (F.state source.old) (F.state source.new) }
     ensures made { T.tells ≡ true → StaysMade (T.state target.old) (T.state target.new) }
 {
     rewind(source)?;
@@ -93,11 +93,11 @@ fn copy_all<F: MailboxSource, T: CopyTarget, C: Clock>(
     buffer: &mut [u8],
 ) -> Result<(), CopyFault>
     requires room { 0 < length buffer.old }
-    requires held { F.tells ≡ true → HasBothLocks (F.state source.old) }
+    requires held { IsHeld (F.state source.old) }
     ensures copied { OnOk result (Copies (F.unread source.old) (T.state target.old).bytes
         (T.state target.new).bytes) }
-    ensures same { F.tells ≡ true → OnOk result (F.state source.new ≡ F.state source.old) }
-    ensures locked { F.tells ≡ true → StaysLocked (F.state source.old) (F.state source.new) }
+    ensures same { OnOk result (F.state source.new ≡ F.state source.old) }
+    ensures locked { StaysLocked (F.state source.old) (F.state source.new) }
     ensures made { T.tells ≡ true → StaysMade (T.state target.old) (T.state target.new) }
 {
     let mut renewed = now(clock);
@@ -119,8 +119,8 @@ fn renew_in_time<F: MailboxSource, C: Clock>(
     renewed: Duration,
 ) -> Result<Duration, CopyFault>
     ensures unread { F.unread source.new ≡ F.unread source.old }
-    ensures same { F.tells ≡ true → OnOk result (F.state source.new ≡ F.state source.old) }
-    ensures locked { F.tells ≡ true → StaysLocked (F.state source.old) (F.state source.new) }
+    ensures same { OnOk result (F.state source.new ≡ F.state source.old) }
+    ensures locked { StaysLocked (F.state source.old) (F.state source.new) }
 {
     let now = now(clock);
     if now.saturating_sub(renewed).as_secs() < RENEWAL_SECONDS {
@@ -135,8 +135,8 @@ fn now<C: Clock>(clock: &C) -> Duration {
 }
 
 fn hold<F: MailboxSource, C: Clock>(source: &mut F, clock: &C) -> Result<(), CopyFault>
-    ensures ok { F.tells ≡ true → OnOk result (StandsLocked (F.state source.old) (F.state source.new)) }
-    ensures err { F.tells ≡ true → OnErr result (HasMissed (F.state source.old) (F.state source.new)) }
+    ensures ok { OnOk result (StandsLocked (F.state source.old) (F.state source.new)) }
+    ensures err { OnErr result (HasMissed (F.state source.old) (F.state source.new)) }
 {
     match hold_locks(source, clock, WAIT_SECONDS) {
         Ok(_) => Ok(()),
@@ -145,9 +145,9 @@ fn hold<F: MailboxSource, C: Clock>(source: &mut F, clock: &C) -> Result<(), Cop
 }
 
 fn rewind<F: MailboxSource>(source: &mut F) -> Result<(), CopyFault>
-    ensures begins { F.tells ≡ true
-        → OnOk result (HasRewound (F.state source.old) (F.state source.new) (F.unread source.new)) }
-    ensures locked { F.tells ≡ true → StaysLocked (F.state source.old) (F.state source.new) }
+    ensures same { OnOk result (F.state source.new ≡ F.state source.old) }
+    ensures all { F.is_known ≡ true → OnOk result (F.unread source.new ≡ Some (F.state source.new).bytes) }
+    ensures locked { StaysLocked (F.state source.old) (F.state source.new) }
 {
     match source.rewind() {
         Ok(()) => Ok(()),
@@ -156,11 +156,11 @@ fn rewind<F: MailboxSource>(source: &mut F) -> Result<(), CopyFault>
 }
 
 fn read_some<F: MailboxSource>(source: &mut F, buffer: &mut [u8]) -> Result<usize, CopyFault>
-    requires { F.tells ≡ true → HasBothLocks (F.state source.old) }
+    requires { IsHeld (F.state source.old) }
     ensures bound { ReadsAtMost result buffer.new }
     ensures bytes { ReadConsumes (F.unread source.old) (F.unread source.new) result buffer.new }
-    ensures same { F.tells ≡ true → OnOk result (F.state source.new ≡ F.state source.old) }
-    ensures locked { F.tells ≡ true → StaysLocked (F.state source.old) (F.state source.new) }
+    ensures same { OnOk result (F.state source.new ≡ F.state source.old) }
+    ensures locked { StaysLocked (F.state source.old) (F.state source.new) }
 {
     match source.read(buffer) {
         Ok(size) => Ok(size),
@@ -170,8 +170,8 @@ fn read_some<F: MailboxSource>(source: &mut F, buffer: &mut [u8]) -> Result<usiz
 
 fn renew<F: MailboxSource>(source: &mut F) -> Result<(), CopyFault>
     ensures unread { F.unread source.new ≡ F.unread source.old }
-    ensures same { F.tells ≡ true → OnOk result (F.state source.new ≡ F.state source.old) }
-    ensures locked { F.tells ≡ true → StaysLocked (F.state source.old) (F.state source.new) }
+    ensures same { OnOk result (F.state source.new ≡ F.state source.old) }
+    ensures locked { StaysLocked (F.state source.old) (F.state source.new) }
 {
     match source.renew_lock_file() {
         Ok(()) => Ok(()),

@@ -1,5 +1,6 @@
 -- What a lane's log knows of the letter under way, where its lines show addresses.
-use Rattle.std.specs.Prelude.{ℕ, Bool, true, ◌-◌, ◌^◌, nat_lt, List, [], ◌∷◌, ◌++◌, length, take, drop, if◌then◌else◌, Option, Some}
+use Rattle.std.specs.Prelude.{ℕ, Bool, true, ◌-◌, ◌^◌, nat_lt, List, [], ◌∷◌, ◌++◌, length, take, drop, if◌then◌else◌}
+use Rattle.std.specs.Prelude.{Option, Some}
 use Rattle.std.specs.Prelude.{None, Ok}
 use Rattle.std.specs.Option.{option_map_or}
 use Rattle.mail_world.specs.declared.Reply.{Reply}

@@ -14,7 +14,7 @@ use Rattle.mail_world.specs.Quotas.{are_kept, kept, marked, outcomes_settled}
 use Rattle.mail_world.specs.Deliveries.{IsTorn}
 use Rattle.lmtp_text.specs.Calendar.{civil_at}
 use Rattle.mbox_record.specs.MemorySpool.{MemorySpool}
-use Rattle.mbox_record.specs.Spool.{SpoolState, IsFull}
+use Rattle.mbox_record.specs.Spool.{SpoolState, LeavesPrefix, IsFull}
 use Rattle.box_worker.specs.Limits.{Setting, kept_after}
 use Rattle.box_worker.specs.Stored.{mailbox_of, HasStored, HasSettled}
 use Rattle.lmtp_threads.specs.Works.{share_of, setting_of}
@@ -150,9 +150,9 @@ module _ (site : Site) (quota : Option ℕ) (b start : ℕ) (notes : List Note) 
   next_kept : HoldsSettled true → slice_get (are_kept civil_at site quota [] notes) (stored + over) ≡ Some true
   next_kept h = elim (h.next refl) [
     | inl none ↦ (
-        let broken = none.1.failed in
+        let broken : LeavesPrefix (state_of (empty_spool site)).bytes (state_of spool).bytes none.1.text = none.1.failed.left in
         let full = is_full site civil_at spool all stored over true (spool_has true h) refl in
-        let nothing : broken.prefix ≡ [] = no_prefix broken.prefix broken.rest (sym none.1.is ∙ broken.whole) in
+        let nothing : broken.prefix ≡ [] = no_prefix broken.prefix broken.rest (sym (none.1.is refl) ∙ broken.whole) in
         let empty : length spool.bytes ≡ 0 = ap length (broken.appended ∙ nothing) in
         let some = le-max_left 2097152 (2 * site.message_limit) in absurd (omega (arith, full, empty, some))
         )

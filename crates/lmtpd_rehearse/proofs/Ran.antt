@@ -356,15 +356,15 @@ module _ (site : Site) (quota : Option ℕ) (moment : ℕ) {P : Type 0} (state :
       }
 
   -- what lane and workers did is an orderly run of the model
-  all_modelled : AreModelled state_of handed back
-  all_modelled = λ b before after tally e f g. inl (record { alone = refl; telling = refl })
+  all_modelled : (boxes : ℕ → BoxWork) → AreModelled state_of boxes handed
+  all_modelled boxes = λ b before e. inl (record { alone = refl; telling = refl })
 
   run_of : (h : HasRunAlone site quota moment state peer count back) (c : Conversation) → conversations_of (h.lanes 0).visits ≡ c ∷ []
       → HaveWorked site quota (transactions_in site 0 c) (all_work (h.lanes 0).heard h.boxes count) back.spools back.tallies
       → c ≡ conversation c.bytes c.dispositions → count ≡ length site.boxes
       → IsRunOfRehearsal site quota c.bytes c.dispositions (kept_all back.spools back.tallies)
   run_of h c are worked is size =
-      let m : IsRunOfModel site state_of h.lanes h.boxes handed back = h.is_run all_modelled in
+      let m : IsRunOfModel site state_of h.lanes h.boxes handed back = h.is_run (all_modelled h.boxes) in
       let one : 0 < 1 = omega arith in
       let many : length handed.spools ≡ length site.boxes = length-replicate count (empty_spool site) ∙ size in
       let threads : Threads = threads_of site h.lanes m.courses in
@@ -394,7 +394,7 @@ module _ (site : Site) (quota : Option ℕ) (moment : ℕ) {P : Type 0} (state :
               taken = t.taken ∙ worked.taken b low ∙ sym (due_is site b c) ∙ ap (copies b) is;
               outcomes = t.outcomes ∙ sym said ∙ sym (told_is site b c) ∙ ap (λ x. outcomes_told site b (x ∷ [])) is;
               spool = t.spool alone ∙ sym (ap (λ (k : MailboxContent). k.bytes) kept);
-              faulty = t.faulty ∙ sym (ap (λ (k : MailboxContent). k.failed) kept);
+              faulty = t.faulty refl ∙ sym (ap (λ (k : MailboxContent). k.failed) kept);
             };
       }
 

@@ -106,9 +106,9 @@ pub record AreLanesFor {L G C E : Type 0} (listener : L) (conversations : Conver
 -- A server ran for the site with what it was to be run with, over clients of its listener, of whom it is told how many
 -- were handed back, and these spools; each lane has a log, `told` says what one was told and `shows` whether its lines
 -- show addresses, and a lane's log was told the entries of its conversations; what is told of each mailbox is what its
--- worker counted, and the server is faulty exactly where a worker is, whose last turn broke; it failed exactly where its
--- listener can't tell where it listens or a lane's accept failed, and was stopped exactly where a lane was; and where it
--- listens and what was stored was said, up to a write that failed.
+-- worker counted, and the server is faulty exactly where a worker is, whose last turn broke; it failed exactly where
+-- its listener can't tell where it listens or a lane's accept failed, and was stopped exactly where a lane was; and
+-- where it listens and what was stored was said, up to a write that failed.
 pub record IsServerRun (C : Type 0) {L E S G : Type 0} (site : Site) (state : S → SpoolState)
     (told : G → Option (List Entry)) (shows : G → Bool) (serving : Serving L E) (spools : List S)
     (before after : Option (List ℕ)) (served : Served) : Type 0 where

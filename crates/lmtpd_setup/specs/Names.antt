@@ -1,6 +1,8 @@
 -- Which name of a mailbox can't be used, where it stands, and the line of the log that says it.
-use Rattle.std.specs.Prelude.{◌≡◌, ◌⊎◌, ◌<◌, ◌≤◌, ◌+◌, ◌-◌, ◌||◌, ℕ, Bool, true, false, List, [], ◌∷◌, ◌++◌, length, take}
-use Rattle.std.specs.Prelude.{suc, Option, Some, None, String, string_bytes, codes, decimal, get_or, nat_lt, if◌then◌else◌}
+use Rattle.std.specs.Prelude.{◌≡◌, ◌⊎◌, ◌<◌, ◌≤◌, ◌+◌, ◌-◌, ◌||◌, ℕ, Bool, true, false, List, [], ◌∷◌, ◌++◌, length}
+use Rattle.std.specs.Prelude.{take}
+use Rattle.std.specs.Prelude.{suc, Option, Some, None, String, string_bytes, codes, decimal, get_or, nat_lt}
+use Rattle.std.specs.Prelude.{if◌then◌else◌}
 use Rattle.std.specs.declared.alloc.Global.{Global}
 use Rattle.std.specs.Borrow.{Bor}
 use Rattle.std.specs.List.{prefix_len}
@@ -57,7 +59,8 @@ IsPlace words number (Some line) =
 -- what is shown of a name: its first bytes, and two dots where it has more
 abbrev pub shown_name : List ℕ → List ℕ
 shown_name name =
-    if nat_lt SHOWN_LIMIT (length name) then printable_text (take SHOWN_LIMIT name) ++ codes ".." else printable_text name
+    if nat_lt SHOWN_LIMIT (length name) then printable_text (take SHOWN_LIMIT name) ++ codes ".."
+    else printable_text name
 
 abbrev pub place_text : Option (Bor (List ℕ)) → Option ℕ → List ℕ
 place_text (Some path) (Some line) = codes " file=" ++ (printable_text path.now ++ (codes " line=" ++ decimal line))

@@ -43,7 +43,8 @@ is_short words = nat_lt (words.blocks * BLOCK_SIZE) words.site.message_limit
 -- can't be opened, or only their folder can't where it is to start anyway
 abbrev pub IsNotSetUp : ServeWords → Stop → Type 0
 IsNotSetUp words s = IsNoSite words s
-    ⊎ ((s ≡ stop.Fault fault.Memory) ⊎ ((site_fault words.site ≡ None) × AreNotOpen (access_asked words) words.site.boxes.items s))
+    ⊎ ((s ≡ stop.Fault fault.Memory)
+    ⊎ ((site_fault words.site ≡ None) × AreNotOpen (access_asked words) words.site.boxes.items s))
 
 -- why nothing was opened there
 abbrev pub IsUnopenedAt : ListenAddress → Fault → Type 0

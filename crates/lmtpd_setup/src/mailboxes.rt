@@ -21,8 +21,8 @@ use std::io::ErrorKind;
 use std::sync::Arc;
 use std::time::Clock;
 
-/// A mailbox's file that other programs read and empty too, of which it is logged that it fails, and that waits for them
-/// until the server is to end.
+/// A mailbox's file that other programs read and empty too, of which it is logged that it fails, and that waits for
+/// them until the server is to end.
 type SharedMailbox<R, G> = SharedSpool<LoggedFile<StdMailboxFile<R>, G>, HurriedClock<R>>;
 
 /// One of which it is logged that it is in use.
@@ -39,9 +39,9 @@ pub struct Access<'a> {
     pub anyway: bool,
 }
 
-/// Opens the file of each mailbox, `FOLDER/NAME` and the suffix, in their order, up to the first that can't be opened, of
-/// which the log says why. With `anyway` it goes on after such a one, whose turns are missed until its file is in order; only a
-/// folder that can't be read ends it. A mailbox that fails is logged, and one that is in use.
+/// Opens the file of each mailbox, `FOLDER/NAME` and the suffix, in their order, up to the first that can't be opened,
+/// of which the log says why. With `anyway` it goes on after such a one, whose turns are missed until its file is in
+/// order; only a folder that can't be read ends it. A mailbox that fails is logged, and one that is in use.
 pub fn open_mailboxes<'a, R, G>(
     rt: R,
     alloc: Global,

@@ -1,6 +1,7 @@
 -- What the program's words ask for.
 use Rattle.std.specs.Prelude.{◌≡◌, ◌∷◌, ◌++◌, ◌⊎◌, ◌↔◌, IsTrue, ◌<◌, ◌≤◌, ◌^◌, ◌==◌, ◌+◌, ◌-◌, ◌*◌, ◌/◌, min, max, ℕ}
-use Rattle.std.specs.Prelude.{Bool, true, false, nat_le, ◌&&◌, ◌||◌, List, [], Option, Some, None, option_map, map, codes, length, String}
+use Rattle.std.specs.Prelude.{Bool, true, false, nat_le, ◌&&◌, ◌||◌, List, [], Option, Some, None, option_map, map}
+use Rattle.std.specs.Prelude.{codes, length, String}
 use Rattle.std.specs.Prelude.{string_bytes}
 use Rattle.std.specs.declared.alloc.Global.{Global}
 use Rattle.std.specs.Option.{option_map_or}

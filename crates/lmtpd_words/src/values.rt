@@ -4,12 +4,14 @@ ghost use Rattle.std.specs.Prelude.{◌≡◌, ◌∷◌, [], codes, Some, IfOk,
 ghost use Rattle.clap.specs.Words.{Text, all_of, first_of, found_of, one_of, rows_of, subcommand_rows_of};
 ghost use Rattle.std.specs.Option.{option_map, option_map_or};
 ghost use Rattle.lmtp_text.specs.Sites.{texts};
-ghost use Rattle.lmtpd_words.specs.Words.{IsAsked, IsCheckRead, IsCopyRead, IsLimit, IsNumberOr, IsRehearseRead, IsServeRead};
+ghost use Rattle.lmtpd_words.specs.Words.{IsAsked, IsCheckRead, IsCopyRead, IsLimit, IsNumberOr, IsRehearseRead};
+ghost use Rattle.lmtpd_words.specs.Words.{IsServeRead};
 ghost use Rattle.lmtpd_words.specs.Words.{IsEmpty, IsModeOr, IsNoMode, IsNoPath, NamesPath, IsPathIfGiven, WritesMode};
 ghost use Rattle.lmtpd_words.specs.Words.{IsFlag, IsLevel, IsNoLevel, IsNoNumber, IsSiteRead, octal};
 ghost use Rattle.lmtpd_words.specs.Words.{IsDelimiterIfGiven, IsNoDelimiter};
 ghost use Rattle.lmtpd_words.specs.Words.{IsMessageLimitOr, IsNoMessageLimit, usual_blocks};
-ghost use Rattle.lmtpd_words.specs.Words.{IsLacking, LacksCheck, LacksCopied, LacksCopy, LacksNumber, LacksRehearse, LacksServe, LacksSite};
+ghost use Rattle.lmtpd_words.specs.Words.{IsLacking, LacksCheck, LacksCopied, LacksCopy, LacksNumber, LacksRehearse};
+ghost use Rattle.lmtpd_words.specs.Words.{LacksServe, LacksSite};
 ghost use Rattle.lmtpd_words.specs.Words.{is_log_level, number, listed};
 
 use crate::suffix::suffix_of;

@@ -11,5 +11,6 @@ pub after_lf : (at : ℕ) (last : List ℕ) → length last ≡ min at 2 → 2 �
 after_lf at [] two many is = absurd (omega (arith, many))
 after_lf at (b ∷ []) two many is = absurd (omega (arith, many))
 after_lf at (b ∷ c ∷ []) two many is =
-    subst (λ x. ending (bytes_ending at (b ∷ x ∷ [])) ≡ cond (b == lf) TwoLf OneLf) (sym is) (last_two (replicate (at - 2) 0) b)
+    subst (λ x. ending (bytes_ending at (b ∷ x ∷ [])) ≡ cond (b == lf) TwoLf OneLf) (sym is)
+    (last_two (replicate (at - 2) 0) b)
 after_lf at (b ∷ c ∷ d ∷ more) two many is = absurd (omega (arith, two))

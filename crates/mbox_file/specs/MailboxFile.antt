@@ -1,5 +1,6 @@
 -- The file under a spool: its bytes, which of them a crash leaves, and its two locks. What a file of the system's tells
--- is what it was asked and what was answered: which bytes stand at a lock nobody knows but by their length and their end.
+-- is what it was asked and what was answered: which bytes stand at a lock nobody knows but by their length and their
+-- end.
 use Rattle.std.specs.Prelude.{◌≡◌, ◌⊎◌, ℕ, ◌≤◌, Bool, true, false, List, ◌++◌, length, take, min}
 use Rattle.mail_world.specs.Failures.{Rises}
 use Rattle.mail_world.specs.Prefixes.{IsPrefix}

@@ -31,8 +31,8 @@ pub record IsEndBy (last : List ℕ) (end : FileEnd) : Type 0 where
   pub within : length last ≤ end.at
   pub tail : ending_of end.tail ≡ ending (bytes_ending end.at last)
 
--- How the file stands after that. What the path names has to be looked at under each lock, and what is kept of bytes that
--- others may have written nobody knows.
+-- How the file stands after that. What the path names has to be looked at under each lock, and what is kept of bytes
+-- that others may have written nobody knows.
 abbrev pub after : FileState → Step → FileState
 after old step.LockFileMade = record old { has_lock_file = true; is_named = false }
 after old step.LockFileRemoved = record old { has_lock_file = false }
@@ -52,5 +52,9 @@ after old (step.WroteInPart bytes) = record old {
 }
 after old step.Kept = record old { kept = length old.bytes }
 after old step.NotKept = record old { faults = old.faults + 1 }
-after old (step.Cut size) = record old { bytes = take size old.bytes; kept = min old.kept size; changes = old.changes + 1 }
+after old (step.Cut size) = record old {
+  bytes = take size old.bytes;
+  kept = min old.kept size;
+  changes = old.changes + 1;
+}
 after old step.NotCut = record old { changes = old.changes + 1; faults = old.faults + 1 }

@@ -9,8 +9,8 @@ use crate::mailbox_file::MailboxFile;
 use mbox_record::InUse;
 use std::io;
 
-/// A mailbox's file that is read from its beginning. Nothing is said of what a read gives while a lock isn't held, since
-/// others write then.
+/// A mailbox's file that is read from its beginning. Nothing is said of what a read gives while a lock isn't held,
+/// since others write then.
 pub trait MailboxSource: MailboxFile {
     // whether what reads give is what the file tells; of the system's nobody knows
     ghost is_known: { Bool };

@@ -49,8 +49,8 @@ where
         })
     }
 
-    /// Opens the plain file at that path, whosever it is and for root too, and makes none. Neither lock is held. Its lock
-    /// file is made and not linked, since it is taken once.
+    /// Opens the plain file at that path, whosever it is and for root too, and makes none. Neither lock is held. Its
+    /// lock file is made and not linked, since it is taken once.
     pub fn existing(rt: R, alloc: Global, path: &str) -> io::Result<StdMailboxFile<R>>
         ensures path { IfOk result (λ file. file_path file ≡ path.now) }
         ensures mode { IfOk result (λ file. file_mode file ≡ None) }

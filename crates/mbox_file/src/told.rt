@@ -4,7 +4,7 @@ ghost use Rattle.std.specs.Prelude.{◌≡◌};
 ghost use Rattle.std.specs.Borrow.{ftrue};
 ghost use Rattle.mbox_file.specs.MailboxFile.{FileState};
 
-use std::marker::{Model, PhantomData};
+use std::marker::{Brand, Model, PhantomData};
 
 /// What the system was asked, with its answer.
 #[derive(Clone, Copy)]
@@ -31,9 +31,15 @@ pub(crate) enum Step<'a> {
     NotCut,
 }
 
-/// How a state is read off a value of that type.
-pub(crate) trait TellsOf<X> {
-    ghost state: { X → FileState };
+// What is told. A caller that passes `Brand` picks it.
+trait Telling {
+    ghost state: { FileState };
+}
+
+impl Telling for Brand {
+    ghost use Rattle.mbox_file.specs.Told.{at_start};
+
+    ghost state = { at_start };
 }
 
 /// What a file has told. Nothing ties it to a call of the system: each call and its step stand side by side.
@@ -47,53 +53,38 @@ impl Model for Told {
     ghost also_owns = { λ _. ftrue };
 }
 
-// There is nothing in it that another thread could share.
+// It owns nothing.
 unsafe impl Send for Told {}
-
-struct Start;
-
-impl TellsOf<()> for Start {
-    ghost use Rattle.mbox_file.specs.Told.{at_start};
-
-    ghost state = { λ _. at_start };
-}
-
-// One step more, and what was told before it.
-#[derive(Drop)]
-struct More<'a> {
-    told: &'a Told,
-    step: Step<'a>,
-}
-
-struct Next;
-
-impl<'a> TellsOf<More<'a>> for Next {
-    ghost use Rattle.mbox_file.specs.Told.{after};
-
-    ghost state = { λ more. after more.told.now.state more.step };
-}
 
 impl Told {
     ghost use Rattle.mbox_file.specs.Told.{at_start, after};
 
+    /// Nothing was asked yet.
     pub fn new() -> Told
         ensures { result.state ≡ at_start }
     {
-        Told::of::<(), Start>(&())
+        Told::telling::<Brand>()
     }
 
+    /// One step more.
     pub fn add(&mut self, step: Step<'_>)
         ensures { self.new.state ≡ after self.old.state step.entry }
     {
-        let next = Told::of::<More<'_>, Next>(&More { told: &*self, step });
+        let next = Told::then::<Brand>(self, step);
         *self = next;
     }
 
-    // What is told is read off a value. The proof of it is by hand, and no other is.
-    fn of<X, T: TellsOf<X>>(value: &X) -> Told
-        ensures { result.state ≡ T.state value.now }
+    // What is picked may speak of what was told before, and of a step.
+    fn then<T: Telling>(_old: &Told, _step: Step<'_>) -> Told
+        ensures { result.state ≡ T.state }
     {
-        let _ = value;
+        Told::telling::<T>()
+    }
+
+    // Only who picks what is told says what that is. Its proof is written by hand.
+    fn telling<T: Telling>() -> Told
+        ensures { result.state ≡ T.state }
+    {
         Told {
             marker: PhantomData,
         }

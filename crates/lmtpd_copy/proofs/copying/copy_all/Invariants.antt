@@ -8,6 +8,6 @@ abbrev pub invariant-loop : goal.invariant-loop
 invariant-loop g l = record {
   moved : HasMoved (g.F.MailboxSource.unread l.initial.source) (g.F.MailboxSource.unread l.source) (g.T.CopyTarget.state l.initial.target).bytes
       (g.T.CopyTarget.state l.target).bytes;
-  same : g.F.MailboxFile.tells ≡ true → g.F.MailboxFile.state l.source ≡ g.F.MailboxFile.state l.initial.source;
+  same : g.F.MailboxFile.state l.source ≡ g.F.MailboxFile.state l.initial.source;
   made : g.T.CopyTarget.tells ≡ true → StaysMade (g.T.CopyTarget.state l.initial.target) (g.T.CopyTarget.state l.target);
 }
