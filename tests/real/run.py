@@ -3,7 +3,6 @@
 import sys
 
 import all_through_dovecot  # noqa: F401  (each adds its cases)
-import crash_states  # noqa: F401
 import debian  # noqa: F401
 import disk_full_heals  # noqa: F401
 import dovecot_under_the_unit  # noqa: F401
