@@ -135,7 +135,8 @@ impl Spool for CountSpool {
         ensures err { OnErr result (SpoolFailed (⟦<CountSpool as Spool>⟧.state self.old)
             (⟦<CountSpool as Spool>⟧.state self.new) piece.now) }
         ensures unsynced { OnOk result ((⟦<CountSpool as Spool>⟧.state self.new).turn.is_unsynced ≡ true) }
-        ensures outside { (⟦<CountSpool as Spool>⟧.state self.old).turn.in_turn ≡ false → IsErr result }
+        ensures outside { (⟦<CountSpool as Spool>⟧.state self.old).turn.in_turn ≡ false → IsErr result
+            × ((⟦<CountSpool as Spool>⟧.state self.new).bytes ≡ (⟦<CountSpool as Spool>⟧.state self.old).bytes) }
     {
         if !self.in_turn {
             return Err(self.fail());
