@@ -1,5 +1,5 @@
 -- Texts that a spool takes one after another.
-use Rattle.std.proofs.Common.{◌≡◌, ◌||◌, ℕ, ◌+◌, ◌-◌, ◌<◌, arith, Bool, List, ◌++◌, length, Option, Some, None, Result, Ok, Err, take, drop, get_or, sym, ap, ◌∙◌}
+use Rattle.std.proofs.Common.{◌≡◌, ◌||◌, ℕ, ◌+◌, ◌-◌, ◌<◌, ◌≤◌, arith, Bool, true, List, ◌++◌, length, Option, Some, None, Result, Ok, Err, take, drop, get_or, sym, ap, ◌∙◌}
 use Rattle.std.proofs.Common.{subst, append_assoc}
 use Rattle.std.proofs.lemmas.List.{take-append-drop, take_rest, drop_more, length-append}
 use Rattle.std.proofs.lemmas.List.Concat.{flat_map-append}

@@ -1,5 +1,5 @@
 //! A spool in memory, with a bound on what it takes.
-ghost use Rattle.std.specs.Prelude.{◌≡◌, ◌↔◌, ◌+◌, ◌-◌, ◌^◌, ◌<◌, ◌≤◌, ◌++◌, length, take, min, is_err};
+ghost use Rattle.std.specs.Prelude.{◌≡◌, ◌↔◌, ◌||◌, ◌+◌, ◌-◌, ◌^◌, ◌<◌, ◌≤◌, ◌++◌, length, take, min, is_err};
 ghost use Rattle.std.specs.Prelude.{IsErr, IfOk, OnOk, OnErr, Ok, Err, true, false};
 ghost use Rattle.mail_world.specs.Counts.{counted};
 ghost use Rattle.mail_world.specs.Endings.{ending};
