@@ -97,8 +97,15 @@ first_turns calendar site quota notes [] later have = tt
 first_turns calendar site quota [] (told ∷ first) later have = absurd have
 first_turns calendar site quota (note ∷ notes) (told ∷ first) later have = (have.0, first_turns calendar site quota notes first later have.1)
 
-records : (h : House) → HaveTheirTurns h → HasRecords h
+-- what the first turns left is the records of the kept among their copies
+pub first_turns_leave : (calendar : Calendar) (site : Site) (quota : Option ℕ) (old : List ℕ) (notes : List Note) (first later : List Told)
+    → HaveTurns calendar site quota notes (first ++ later) → AreAlone old first → NoneFailed first
+    → left_by old first ≡ mailbox calendar site old (kept calendar site quota old (take (length first) notes))
 unfolding are_kept
+first_turns_leave calendar site quota old notes first later have by ok =
+    alone calendar site quota old (take (length first) notes) first (first_turns calendar site quota notes first later have) by ok
+
+records : (h : House) → HaveTheirTurns h → HasRecords h
 records h all b box first later is e by ok =
     let s = all b box is in
     let posts : List Post = take (length box.turns) box.accepted in
@@ -107,8 +114,7 @@ records h all b box first later is e by ok =
     let few : length first ≤ length box.turns = (let n = ap length e in omega (arith, length-append first later)) in
     let notes : take (length first) (notes_of posts) ≡ notes_of (take (length first) box.accepted) =
     take-notes (length first) posts ∙ ap notes_of (take_less (length first) (length box.turns) box.accepted few) in
-    alone h.calendar h.site h.quota box.old (take (length first) (notes_of posts)) first
-    (first_turns h.calendar h.site h.quota (notes_of posts) first later have) by ok
+    first_turns_leave h.calendar h.site h.quota box.old (notes_of posts) first later have by ok
     ∙ ap (λ ns. mailbox h.calendar h.site box.old (kept h.calendar h.site h.quota box.old ns)) notes
   where
     take-notes : (n : ℕ) (posts : List Post) → take n (notes_of posts) ≡ notes_of (take n posts)
