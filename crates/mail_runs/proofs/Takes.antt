@@ -227,7 +227,7 @@ lock_story h b box old spool kept turns post lock progress is within begins stor
 write_story : {m : Manner} (h : House) (b : ℕ) (box old : Box) (spool : List ℕ) (kept : ℕ) (turns : List HadTurn) (post : Post) (lock : Standing)
     (bytes more : List ℕ) → BoxIs h b old → added h post.note lock.bytes ≡ bytes ++ more
     → StoryAt m h b box spool kept turns (at_hand post (Going lock 0))
-    → StoryAt m h b box (spool ++ bytes) kept turns (at_hand post (Going lock (length bytes)))
+    → StoryAt m h b box (spool ++ bytes) kept turns (at_hand post (Going lock (0 + length bytes)))
 write_story h b box old spool kept turns post lock bytes more is next story =
     let mid : Box = handed box spool kept turns (at_hand post (Going lock 0)) in
     goes_on (with_box h b mid) _ (Write b bytes) story (record {
@@ -240,7 +240,7 @@ write_story h b box old spool kept turns post lock bytes more is next story =
       in_hand = refl;
       going = refl;
       next = next;
-      after = again h b mid (handed box (spool ++ bytes) kept turns (at_hand post (Going lock (length bytes))));
+      after = again h b mid (handed box (spool ++ bytes) kept turns (at_hand post (Going lock (0 + length bytes))));
     }) (λ o. tt)
 
 sync_story : {m : Manner} (h : House) (b : ℕ) (box old : Box) (spool : List ℕ) (kept : ℕ) (turns : List HadTurn) (post : Post) (lock : Standing)
@@ -348,10 +348,11 @@ turn_had : {m : Manner} (s : Server) (h : House) (b : ℕ) (box old : Box) (note
 turn_had {m} s h b box old note post spool kept turns Stored lock unlock setting is same turn keeps story =
     let add : List ℕ = addition s.calendar s.site note lock.bytes in
     let e : added h post.note lock.bytes ≡ add = added_is s h post note lock.bytes setting same in
+    let size : length (added h post.note lock.bytes) ≡ length add = ap length e in
     let begins = begins_so s h post note lock true setting same turn.room in
     let locked = lock_story h b box old spool kept turns post lock (Going lock 0) is keeps.0 begins story in
     let wrote = write_story h b box old lock.bytes lock.synced turns post lock add [] is (e ∙ sym (append-nil add)) locked in
-    let synced = sync_story h b box old (lock.bytes ++ add) lock.synced turns post lock (length add) is (sym (ap length e)) wrote in
+    let synced = sync_story h b box old (lock.bytes ++ add) lock.synced turns post lock (0 + length add) is (omega arith) wrote in
     let there = subst (λ x. StoryAt m h b box x (length x) turns (at_hand post (Synced lock))) (sym turn.whole) synced in
     unlock_story h b box old (length unlock.bytes) turns post (Synced lock) lock unlock Stored is refl turn.covered turn.sound there
 turn_had {m} s h b box old note post spool kept turns OverQuota lock unlock setting is same turn keeps story =
@@ -364,8 +365,8 @@ turn_had {m} s h b box old note post spool kept turns Failed lock unlock setting
     let begins = begins_so s h post note lock true setting same turn.room in
     let locked = lock_story h b box old spool kept turns post lock (Going lock 0) is keeps.0 begins story in
     let wrote = write_story h b box old lock.bytes lock.synced turns post lock turn.prefix turn.part.rest is e locked in
-    let there = subst (λ x. StoryAt m h b box x lock.synced turns (at_hand post (Going lock (length turn.prefix)))) (sym turn.left) wrote in
-    unlock_story h b box old lock.synced turns post (Going lock (length turn.prefix)) lock unlock Failed is refl keeps.1 turn.failed there
+    let there = subst (λ x. StoryAt m h b box x lock.synced turns (at_hand post (Going lock (0 + length turn.prefix)))) (sym turn.left) wrote in
+    unlock_story h b box old lock.synced turns post (Going lock (0 + length turn.prefix)) lock unlock Failed is refl keeps.1 turn.failed there
 turn_had s h b box old note post spool kept turns _ lock unlock setting is same turn keeps story = absurd turn
 
 -- a turn of a copy that was taken, had or missed
