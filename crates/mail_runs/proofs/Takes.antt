@@ -224,11 +224,15 @@ lock_story h b box old spool kept turns post lock progress is within begins stor
       after = sym (ap (λ p. with_box h b (new p)) begins) ∙ again h b mid (new (begun h post.note lock));
     }) (λ o. tt)
 
+-- a part of what the turn appends is written, where it isn't empty
 write_story : {m : Manner} (h : House) (b : ℕ) (box old : Box) (spool : List ℕ) (kept : ℕ) (turns : List HadTurn) (post : Post) (lock : Standing)
     (bytes more : List ℕ) → BoxIs h b old → added h post.note lock.bytes ≡ bytes ++ more
     → StoryAt m h b box spool kept turns (at_hand post (Going lock 0))
     → StoryAt m h b box (spool ++ bytes) kept turns (at_hand post (Going lock (0 + length bytes)))
-write_story h b box old spool kept turns post lock bytes more is next story =
+write_story {m} h b box old spool kept turns post lock [] more is next story =
+    subst (λ x. StoryAt m h b box x kept turns (at_hand post (Going lock 0))) (sym (append-nil spool)) story
+write_story h b box old spool kept turns post lock (x ∷ xs) more is next story =
+    let bytes : List ℕ = x ∷ xs in
     let mid : Box = handed box spool kept turns (at_hand post (Going lock 0)) in
     goes_on (with_box h b mid) _ (Write b bytes) story (record {
       box = mid;
