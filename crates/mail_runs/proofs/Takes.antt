@@ -412,7 +412,7 @@ takes s t note rest h stands story =
     let took = take_story h b box oldest.post there.1 turn.free_hand oldest.at story in
     let told = turned s h b box note oldest.post turn.told.outcome turn.told.turn stands.setting there.1 oldest.is turn.is turn.keeps took in
     let gone = release_story h b box box (left_after box.spool turn.told.turn) (kept_after box.kept turn.told.turn) (box.turns ++ turn.told ∷ []) oldest.post
-        turn.told.outcome there.1 told in
+    turn.told.outcome there.1 told in
     let changed : Box = after_turn box turn.told oldest.post in
     record {
       house = with_box (with_depot h gone.depot) b changed;
