@@ -1,8 +1,8 @@
 pub mod Messages
-pub mod Storing
 pub mod Counting
-pub mod Settling
 pub mod Telling
+pub mod Measuring
+pub mod OneTurn
+pub mod Turning
 pub mod Handling
 pub mod Working
-pub mod Turning

@@ -1,17 +1,14 @@
--- A quota on a mailbox: which copies are kept of those that its worker took, and what the worker counts.
-use Rattle.std.specs.Prelude.{◌≡◌, ℕ, ◌+◌, ◌<◌, ◌≤◌, ◌^◌, Bool, List, ◌++◌, length, Option, Some, None}
-use Rattle.std.specs.Option.{IfSome}
-use Rattle.mail_world.specs.declared.Note.{Note}
+-- A quota on a mailbox: what its worker counts.
+use Rattle.std.specs.Prelude.{◌≡◌, ℕ, ◌+◌, ◌<◌, ◌≤◌, ◌^◌, ◌++◌, length, Option, Some, None}
 use Rattle.mail_world.specs.Counts.{counted}
-use Rattle.mail_world.specs.Records.{Calendar}
 use Rattle.mail_world.specs.Endings.{mends, mended}
-use Rattle.mail_world.specs.Quotas.{are_kept_after, marked}
+use Rattle.mail_world.specs.Records.{Calendar}
+use Rattle.mail_world.specs.Site.{Site}
 use Rattle.lmtp_text.specs.Calendar.{civil_at}
-use Rattle.mbox_record.specs.Spool.{SpoolState, Grows}
+use Rattle.mbox_record.specs.Spool.{SpoolState}
 use Rattle.mbox_record.specs.declared.tail.Tail.{Tail}
 use Rattle.mbox_record.specs.Tail.{ending_of}
 use Rattle.box_worker.specs.declared.limit.Limit.{Limit}
-use Rattle.mail_world.specs.Site.{Site}
 
 -- what stays while a worker runs: the calendar and the site of its records, the limit of bytes for its mailbox, and its
 -- number
@@ -25,21 +22,9 @@ pub record Setting : Type 0 where
 abbrev pub setting_by : Site → Option ℕ → ℕ → Setting
 setting_by site quota worker = record { calendar = civil_at; site = site; quota = quota; worker = worker }
 
--- for each copy whether it is kept, where that many bytes stand before the first record
-abbrev pub marks_after : Setting → ℕ → List Note → List Bool
-marks_after at start copies = are_kept_after at.calendar at.site at.quota start copies
-
--- the copies that are kept
-abbrev pub kept_after : Setting → ℕ → List Note → List Note
-kept_after at start copies = marked (marks_after at start copies) copies
-
--- That many bytes stand before the first record: what the spool held, and what mends that, which is 44 bytes at most
--- where the spool doesn't tell what it holds.
-pub record StartsAt (spool : SpoolState) (start : ℕ) : Type 0 where
-  pub mending : ℕ
-  pub within : mending ≤ 44
-  pub grown : Grows spool.held start mending
-  pub known : IfSome spool.bytes (λ held. start ≡ length (held ++ mended held))
+-- how many bytes stand before a record: what the spool holds, and what mends that
+abbrev pub start_of : SpoolState → ℕ
+start_of spool = length (spool.bytes ++ mended spool.bytes)
 
 -- how many bytes mend a text that ends so
 abbrev pub missing : Tail → ℕ

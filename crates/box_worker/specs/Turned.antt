@@ -1,47 +1,55 @@
--- A worker at a mailbox that other programs read and empty too: it takes a turn for each copy, from a lock to an
--- unlock, whatever became of the turns before.
-use Rattle.std.specs.Prelude.{◌≡◌, ◌⊎◌, ℕ, ◌+◌, Bool, true, false, List, [], ◌∷◌, ◌++◌, length, count_by, Option}
+-- A worker takes a turn at its mailbox for each copy, from a lock to an unlock, whatever became of the turns before.
+use Rattle.std.specs.Prelude.{◌≡◌, ◌⊎◌, ℕ, ◌+◌, ◌≤◌, Bool, true, false, List, [], ◌∷◌, ◌++◌, length, map, count_by, ⊤}
+use Rattle.std.specs.Prelude.{Option}
+use Rattle.std.specs.List.{AllByRecursion}
 use Rattle.std.specs.Option.{IfSome}
 use Rattle.mail_world.specs.declared.Note.{Note}
 use Rattle.mail_world.specs.declared.Outcome.{Outcome}
 use Rattle.mail_world.specs.declared.Outcome.TheVariants.{Stored, Failed, OverQuota}
 use Rattle.mail_world.specs.Counts.{counted}
-use Rattle.mail_world.specs.Records.{record_of}
 use Rattle.mail_world.specs.Endings.{mended}
 use Rattle.mail_world.specs.Quotas.{fits}
-use Rattle.mail_world.specs.Turns.{Turn, NotHad, Had, HaveTurns, last_broke}
-use Rattle.mbox_record.specs.Sharing.{knows_end}
-use Rattle.mbox_record.specs.Spool.{SpoolState, SpoolFailed, BeginsTurn, MissesTurn, EndsTurn}
+use Rattle.mail_world.specs.Turns.{Standing, Turn, NotHad, Had, Told, HaveTurns, AllKeep, breaks_last, last_broke}
+use Rattle.mbox_record.specs.Spool.{SpoolState, IsFull, SpoolFailed, standing, BeginsTurn, MissesTurn, EndsTurn}
+use Rattle.mbox_record.specs.TurnState.{knows_end}
 use Rattle.box_worker.specs.declared.limit.Limit.{Limit}
-use Rattle.box_worker.specs.Limits.{Setting, StartsAt, CountsTo}
+use Rattle.box_worker.specs.Limits.{Setting, start_of, CountsTo}
 use Rattle.box_worker.specs.Stored.{HasKept, MailboxState, CountedMailbox}
 
--- a shared spool, whether the last turn that was had broke, and how many turns were missed
-pub record SharedMailbox : Type 0 where
+-- how a spool changes between two turns, and when one may be missed: its trait says what each is
+pub record Manner : Type 1 where
+  pub MayFind : Standing → Standing → Type 0
+  pub MayRefuse : Bool → Bool → Type 0
+
+abbrev pub manner_of : (Standing → Standing → Type 0) → (Bool → Bool → Type 0) → Manner
+manner_of MayFind MayRefuse = record { MayFind = MayFind; MayRefuse = MayRefuse }
+
+-- a spool, whether the last turn that was had broke, and how many turns were missed
+pub record TurnedMailbox : Type 0 where
   pub state : SpoolState
   pub faulty : Bool
   pub in_use : ℕ
 
-abbrev pub shared_of : SpoolState → Bool → ℕ → SharedMailbox
-shared_of state faulty in_use = record { state = state; faulty = faulty; in_use = in_use }
+abbrev pub turned : SpoolState → Bool → ℕ → TurnedMailbox
+turned state faulty in_use = record { state = state; faulty = faulty; in_use = in_use }
+
+-- ---- one copy, by the text of its record
 
 -- what mends the spool and the text were appended, and a sync covers all that it holds
 pub record HasKeptMended (old new : SpoolState) (text : List ℕ) : Type 0 where
   pub mending : List ℕ
-  pub mends : knows_end old.sharing ≡ true → IfSome old.bytes (λ held. mending ≡ mended held)
+  pub mends : knows_end old.turn ≡ true → mending ≡ mended old.bytes
   pub kept : HasKept old new (mending ++ text)
 
 -- the spool failed before a sync covered them
 pub record HasNotKeptMended (old new : SpoolState) (text : List ℕ) : Type 0 where
   pub mending : List ℕ
-  pub mends : knows_end old.sharing ≡ true → IfSome old.bytes (λ held. mending ≡ mended held)
+  pub mends : knows_end old.turn ≡ true → mending ≡ mended old.bytes
   pub broken : SpoolFailed old new (mending ++ text)
 
 -- whether a text of that size fits the quota, after what stands there at the lock and what mends it
-pub record Measures (quota : Option ℕ) (size : ℕ) (locked : SpoolState) (fit : Bool) : Type 0 where
-  pub start : ℕ
-  pub starts : IfSome quota (λ _. StartsAt locked start)
-  pub is : fits quota start size ≡ fit
+abbrev pub Measures : Option ℕ → ℕ → SpoolState → Bool → Type 0
+Measures quota size locked fit = fits quota (start_of locked) size ≡ fit
 
 -- what is done between lock and unlock: the record is stored,
 pub record StoresInTurn (quota : Option ℕ) (text : List ℕ) (locked done : SpoolState) : Type 0 where
@@ -65,29 +73,37 @@ pub record FromLock (Does : SpoolState → SpoolState → Type 0) (locked new : 
   pub ends : EndsTurn done new
 
 -- a turn that wasn't missed
-pub record HadTurn (Does : SpoolState → SpoolState → Type 0) (old new : SpoolState) : Type 0 where
+pub record HadTurn (manner : Manner) (Does : SpoolState → SpoolState → Type 0) (old new : SpoolState) : Type 0 where
   pub held : ℕ
   pub locked : SpoolState
   pub begins : BeginsTurn old locked held
+  pub found : manner.MayFind (standing old) (standing locked)
+  pub granted : manner.MayRefuse old.turn.has_failed false
   pub rest : FromLock Does locked new
+
+-- one that was
+pub record MissedTurn (manner : Manner) (old new : SpoolState) : Type 0 where
+  pub misses : MissesTurn old new
+  pub found : old.turn.in_turn ≡ false → manner.MayFind (standing old) (standing new)
+  pub refused : old.turn.in_turn ≡ false → manner.MayRefuse old.turn.has_failed true
 
 -- A copy with that record, by what its lane is told. It has a turn, whatever became of those before: one that stores
 -- the record or keeps it out, that is missed, or that breaks.
-abbrev pub TakesTurn : Option ℕ → List ℕ → Outcome → SharedMailbox → SharedMailbox → Type 0
-TakesTurn quota text Stored old new = HadTurn (StoresInTurn quota text) old.state new.state
-    × (new ≡ shared_of new.state false old.in_use)
-TakesTurn quota text OverQuota old new = HadTurn (KeepsOutOfTurn quota text) old.state new.state
-    × (new ≡ shared_of new.state false old.in_use)
-TakesTurn quota text Failed old new =
-    (MissesTurn old.state new.state × (new ≡ shared_of new.state old.faulty (counted (old.in_use + 1))))
-    ⊎ (HadTurn (BreaksTurn quota text) old.state new.state × (new ≡ shared_of new.state true old.in_use))
-TakesTurn quota text _ old new = ⊥
+abbrev pub TakesTurn : Manner → Option ℕ → List ℕ → Outcome → TurnedMailbox → TurnedMailbox → Type 0
+TakesTurn manner quota text Stored old new = HadTurn manner (StoresInTurn quota text) old.state new.state
+    × (new ≡ turned new.state false old.in_use)
+TakesTurn manner quota text OverQuota old new = HadTurn manner (KeepsOutOfTurn quota text) old.state new.state
+    × (new ≡ turned new.state false old.in_use)
+TakesTurn manner quota text Failed old new =
+    (MissedTurn manner old.state new.state × (new ≡ turned new.state old.faulty (counted (old.in_use + 1))))
+    ⊎ (HadTurn manner (BreaksTurn quota text) old.state new.state × (new ≡ turned new.state true old.in_use))
+TakesTurn manner quota text _ old new = ⊥
 
 -- the same for a worker's count under a quota, which is some number of bytes before and after
-abbrev pub TurnsCopy : List ℕ → Outcome → CountedMailbox → CountedMailbox → Type 0
-TurnsCopy text outcome old new = (quota : Option ℕ) (n : ℕ) → CountsTo quota n old.limit
-    → TakesTurn quota text outcome (shared_of old.mailbox.state old.mailbox.faulty old.in_use)
-    (shared_of new.mailbox.state new.mailbox.faulty new.in_use)
+abbrev pub TurnsCopy : Manner → List ℕ → Outcome → CountedMailbox → CountedMailbox → Type 0
+TurnsCopy manner text outcome old new = (quota : Option ℕ) (n : ℕ) → CountsTo quota n old.limit
+    → TakesTurn manner quota text outcome (turned old.mailbox.state old.mailbox.faulty old.in_use)
+    (turned new.mailbox.state new.mailbox.faulty new.in_use)
     × ((m : ℕ) × CountsTo quota m new.limit)
 
 -- what is done in a turn, by what the lane is told
@@ -107,38 +123,54 @@ EndsInTurn quota text _ old new = ⊥
 
 -- the worker counts again what stands there at the lock
 abbrev pub MeasuresAgain : SpoolState → Option Limit → Option Limit → Type 0
-MeasuresAgain locked old new = (quota : Option ℕ) (n : ℕ) → CountsTo quota n old
-    → ((start : ℕ) × IfSome quota (λ _. StartsAt locked start) × CountsTo quota start new)
+MeasuresAgain locked old new = (quota : Option ℕ) (n : ℕ) → CountsTo quota n old → CountsTo quota (start_of locked) new
 
 -- a copy in a turn, where the worker has counted what stands there and what mends it
 abbrev pub CountsInTurn : (Option ℕ → Type 0) → CountedMailbox → CountedMailbox → Type 0
-CountsInTurn Does old new = (quota : Option ℕ) (start : ℕ) → CountsTo quota start old.limit
-    → IfSome quota (λ _. StartsAt old.mailbox.state start) → Does quota × ((m : ℕ) × CountsTo quota m new.limit)
+CountsInTurn Does old new = (quota : Option ℕ) → CountsTo quota (start_of old.mailbox.state) old.limit
+    → Does quota × ((m : ℕ) × CountsTo quota m new.limit)
 
--- these copies one after another, from the spool as it was to the spool as it is
-abbrev pub HaveTurned : Setting → List Note → List Outcome → SharedMailbox → SharedMailbox → Type 0
-HaveTurned at [] [] old new = new ≡ old
-HaveTurned at (note ∷ notes) (outcome ∷ outcomes) old new = (between : SharedMailbox)
-    × TakesTurn at.quota (record_of at.calendar at.site note) outcome old between
-    × HaveTurned at notes outcomes between new
-HaveTurned at _ _ old new = ⊥
+-- ---- copies one after another, by their turns
+
+-- what stood at a lock, or after a turn that was missed, is what the spool may find after what stood last
+abbrev pub IsFound : (Standing → Standing → Type 0) → Standing → Turn → Standing → Type 0
+IsFound MayFind last NotHad left = MayFind last left
+IsFound MayFind last (Had lock unlock) left = MayFind last lock × (lock.failures ≡ last.failures) × (left ≡ unlock)
+
+abbrev pub AreFound : (Standing → Standing → Type 0) → Standing → List Told → Standing → Type 0
+AreFound MayFind last [] now = now ≡ last
+AreFound MayFind last (told ∷ turns) now =
+    (left : Standing) × IsFound MayFind last told.turn left × AreFound MayFind left turns now
 
 abbrev pub is_not_had : Turn → Bool
 is_not_had NotHad = true
 is_not_had (Had lock unlock) = false
 
--- The turns that a spool lists since: each copy has its own, the last that was had says whether the mailbox is faulty,
--- and those that were missed are counted.
-pub record TellsTurns (at : Setting) (copies : List Note) (outcomes : List Outcome)
-    (old new : SharedMailbox) : Type 0 where
-  pub turns : List Turn
-  pub added : new.state.sharing.turns ≡ old.state.sharing.turns ++ turns
-  pub are : HaveTurns at.calendar at.site at.quota copies outcomes turns
-  pub broke : new.faulty ≡ last_broke old.faulty outcomes turns
-  pub missed : new.in_use ≡ counted (old.in_use + count_by is_not_had turns)
+-- each turn was missed as the spool may refuse it
+abbrev pub AreRefused : (Bool → Bool → Type 0) → Bool → List Told → Type 0
+AreRefused MayRefuse broke [] = ⊤
+AreRefused MayRefuse broke (told ∷ turns) = MayRefuse broke (is_not_had told.turn)
+    × AreRefused MayRefuse (breaks_last broke told.outcome told.turn) turns
 
--- What a worker came to at a shared spool.
-pub record HasTurned (at : Setting) (copies : List Note) (outcomes : List Outcome)
-    (old new : SharedMailbox) : Type 0 where
-  pub each : HaveTurned at copies outcomes old new
-  pub told : IfSome old.state.bytes (λ _. TellsTurns at copies outcomes old new)
+-- where a turn broke a spool with a limit is full
+abbrev pub IsFullWhereBroken : Option ℕ → Outcome → Turn → Type 0
+IsFullWhereBroken limit Failed (Had lock unlock) = IsFull limit unlock.bytes
+IsFullWhereBroken limit _ _ = ⊤
+
+-- What a worker came to at its spool: each copy that it took has its turn, in the order taken, as the turns say that the
+-- spool lists since. What stood at each lock is what the spool may find there, and none was missed but where it may
+-- refuse one; the last turn that was had says whether the mailbox is faulty, and those that were missed are counted.
+pub record HasTurned (at : Setting) (manner : Manner) (copies : List Note) (turns : List Told)
+    (old new : TurnedMailbox) : Type 0 where
+  pub are : HaveTurns at.calendar at.site at.quota copies turns
+  pub keep : AllKeep turns
+  pub listed : new.state.turn.turns ≡ old.state.turn.turns ++ map (λ told. told.turn) turns
+  pub free : old.state.turn.in_turn ≡ false → new.state.turn.in_turn ≡ false
+  pub found : old.state.turn.in_turn ≡ false
+      → AreFound manner.MayFind (standing old.state) turns (standing new.state)
+  pub refused : old.state.turn.in_turn ≡ false → AreRefused manner.MayRefuse old.state.turn.has_failed turns
+  pub limited : new.state.limit ≡ old.state.limit
+  pub full : AllByRecursion (λ told. IsFullWhereBroken old.state.limit told.outcome told.turn) turns
+  pub failed : new.state.turn.has_failed ≡ last_broke old.state.turn.has_failed turns
+  pub broke : new.faulty ≡ last_broke old.faulty turns
+  pub missed : new.in_use ≡ counted (old.in_use + count_by (λ told. is_not_had told.turn) turns)
