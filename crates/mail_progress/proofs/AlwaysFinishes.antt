@@ -10,7 +10,7 @@ use Rattle.mail_progress.specs.StepsLeft.{steps_left}
 use Rattle.mail_progress.specs.Finished.{IsFinished}
 use Rattle.mail_progress.specs.Finishes.{Finishes, WhateverFollows, AlwaysFinishes, AreFirst, AreAlwaysThere, FinishesInTurn}
 use Rattle.mail_progress.specs.InTurn.{IsFirst}
-use Rattle.mail_progress.proofs.Lowered.{each_run}
+use Rattle.mail_progress.proofs.Lowered.{sound_so_far}
 use Rattle.mail_progress.proofs.Shut.{closed_stays}
 use Rattle.mail_progress.proofs.CopiesLeft.{copies_left, goes_less}
 use Rattle.mail_progress.proofs.InTurn.{tried_in_turn}
@@ -64,7 +64,7 @@ by_steps room blocks start is some n fewer (suc m) run r o can less =
     WhateverFollows (events_of run) h (λ next all. tried_in_turn room blocks start run is r o some can next all) (λ next event new goes order st.
     let to = one_more room start run event new r o st order in
     let still = still_can start h event new st can in
-    elim (goes_less room blocks next h event new (each_run blocks start run is.free r) goes order st) [
+    elim (goes_less room blocks next h event new (sound_so_far blocks start run is r) goes order st) [
       | inl copies ↦ finishes_at room blocks start (FewerCopies room n) fewer _ new _ to still (let low = less.0 in omega arith)
       | inr steps ↦ finishes_at room blocks start (FewerSteps room blocks n m) (by_steps room blocks start is some n fewer m) _ new _ to still
           (let low = less.0 in let a = steps.0 in omega arith, let low = less.1 in let a = steps.1 in omega arith)

@@ -6,8 +6,8 @@ use Rattle.std.specs.List.{AllByRecursion}
 use Rattle.std.proofs.lemmas.Bool.{eq-eqb}
 use Rattle.std.proofs.lemmas.Option.{slice_get_within}
 use Rattle.mail_world.specs.declared.Event.{Event}
-use Rattle.mail_world.specs.declared.Event.TheVariants.{Begin, Put, Cancel, Seal, Split, Offer, HandBack, Collect, Take, Write, Sync, Release, GiveSlip}
-use Rattle.mail_world.specs.declared.Event.TheVariants.{Reclaim, Close}
+use Rattle.mail_world.specs.declared.Event.TheVariants.{Begin, Put, Cancel, Seal, Split, Offer, HandBack, Collect, Take, Lock, Miss, Write, Sync, Cut}
+use Rattle.mail_world.specs.declared.Event.TheVariants.{Unlock, Release, GiveSlip, Reclaim, Close}
 use Rattle.mail_world.specs.House.{Hold, SealedMessage, Lane, House, IsFreshLane, IsStart}
 use Rattle.mail_world.specs.Events.{Step, LaneIs}
 use Rattle.mail_world.specs.Runs.{Happened, Run, last_house, events_of}
@@ -169,6 +169,10 @@ sealed_step room h (Collect k) new w kept s st =
 sealed_step room h (Take x) new w kept s st = no_lane h new (Take x) (ap (λ (x : House). x.lanes) st.after) (λ v. refl)
 sealed_step room h (Write x bytes) new w kept s st = no_lane h new (Write x bytes) (ap (λ (x : House). x.lanes) st.after) (λ v. refl)
 sealed_step room h (Sync x) new w kept s st = no_lane h new (Sync x) (ap (λ (x : House). x.lanes) st.after) (λ v. refl)
+sealed_step room h (Lock x bytes) new w kept s st = no_lane h new (Lock x bytes) (ap (λ (x : House). x.lanes) st.after) (λ v. refl)
+sealed_step room h (Miss x) new w kept s st = no_lane h new (Miss x) (ap (λ (x : House). x.lanes) st.after) (λ v. refl)
+sealed_step room h (Cut x) new w kept s st = no_lane h new (Cut x) (ap (λ (x : House). x.lanes) st.after) (λ v. refl)
+sealed_step room h (Unlock x) new w kept s st = no_lane h new (Unlock x) (ap (λ (x : House). x.lanes) st.after) (λ v. refl)
 sealed_step room h (Release x) new w kept s st = no_lane h new (Release x) (ap (λ (x : House). x.lanes) st.after) (λ v. refl)
 sealed_step room h (GiveSlip x o) new w kept s st =
     let k = st.copy.post.note.txn.lane in

@@ -2,9 +2,10 @@
 use Rattle.std.proofs.Common.{◌⊎◌, ℕ, ◌+◌, ◌<◌, ◌≤◌, [], ◌∷◌, ◌++◌, None, inl, inr, refl, sym, subst, arith}
 use Rattle.std.specs.Prelude.{slice_set, sum_by}
 use Rattle.mail_world.specs.declared.Event.{Event}
-use Rattle.mail_world.specs.declared.Event.TheVariants.{Begin, Put, Cancel, Seal, Split, Offer, HandBack, Collect, Write, Release, GiveSlip, Reclaim, Close}
+use Rattle.mail_world.specs.declared.Event.TheVariants.{Begin, Put, Cancel, Seal, Split, Offer, HandBack, Collect, Miss, Write, Cut, Release, GiveSlip}
+use Rattle.mail_world.specs.declared.Event.TheVariants.{Reclaim, Close}
 use Rattle.mail_world.specs.declared.Note.{Note}
-use Rattle.mail_world.specs.Depot.{Held, Free, Draft, Sealed, Retired, HasEachBlockOnce}
+use Rattle.mail_world.specs.Depot.{Held, Free, Draft, Sealed, Retired}
 use Rattle.mail_world.specs.House.{Hold, Lane, House}
 use Rattle.mail_world.specs.Slips.{slip_of, own_slip, txn_of, gather_for}
 use Rattle.mail_world.specs.Events.{Step, SealStep, OfferStep, HandBackStep, outcome_of, without_copy, sealed_up_to, with_heard}
@@ -15,7 +16,7 @@ use Rattle.mail_world.proofs.Holds.{sum_set, sum_remove}
 use Rattle.mail_progress.proofs.Sums.{sum_last}
 use Rattle.mail_progress.proofs.Slots.{in_slots, held_changes, held_goes}
 use Rattle.mail_progress.proofs.Within.{to_give}
-use Rattle.mail_progress.proofs.Lowered.{lowers}
+use Rattle.mail_progress.proofs.Lowered.{IsSoundSoFar, lowers}
 
 -- a draft is sealed with no more copies than there is room for slips
 abbrev pub copies_of_held : ℕ → Held → ℕ
@@ -109,14 +110,18 @@ fewer room next h (Reclaim slot generation) new g o st =
 fewer room next h (Begin k) new g o st = absurd g
 fewer room next h (Put k bytes) new g o st = absurd g
 fewer room next h (Close b) new g o st = absurd g
+fewer room next h (Miss w) new g o st = absurd g
+fewer room next h (Cut w) new g o st = absurd g
 fewer room next h event new g o st = subst (NoMore room h) (sym st.after) (omega arith)
 
-pub goes_less : (room blocks : ℕ) (next : ℕ → ℕ) (h : House) (event : Event) (new : House) → HasEachBlockOnce blocks h.depot → GoesOn next h event
+pub goes_less : (room blocks : ℕ) (next : ℕ → ℕ) (h : House) (event : Event) (new : House) → IsSoundSoFar blocks h → GoesOn next h event
     → IsInOrder room h event → Step h event new → IsLess room blocks h new
-goes_less room blocks next h (Begin k) new each g o st = absurd g
-goes_less room blocks next h (Put k bytes) new each g o st = absurd g
-goes_less room blocks next h (Close b) new each g o st = absurd g
-goes_less room blocks next h (Offer k note) new each g o st = inl (offer_less room h k note new st)
-goes_less room blocks next h (Write w bytes) new each g o st =
-    inr (fewer room next h (Write w bytes) new g o st, lowers blocks room 0 h (Write w bytes) new each st o g.0)
-goes_less room blocks next h event new each g o st = inr (fewer room next h event new g o st, lowers blocks room 0 h event new each st o tt)
+goes_less room blocks next h (Begin k) new sound g o st = absurd g
+goes_less room blocks next h (Put k bytes) new sound g o st = absurd g
+goes_less room blocks next h (Close b) new sound g o st = absurd g
+goes_less room blocks next h (Miss w) new sound g o st = absurd g
+goes_less room blocks next h (Cut w) new sound g o st = absurd g
+goes_less room blocks next h (Offer k note) new sound g o st = inl (offer_less room h k note new st)
+goes_less room blocks next h (Write w bytes) new sound g o st =
+    inr (fewer room next h (Write w bytes) new g o st, lowers blocks room 0 h (Write w bytes) new sound st o g.0)
+goes_less room blocks next h event new sound g o st = inr (fewer room next h event new g o st, lowers blocks room 0 h event new sound st o tt)

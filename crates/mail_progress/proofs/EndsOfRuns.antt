@@ -1,4 +1,4 @@
--- In the last houses of the computed runs all is finished.
+-- In the last house of the computed run all is finished.
 use Rattle.std.proofs.Common.{◌≡◌, ℕ, zero, suc, List, [], ◌∷◌, length, map, Some, None, refl, ap, sym, ◌∙◌, subst}
 use Rattle.std.specs.Prelude.{slice_get, nat_lt, if◌then◌else◌}
 use Rattle.std.specs.List.{AllByRecursion}
@@ -10,8 +10,7 @@ use Rattle.mail_world.specs.Runs.{events_of}
 use Rattle.mail_world.proofs.Accepted.{each_at}
 use Rattle.mail_world.proofs.Computed.{everything}
 use Rattle.mail_world.proofs.OneHouse.{each_once}
-use Rattle.mail_world.proofs.OneRun as delivered
-use Rattle.mail_world.proofs.OneFailure as failed
+use Rattle.mail_world.proofs.OneHealing as healed
 use Rattle.mail_progress.specs.Orderly.{HasOutcome}
 use Rattle.mail_progress.specs.Finished.{copies_sealed, IsFinished}
 
@@ -52,23 +51,9 @@ all_finished blocks events h lane box lanes boxes slots free f = record {
   all_free = free;
 }
 
-pub delivers_all : IsFinished 2 (events_of delivered.one_run) delivered.house₁₂
+pub heals_all : IsFinished 2 (events_of healed.one_run) healed.h23
 unfolding everything
-delivers_all = all_finished 2 (events_of delivered.one_run) delivered.house₁₂ _ _ refl refl (refl, tt) each_once
-    (record {
-      no_draft = refl;
-      none_to_offer = refl;
-      collected = refl;
-      given_away = refl;
-      answered = ((tt, tt), tt);
-      gathered = (tt, tt);
-      drained = refl;
-      free_hand = refl;
-    })
-
-pub fails_all : IsFinished 2 (events_of failed.one_run) failed.house₁₅
-unfolding everything
-fails_all = all_finished 2 (events_of failed.one_run) failed.house₁₅ _ _ refl refl (refl, (refl, tt)) each_once
+heals_all = all_finished 2 (events_of healed.one_run) healed.h23 _ _ refl refl (refl, tt) each_once
     (record {
       no_draft = refl;
       none_to_offer = refl;

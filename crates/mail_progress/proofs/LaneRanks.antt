@@ -176,17 +176,17 @@ HasSlip lane = (lane.collected < length lane.slips) × (lane.holds ≡ [])
 has_slip : (lane : Lane) → Dec (HasSlip lane)
 has_slip lane = Dec.and (dec_lt lane.collected (length lane.slips)) (elim (some_holds lane) [ inl some ↦ no some | inr idle ↦ yes idle ])
 
-no_slip : (h : House) (room : ℕ) → NoLane h (λ k lane. HasSlip lane) → (event : Event) → IsInOrder room h event → MayHappen h event → rank event ≡ 8 → ⊥
+no_slip : (h : House) (room : ℕ) → NoLane h (λ k lane. HasSlip lane) → (event : Event) → IsInOrder room h event → MayHappen h event → rank event ≡ 10 → ⊥
 no_slip h room none (Collect k) o happens e =
     let st = happens.1 in
     none k st.lane st.is (slice_get_within st.lane.slips st.lane.collected st.slip st.oldest, subst (λ b. IfSome b (λ (lane : Lane). lane.holds ≡ [])) st.is o)
 no_slip h room none event o happens e = absurd (omega arith)
 
-slip_ranks : (room : ℕ) (next : ℕ → ℕ) (h : House) (k : ℕ) (lane : Lane) → LaneIs h k lane → HasSlip lane → HasRank room next h 8
+slip_ranks : (room : ℕ) (next : ℕ → ℕ) (h : House) (k : ℕ) (lane : Lane) → LaneIs h k lane → HasSlip lane → HasRank room next h 10
 unfolding collect_moves
 slip_ranks room next h k lane at has = (goes_on (TheLane k) room next h (collect_moves room next h k lane at has.0 has.1), refl)
 
-pub collects_decided : (room : ℕ) (next : ℕ → ℕ) (h : House) → IsDecided room next h 8
+pub collects_decided : (room : ℕ) (next : ℕ → ℕ) (h : House) → IsDecided room next h 10
 collects_decided room next h = elim (search_for (λ k lane. HasSlip lane) h.lanes (λ k lane at. has_slip lane)) [
   | inl there ↦ inl (slip_ranks room next h there.0 there.1 there.2 there.3)
   | inr none ↦ inr (λ m e. no_slip h room none m.event m.in_order m.happens e)
@@ -207,20 +207,20 @@ is_spent i slot = by slot.held refl
     by Retired e = no (λ spent. cc)
 
 no_spent : (h : House) → ((i : ℕ) (slot : Slot) → slice_get h.depot.slots i ≡ Some slot → IsSpent i slot → ⊥) → (event : Event) → MayHappen h event
-    → rank event ≡ 9 → ⊥
+    → rank event ≡ 11 → ⊥
 no_spent h none (Reclaim i generation) happens e =
     let r = happens.1.1 in
     let key : Key = record { slot = i; generation = generation } in
     none i _ (used h.depot key (Sealed r.bytes r.blocks 0) r.message (λ e. cc)) (r.bytes, r.blocks, refl)
 no_spent h none event happens e = absurd (omega arith)
 
-spent_ranks : (room : ℕ) (next : ℕ → ℕ) (h : House) (i : ℕ) (slot : Slot) → slice_get h.depot.slots i ≡ Some slot → IsSpent i slot → HasRank room next h 9
+spent_ranks : (room : ℕ) (next : ℕ → ℕ) (h : House) (i : ℕ) (slot : Slot) → slice_get h.depot.slots i ≡ Some slot → IsSpent i slot → HasRank room next h 11
 unfolding reclaim_moves
 spent_ranks room next h i slot at spent =
     let key : Key = record { slot = i; generation = slot.generation } in
     (goes_on (λ who. who ≡ AnyHolder key) room next h (reclaim_moves room next h i slot spent.0 spent.1 at spent.2), refl)
 
-pub reclaims_decided : (room : ℕ) (next : ℕ → ℕ) (h : House) → IsDecided room next h 9
+pub reclaims_decided : (room : ℕ) (next : ℕ → ℕ) (h : House) → IsDecided room next h 11
 reclaims_decided room next h = elim (search_for IsSpent h.depot.slots (λ i slot at. is_spent i slot)) [
   | inl there ↦ inl (spent_ranks room next h there.0 there.1 there.2 there.3)
   | inr none ↦ inr (λ m e. no_spent h none m.event m.happens e)

@@ -9,6 +9,7 @@ pub mod Found
 pub mod Search
 pub mod Pigeons
 pub mod Slots
+pub mod Lowers
 pub mod Lowered
 pub mod CopiesLeft
 pub mod AlwaysFinishes

@@ -3,8 +3,8 @@ use Rattle.std.proofs.Common.{◌≡◌, ℕ, List, [], Option, Some, None, refl
 use Rattle.std.specs.Prelude.{slice_get}
 use Rattle.std.proofs.lemmas.Option.{slice_get_within}
 use Rattle.mail_world.specs.declared.Event.{Event}
-use Rattle.mail_world.specs.declared.Event.TheVariants.{Begin, Put, Cancel, Seal, Split, Offer, HandBack, Collect, Take, Write, Sync, Release, GiveSlip}
-use Rattle.mail_world.specs.declared.Event.TheVariants.{Reclaim, Close}
+use Rattle.mail_world.specs.declared.Event.TheVariants.{Begin, Put, Cancel, Seal, Split, Offer, HandBack, Collect, Take, Lock, Miss, Write, Sync, Cut}
+use Rattle.mail_world.specs.declared.Event.TheVariants.{Unlock, Release, GiveSlip, Reclaim, Close}
 use Rattle.mail_world.specs.Depot.{Key, Sealed}
 use Rattle.mail_world.specs.House.{Hold, Copy, Box, Lane, House}
 use Rattle.mail_world.specs.Events.{Step, LaneIs, BoxIs}
@@ -42,6 +42,10 @@ none_goes_on blocks next events h f (Take w) new goes st =
     let low = slice_get_within st.box.accepted st.box.taken st.post st.oldest in
     let all = f.drained w st.box st.is in absurd (omega arith)
 none_goes_on blocks next events h f (Write w bytes) new goes st = no_copy_there blocks events h f w st.box st.copy st.is st.in_hand
+none_goes_on blocks next events h f (Miss w) new goes st = goes
+none_goes_on blocks next events h f (Cut w) new goes st = goes
+none_goes_on blocks next events h f (Lock w bytes) new goes st = no_copy_there blocks events h f w st.box st.copy st.is st.in_hand
+none_goes_on blocks next events h f (Unlock w) new goes st = no_copy_there blocks events h f w st.box st.copy st.is st.in_hand
 none_goes_on blocks next events h f (Sync w) new goes st = no_copy_there blocks events h f w st.box st.copy st.is st.in_hand
 none_goes_on blocks next events h f (Release w) new goes st = no_copy_there blocks events h f w st.box st.copy st.is st.in_hand
 none_goes_on blocks next events h f (GiveSlip w outcome) new goes st = no_copy_there blocks events h f w st.box st.copy st.is st.in_hand

@@ -2,8 +2,8 @@
 use Rattle.std.proofs.Common.{◌≡◌, ◌≢◌, ℕ, suc, ◌+◌, List, [], ◌∷◌, ◌++◌, Bool, true, false, cond, Some, None, inl, inr, refl, ap, sym, ◌∙◌, subst}
 use Rattle.std.specs.Prelude.{slice_get, slice_set, flat_map, nat_lt}
 use Rattle.mail_world.specs.declared.Event.{Event}
-use Rattle.mail_world.specs.declared.Event.TheVariants.{Begin, Put, Cancel, Seal, Split, Offer, HandBack, Collect, Take, Write, Sync, Release, GiveSlip}
-use Rattle.mail_world.specs.declared.Event.TheVariants.{Reclaim, Close}
+use Rattle.mail_world.specs.declared.Event.TheVariants.{Begin, Put, Cancel, Seal, Split, Offer, HandBack, Collect, Take, Lock, Miss, Write, Sync, Cut}
+use Rattle.mail_world.specs.declared.Event.TheVariants.{Unlock, Release, GiveSlip, Reclaim, Close}
 use Rattle.mail_world.specs.Depot.{Key, Depot, Slot, Held, Free, Draft, Sealed, Retired, with_held, last_generation, GivesBack, blocks_of}
 use Rattle.mail_world.specs.House.{Lane, House, IsFreshSlot, IsStart}
 use Rattle.mail_world.specs.Events.{Step}
@@ -109,6 +109,10 @@ owned_step h (Collect k) new s st = subst AllOwned (sym st.after) (owned_lane h.
 owned_step h (Take w) new s st = subst AllOwned (sym st.after) s
 owned_step h (Write w bytes) new s st = subst AllOwned (sym st.after) s
 owned_step h (Sync w) new s st = subst AllOwned (sym st.after) s
+owned_step h (Lock w bytes) new s st = subst AllOwned (sym st.after) s
+owned_step h (Miss w) new s st = subst AllOwned (sym st.after) s
+owned_step h (Cut w) new s st = subst AllOwned (sym st.after) s
+owned_step h (Unlock w) new s st = subst AllOwned (sym st.after) s
 owned_step h (Release w) new s st =
     let r = st.releases in
     subst AllOwned (sym st.after)

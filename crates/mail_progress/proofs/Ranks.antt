@@ -1,7 +1,7 @@
 -- From one rank to the next: the first event is found, or none is of the rank.
 use Rattle.std.proofs.Common.{◌≡◌, ◌⊎◌, ℕ, ◌+◌, ◌≤◌, inl, inr, arith}
 use Rattle.mail_world.specs.declared.Event.{Event}
-use Rattle.mail_world.specs.declared.Event.TheVariants.{Begin, Put, Close}
+use Rattle.mail_world.specs.declared.Event.TheVariants.{Begin, Put, Miss, Cut, Close}
 use Rattle.mail_world.specs.House.{House}
 use Rattle.mail_progress.specs.GoingOn.{GoesOn, MayGoOn}
 use Rattle.mail_progress.specs.InTurn.{rank, IsFirst}
@@ -44,9 +44,11 @@ next_rank room next h r (inr below) decide = elim (decide below) [
   | inr none ↦ inr (none_of_rank room next h r below none)
 ]
 
--- what goes on has one of the ten ranks
-pub within_ten : (next : ℕ → ℕ) (h : House) (event : Event) → GoesOn next h event → rank event ≤ 9
-within_ten next h (Begin k) g = absurd g
-within_ten next h (Put k bytes) g = absurd g
-within_ten next h (Close b) g = absurd g
-within_ten next h event g = omega arith
+-- what goes on has one of the twelve ranks
+pub within_twelve : (next : ℕ → ℕ) (h : House) (event : Event) → GoesOn next h event → rank event ≤ 11
+within_twelve next h (Begin k) g = absurd g
+within_twelve next h (Put k bytes) g = absurd g
+within_twelve next h (Miss w) g = absurd g
+within_twelve next h (Cut w) g = absurd g
+within_twelve next h (Close b) g = absurd g
+within_twelve next h event g = omega arith

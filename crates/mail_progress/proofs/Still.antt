@@ -3,11 +3,13 @@ use Rattle.std.proofs.Common.{◌≡◌, ◌⊎◌, ℕ, zero, suc, ◌+◌, ◌
 use Rattle.std.specs.Prelude.{slice_get, IfSome}
 use Rattle.std.proofs.lemmas.Option.{slice_get_within}
 use Rattle.mail_world.specs.declared.Event.{Event}
-use Rattle.mail_world.specs.declared.Event.TheVariants.{Begin, Put, Cancel, Seal, Split, Offer, HandBack, Collect, Take, Write, Sync, Release, GiveSlip}
-use Rattle.mail_world.specs.declared.Event.TheVariants.{Reclaim, Close}
+use Rattle.mail_world.specs.declared.Event.TheVariants.{Begin, Put, Cancel, Seal, Split, Offer, HandBack, Collect, Take, Lock, Miss, Write, Sync, Cut}
+use Rattle.mail_world.specs.declared.Event.TheVariants.{Unlock, Release, GiveSlip, Reclaim, Close}
 use Rattle.mail_world.specs.Depot.{Key, Slot, Sealed}
 use Rattle.mail_world.specs.House.{Hold, Copy, Box, Lane, House}
 use Rattle.mail_world.specs.Events.{Step}
+use Rattle.mail_world.specs.Runs.{open_by}
+use Rattle.mail_world.proofs.Spools.{open_ending}
 use Rattle.mail_world.proofs.Depots.{used}
 use Rattle.mail_progress.specs.Orderly.{uncollected, IsInOrder, OfLane}
 use Rattle.mail_progress.specs.GoingOn.{GoesOn, StandsStill}
@@ -17,10 +19,10 @@ pub only : {A : Type 0} (x y : A) (i : ℕ) → slice_get (x ∷ []) i ≡ Some 
 only x y zero e = cc
 only x y (suc i) e = cc
 
--- nothing is in hand and nothing to take, or the slip of the copy in hand finds no room
+-- nothing is in hand and nothing to take, or the slip of the copy in hand, whose turn is over, finds no room
 abbrev pub CanNeither : ℕ → Lane → Box → Type 0
 CanNeither room lane box = ((box.hand ≡ None) × (box.taken ≡ length box.accepted))
-    ⊎ ((copy : Copy) × (box.hand ≡ Some copy) × (copy.released ≡ true) × (copy.post.note.txn.lane ≡ 0) × (room ≤ uncollected lane))
+    ⊎ ((copy : Copy) × (box.hand ≡ Some copy) × (copy.released ≡ true) × (open_by copy.progress ≡ 0) × (copy.post.note.txn.lane ≡ 0) × (room ≤ uncollected lane))
 
 -- the only lane has a copy to offer, and the only channel is open and full
 pub record IsStill (room : ℕ) (h : House) : Type 0 where
@@ -63,6 +65,19 @@ none_held room h s w box copy is e f =
           let bad : true ≡ false = sym stuck.2 ∙ ap (λ (x : Copy). x.released) same ∙ f in absurd (let f : ⊥ = cc in f)
     ]
 
+-- and one whose turn goes on
+none_open : (room : ℕ) (h : House) (s : IsStill room h) (w : ℕ) (box : Box) (copy : Copy) → slice_get h.boxes w ≡ Some box → box.hand ≡ Some copy
+    → open_by copy.progress ≡ 1 → ⊥
+none_open room h s w box copy is e f =
+    let hand : s.box.hand ≡ Some copy = ap (λ (x : Box). x.hand) (same_box room h s w box is) ∙ e in
+    elim s.neither [
+      | inl free ↦ let bad : None ≡ Some copy = sym free.0 ∙ hand in absurd (let f : ⊥ = cc in f)
+      | inr stuck ↦
+          let same : stuck.0 ≡ copy = let both : Some stuck.0 ≡ Some copy = sym stuck.1 ∙ hand in cc in
+          let done : open_by copy.progress ≡ 0 = ap (λ (x : Copy). open_by x.progress) (sym same) ∙ stuck.3 in
+          absurd (omega arith)
+    ]
+
 no_take : (room : ℕ) (h : House) (s : IsStill room h) (w : ℕ) (new : House) → Step h (Take w) new → ⊥
 no_take room h s w new st =
     let same = same_box room h s w st.box st.is in
@@ -87,11 +102,11 @@ no_slip room h s w box copy is e order =
       | inl free ↦ let bad : None ≡ Some copy = sym free.0 ∙ hand in absurd (let f : ⊥ = cc in f)
       | inr stuck ↦
           let same : stuck.0 ≡ copy = let both : Some stuck.0 ≡ Some copy = sym stuck.1 ∙ hand in cc in
-          let zeroth : copy.post.note.txn.lane ≡ 0 = ap (λ (x : Copy). x.post.note.txn.lane) (sym same) ∙ stuck.3 in
+          let zeroth : copy.post.note.txn.lane ≡ 0 = ap (λ (x : Copy). x.post.note.txn.lane) (sym same) ∙ stuck.4 in
           let there : slice_get h.lanes 0 ≡ Some s.lane = ap (λ ls. slice_get ls 0) s.lanes in
           let at : slice_get h.lanes copy.post.note.txn.lane ≡ Some s.lane = ap (slice_get h.lanes) zeroth ∙ there in
           let below : uncollected s.lane < room = subst (λ o. IfSome o (λ (lane : Lane). uncollected lane < room)) at in_hand in
-          let above : room ≤ uncollected s.lane = stuck.4 in absurd (omega arith)
+          let above : room ≤ uncollected s.lane = stuck.5 in absurd (omega arith)
     ]
 
 no_reclaim : (room : ℕ) (h : House) (s : IsStill room h) (slot generation : ℕ) (new : House) → Step h (Reclaim slot generation) new → ⊥
@@ -128,8 +143,13 @@ no_event room h s next (Collect k) g o new st =
     let one : Hold = record { key = s.key; weight = 1 } in
     let bad : ◌≡◌ {A = List Hold} (one ∷ []) [] = sym s.one_hold ∙ ap (λ (x : Lane). x.holds) (same_lane room h s k st.lane st.is) ∙ none in cc
 no_event room h s next (Take w) g o new st = no_take room h s w new st
-no_event room h s next (Write w bytes) g o new st = none_held room h s w st.box st.copy st.is st.in_hand st.held
-no_event room h s next (Sync w) g o new st = none_held room h s w st.box st.copy st.is st.in_hand st.held
+no_event room h s next (Lock w bytes) g o new st = none_open room h s w st.box st.copy st.is st.in_hand (ap open_by st.first)
+no_event room h s next (Miss w) g o new st = g
+no_event room h s next (Write w bytes) g o new st = none_open room h s w st.box st.copy st.is st.in_hand (ap open_by st.going)
+no_event room h s next (Sync w) g o new st = none_open room h s w st.box st.copy st.is st.in_hand (ap open_by st.going)
+no_event room h s next (Cut w) g o new st = g
+no_event room h s next (Unlock w) g o new st =
+    none_open room h s w st.box st.copy st.is st.in_hand (open_ending st.copy.progress st.end st.in_turn)
 no_event room h s next (Release w) g o new st = none_held room h s w st.box st.copy st.is st.in_hand st.held
 no_event room h s next (GiveSlip w outcome) g o new st = no_slip room h s w st.box st.copy st.is st.in_hand o
 no_event room h s next (Reclaim slot generation) g o new st = no_reclaim room h s slot generation new st

@@ -10,8 +10,8 @@ use Rattle.std.proofs.lemmas.Option.{slice_get_within}
 use Rattle.mail_world.specs.declared.Outcome.{Outcome}
 use Rattle.mail_world.specs.declared.Slip.{Slip}
 use Rattle.mail_world.specs.declared.Event.{Event}
-use Rattle.mail_world.specs.declared.Event.TheVariants.{Begin, Put, Cancel, Seal, Split, Offer, HandBack, Collect, Take, Write, Sync, Release, GiveSlip}
-use Rattle.mail_world.specs.declared.Event.TheVariants.{Reclaim, Close}
+use Rattle.mail_world.specs.declared.Event.TheVariants.{Begin, Put, Cancel, Seal, Split, Offer, HandBack, Collect, Take, Lock, Miss, Write, Sync, Cut}
+use Rattle.mail_world.specs.declared.Event.TheVariants.{Unlock, Release, GiveSlip, Reclaim, Close}
 use Rattle.mail_world.specs.Slips.{Gather, names, times_named, txn_of, gathered, own_slip, slip_of}
 use Rattle.mail_world.specs.Depot.{Key, Depot, Slot, Draft, Sealed, held_under}
 use Rattle.mail_world.specs.House.{Hold, Post, Copy, Box, SealedMessage, Lane, House, IsFreshLane, IsStart}
@@ -401,6 +401,22 @@ tracked_step room h (Write x bytes) new w kept s st =
     (none_after h h.depot _ (same_depot h.depot)
     (λ v. box_way h.boxes _ x st.box _ refl st.is (ap (λ hand. post_of hand ++ drop st.box.taken st.box.accepted) (sym st.in_hand)) v) s)
 tracked_step room h (Sync x) new w kept s st =
+    subst AllTracked (sym st.after)
+    (none_after h h.depot _ (same_depot h.depot)
+    (λ v. box_way h.boxes _ x st.box _ refl st.is (ap (λ hand. post_of hand ++ drop st.box.taken st.box.accepted) (sym st.in_hand)) v) s)
+tracked_step room h (Lock x bytes) new w kept s st =
+    subst AllTracked (sym st.after)
+    (none_after h h.depot _ (same_depot h.depot)
+    (λ v. box_way h.boxes _ x st.box _ refl st.is (ap (λ hand. post_of hand ++ drop st.box.taken st.box.accepted) (sym st.in_hand)) v) s)
+tracked_step room h (Miss x) new w kept s st =
+    subst AllTracked (sym st.after)
+    (none_after h h.depot _ (same_depot h.depot)
+    (λ v. box_way h.boxes _ x st.box _ refl st.is (ap (λ hand. post_of hand ++ drop st.box.taken st.box.accepted) (sym st.in_hand)) v) s)
+tracked_step room h (Cut x) new w kept s st =
+    subst AllTracked (sym st.after)
+    (none_after h h.depot _ (same_depot h.depot)
+    (λ v. box_way h.boxes _ x st.box _ refl st.is (ap (λ hand. post_of hand ++ drop st.box.taken st.box.accepted) (sym st.in_hand)) v) s)
+tracked_step room h (Unlock x) new w kept s st =
     subst AllTracked (sym st.after)
     (none_after h h.depot _ (same_depot h.depot)
     (λ v. box_way h.boxes _ x st.box _ refl st.is (ap (λ hand. post_of hand ++ drop st.box.taken st.box.accepted) (sym st.in_hand)) v) s)

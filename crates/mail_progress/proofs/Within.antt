@@ -9,8 +9,8 @@ use Rattle.std.proofs.lemmas.Option.{slice_get_within}
 use Rattle.mail_world.specs.declared.Outcome.{Outcome}
 use Rattle.mail_world.specs.declared.Slip.{Slip}
 use Rattle.mail_world.specs.declared.Event.{Event}
-use Rattle.mail_world.specs.declared.Event.TheVariants.{Begin, Put, Cancel, Seal, Split, Offer, HandBack, Collect, Take, Write, Sync, Release, GiveSlip}
-use Rattle.mail_world.specs.declared.Event.TheVariants.{Reclaim, Close}
+use Rattle.mail_world.specs.declared.Event.TheVariants.{Begin, Put, Cancel, Seal, Split, Offer, HandBack, Collect, Take, Lock, Miss, Write, Sync, Cut}
+use Rattle.mail_world.specs.declared.Event.TheVariants.{Unlock, Release, GiveSlip, Reclaim, Close}
 use Rattle.mail_world.specs.Slips.{Gather, place_outcome, is_same_txn, gathered, own_slip, slip_of}
 use Rattle.mail_world.specs.Depot.{Key}
 use Rattle.mail_world.specs.House.{Hold, Post, Copy, Box, Lane, House, IsFreshBox, IsFreshLane, IsStart}
@@ -224,6 +224,18 @@ within_step room h (Write w bytes) new s st o =
     box_alone room h new w st.box _ (ap (λ (x : House). x.boxes) st.after) (ap (λ (x : House). x.lanes) st.after) st.is
     (ap (λ hand. post_of hand ++ drop st.box.taken st.box.accepted) (sym st.in_hand)) s
 within_step room h (Sync w) new s st o =
+    box_alone room h new w st.box _ (ap (λ (x : House). x.boxes) st.after) (ap (λ (x : House). x.lanes) st.after) st.is
+    (ap (λ hand. post_of hand ++ drop st.box.taken st.box.accepted) (sym st.in_hand)) s
+within_step room h (Lock w bytes) new s st o =
+    box_alone room h new w st.box _ (ap (λ (x : House). x.boxes) st.after) (ap (λ (x : House). x.lanes) st.after) st.is
+    (ap (λ hand. post_of hand ++ drop st.box.taken st.box.accepted) (sym st.in_hand)) s
+within_step room h (Miss w) new s st o =
+    box_alone room h new w st.box _ (ap (λ (x : House). x.boxes) st.after) (ap (λ (x : House). x.lanes) st.after) st.is
+    (ap (λ hand. post_of hand ++ drop st.box.taken st.box.accepted) (sym st.in_hand)) s
+within_step room h (Cut w) new s st o =
+    box_alone room h new w st.box _ (ap (λ (x : House). x.boxes) st.after) (ap (λ (x : House). x.lanes) st.after) st.is
+    (ap (λ hand. post_of hand ++ drop st.box.taken st.box.accepted) (sym st.in_hand)) s
+within_step room h (Unlock w) new s st o =
     box_alone room h new w st.box _ (ap (λ (x : House). x.boxes) st.after) (ap (λ (x : House). x.lanes) st.after) st.is
     (ap (λ hand. post_of hand ++ drop st.box.taken st.box.accepted) (sym st.in_hand)) s
 within_step room h (Release w) new s st o =

@@ -2,7 +2,7 @@
 use Rattle.std.specs.Prelude.{◌⊎◌, ℕ, ◌≤◌, List}
 use Rattle.mail_world.specs.declared.Event.{Event}
 use Rattle.mail_world.specs.declared.Event.TheVariants.{Begin, Put, Cancel, Seal, Split, Offer, HandBack, Collect, Take}
-use Rattle.mail_world.specs.declared.Event.TheVariants.{Write, Sync, Release, GiveSlip, Reclaim, Close}
+use Rattle.mail_world.specs.declared.Event.TheVariants.{Lock, Miss, Write, Sync, Cut, Unlock, Release, GiveSlip, Reclaim, Close}
 use Rattle.mail_world.specs.House.{House, IsStart}
 use Rattle.mail_world.specs.Events.{MayHappen}
 use Rattle.mail_world.specs.Runs.{Happened, Run, last_house, events_of}
@@ -12,8 +12,8 @@ use Rattle.mail_progress.specs.NothingStuck.{AreThere, AreClosed}
 use Rattle.mail_progress.specs.Finished.{IsFinished}
 
 -- The lower is tried first: a lane's draft, its copies one by one, then what the workers have, from the channel to the
--- slip, then what the lanes collect,
--- and at last the messages that nobody holds. The events of the last rank never go on.
+-- slip, then what the lanes collect, and at last the messages that nobody holds. The events of the last rank never go
+-- on.
 abbrev pub rank : Event → ℕ
 rank (Seal k n) = 0
 rank (Cancel k) = 0
@@ -21,15 +21,19 @@ rank (Split k i) = 1
 rank (Offer k note) = 2
 rank (HandBack k i b) = 2
 rank (Take w) = 3
-rank (Write w bytes) = 4
-rank (Sync w) = 5
-rank (Release w) = 6
-rank (GiveSlip w outcome) = 7
-rank (Collect k) = 8
-rank (Reclaim slot generation) = 9
-rank (Begin k) = 10
-rank (Put k bytes) = 10
-rank (Close b) = 10
+rank (Lock w bytes) = 4
+rank (Write w bytes) = 5
+rank (Sync w) = 6
+rank (Unlock w) = 7
+rank (Release w) = 8
+rank (GiveSlip w outcome) = 9
+rank (Collect k) = 10
+rank (Reclaim slot generation) = 11
+rank (Begin k) = 12
+rank (Put k bytes) = 12
+rank (Miss w) = 12
+rank (Cut w) = 12
+rank (Close b) = 12
 
 -- the event takes further what is under way, and may happen, and no event of a lower rank does
 pub record IsFirst (room : ℕ) (next : ℕ → ℕ) (h : House) (event : Event) : Type 0 where

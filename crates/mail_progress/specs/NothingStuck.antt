@@ -5,7 +5,7 @@ use Rattle.std.specs.List.{list_any}
 use Rattle.mail_world.specs.declared.Txn.{Txn}
 use Rattle.mail_world.specs.declared.Event.{Event}
 use Rattle.mail_world.specs.declared.Event.TheVariants.{Begin, Put, Cancel, Seal, Split, Offer, HandBack, Collect, Take}
-use Rattle.mail_world.specs.declared.Event.TheVariants.{Write, Sync, Release, GiveSlip, Reclaim, Close}
+use Rattle.mail_world.specs.declared.Event.TheVariants.{Lock, Miss, Write, Sync, Cut, Unlock, Release, GiveSlip, Reclaim, Close}
 use Rattle.mail_world.specs.Depot.{Key, Slot, Sealed}
 use Rattle.mail_world.specs.House.{Hold, Post, Copy, Box, Lane, House, IsStart}
 use Rattle.mail_world.specs.Events.{LaneIs, BoxIs, MayHappen}
@@ -31,8 +31,12 @@ mover (Offer k note) = LaneOf k
 mover (HandBack k i b) = LaneOf k
 mover (Collect k) = LaneOf k
 mover (Take w) = WorkerOf w
+mover (Lock w bytes) = WorkerOf w
+mover (Miss w) = WorkerOf w
 mover (Write w bytes) = WorkerOf w
 mover (Sync w) = WorkerOf w
+mover (Cut w) = WorkerOf w
+mover (Unlock w) = WorkerOf w
 mover (Release w) = WorkerOf w
 mover (GiveSlip w outcome) = WorkerOf w
 mover (Reclaim slot generation) = AnyHolder (record { slot = slot; generation = generation })

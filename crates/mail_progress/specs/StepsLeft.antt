@@ -7,25 +7,36 @@ use Rattle.mail_world.specs.declared.Event.TheVariants.{Begin, Put, Offer, Write
 use Rattle.mail_world.specs.declared.Note.{Note}
 use Rattle.mail_world.specs.Records.{record_of}
 use Rattle.mail_world.specs.Depot.{Held, Free, Draft, Sealed, Retired}
-use Rattle.mail_world.specs.House.{Hold, Copy, Box, Lane, House, IsStart, is_settled}
-use Rattle.mail_world.specs.Events.{Step}
+use Rattle.mail_world.specs.House.{Hold, Progress, Taken, Going, Full, Synced, CutBack, Done, Copy, Box, Lane, House}
+use Rattle.mail_world.specs.House.{IsStart}
+use Rattle.mail_world.specs.Events.{Step, added}
 use Rattle.mail_world.specs.Runs.{Happened, Run, last_house}
 use Rattle.mail_progress.specs.Orderly.{uncollected, IsInOrder, IsOrderly}
 
 abbrev pub size : House → Note → ℕ
 size h note = length (record_of h.calendar h.site note)
 
--- a copy that a channel accepted is taken, written at least one byte at a time, synced and released, and its
--- slip is given and collected
+-- what mends a mailbox has this many bytes at most
+abbrev pub most_that_mends : ℕ
+most_that_mends = 44
+
+-- a copy that a channel accepted is taken and locked or missed, what mends the mailbox and its record are written at
+-- least one byte at a time and synced or cut off again, it is unlocked and released, and its slip is given and collected
 abbrev pub steps_of_copy : ℕ → ℕ
-steps_of_copy size = size + 5
+steps_of_copy size = size + most_that_mends + 7
+
+-- of these what is left once its turn has come so far
+abbrev pub steps_of_turn : House → Note → Progress → ℕ
+steps_of_turn h note Taken = size h note + most_that_mends + 6
+steps_of_turn h note (Going lock written) = (length (added h note lock.bytes) - written) + 5
+steps_of_turn h note (Full lock) = 4
+steps_of_turn h note (Synced lock) = 4
+steps_of_turn h note (CutBack lock) = 4
+steps_of_turn h note (Done outcome) = 3
 
 abbrev pub steps_in_hand : House → Option Copy → ℕ
 steps_in_hand h None = 0
-steps_in_hand h (Some copy) =
-    if copy.released then 2
-    else if is_settled copy then 3
-    else (size h copy.post.note - copy.written) + 4
+steps_in_hand h (Some copy) = if copy.released then 2 else steps_of_turn h copy.post.note copy.progress
 
 -- a hold's weight is split into ones, and each is a copy to offer
 abbrev pub steps_of_one : ℕ → ℕ

@@ -1,4 +1,4 @@
--- What a worker of the model makes of the copies that it takes.
+-- What a mailbox comes to: the copies that its worker takes, and their turns.
 use Rattle.std.specs.Prelude.{ℕ, List, map, Option}
 use Rattle.mail_world.specs.declared.Note.{Note}
 use Rattle.mail_world.specs.declared.Outcome.{Outcome}
