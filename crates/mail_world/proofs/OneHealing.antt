@@ -9,7 +9,8 @@ use Rattle.mail_world.specs.Turns.{Standing, Told, Had}
 use Rattle.mail_world.specs.Depot.{Sealed, with_held, given_back}
 use Rattle.mail_world.specs.House.{Post, Progress, Taken, Going, Synced, Done, Copy, Box, Lane, House, with_depot, with_box, with_lane, IsStart}
 use Rattle.mail_world.specs.Slips.{slip_of}
-use Rattle.mail_world.specs.declared.Event.TheVariants.{Begin, Put, Seal, Split, Offer, Take, Lock, Write, Sync, Unlock, Release, Reclaim, GiveSlip, Collect, Close}
+use Rattle.mail_world.specs.declared.Event.TheVariants.{Begin, Put, Seal, Split, Offer, Take, Lock, Write, Sync, Unlock, Release, Reclaim, GiveSlip, Collect}
+use Rattle.mail_world.specs.declared.Event.TheVariants.{Close}
 use Rattle.mail_world.specs.Events.{Step, with_heard, without_copy, sealed_up_to}
 use Rattle.mail_world.specs.Runs.{Happened, Run, HasSpoolAndPlaces, HasDrained}
 use Rattle.mail_world.specs.Rows.{calendar, site}
