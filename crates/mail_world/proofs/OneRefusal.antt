@@ -361,17 +361,20 @@ h40 = with_lane h39 0 lane₁₇
 abbrev pub h41 : House
 h41 = with_lane h40 0 lane₁₈
 
+abbrev pub later_run : List Happened
+later_run =
+    then' (Take 0) h21 ∷ then' (Lock 0 []) h22 ∷ then' (Write 0 (text 1)) h23 ∷ then' (Sync 0) h24 ∷ then' (Unlock 0) h25
+    ∷ then' (Release 0) h26 ∷ then' (GiveSlip 0 Stored) h27 ∷ then' (Take 0) h28 ∷ then' (Lock 0 (text 1)) h29 ∷ then' (Unlock 0) h30
+    ∷ then' (Release 0) h31 ∷ then' (GiveSlip 0 OverQuota) h32 ∷ then' (Take 0) h33 ∷ then' (Miss 0) h34 ∷ then' (Release 0) h35
+    ∷ then' (GiveSlip 0 Failed) h36 ∷ then' (Reclaim 0 0) h37 ∷ then' (Collect 0) h38 ∷ then' (Collect 0) h39 ∷ then' (Collect 0) h40
+    ∷ then' (Collect 0) h41 ∷ []
+
 abbrev pub one_run : List Happened
 one_run =
     then' (Begin 0) h1 ∷ then' (Put 0 bytes) h2 ∷ then' (Seal 0 5) h3 ∷ then' (Split 0 0) h4 ∷ then' (Split 0 0) h5 ∷ then' (Split 0 0) h6
     ∷ then' (Split 0 0) h7 ∷ then' (Offer 0 (note 0)) h8 ∷ then' (Offer 0 (note 1)) h9 ∷ then' (Offer 0 (note 2)) h10
     ∷ then' (Offer 0 (note 3)) h11 ∷ then' (Close 0) h12 ∷ then' (HandBack 0 0 0) h13 ∷ then' (Take 0) h14 ∷ then' (Lock 0 []) h15
-    ∷ then' (Write 0 part) h16 ∷ then' (Cut 0) h17 ∷ then' (Unlock 0) h18 ∷ then' (Release 0) h19 ∷ then' (GiveSlip 0 Failed) h20
-    ∷ then' (Take 0) h21 ∷ then' (Lock 0 []) h22 ∷ then' (Write 0 (text 1)) h23 ∷ then' (Sync 0) h24 ∷ then' (Unlock 0) h25
-    ∷ then' (Release 0) h26 ∷ then' (GiveSlip 0 Stored) h27 ∷ then' (Take 0) h28 ∷ then' (Lock 0 (text 1)) h29 ∷ then' (Unlock 0) h30
-    ∷ then' (Release 0) h31 ∷ then' (GiveSlip 0 OverQuota) h32 ∷ then' (Take 0) h33 ∷ then' (Miss 0) h34 ∷ then' (Release 0) h35
-    ∷ then' (GiveSlip 0 Failed) h36 ∷ then' (Reclaim 0 0) h37 ∷ then' (Collect 0) h38 ∷ then' (Collect 0) h39 ∷ then' (Collect 0) h40
-    ∷ then' (Collect 0) h41 ∷ []
+    ∷ then' (Write 0 part) h16 ∷ then' (Cut 0) h17 ∷ then' (Unlock 0) h18 ∷ then' (Release 0) h19 ∷ then' (GiveSlip 0 Failed) h20 ∷ later_run
 
 pub it_starts : IsStart 2 start
 it_starts = starts 4 (Some quota) _ (record { held = refl; generation = lit≤ tt }, tt) each_once
