@@ -13,7 +13,8 @@ use Rattle.mail_world.proofs.OneRefusal.{note, post, text, quota, part, lock₀,
 use Rattle.mail_world.proofs.OneRefusal.{lane₈, lane₉, lane₁₀, lane₁₁, lane₁₂, lane₁₃, lane₁₄, lane₁₅, lane₁₆, lane₁₇, lane₁₈, box₁, box₂, box₃, box₄, box₅}
 use Rattle.mail_world.proofs.OneRefusal.{box₆, box₇, box₈, box₉, box₁₀, box₁₁, box₁₂, box₁₃, box₁₄, box₁₅, box₁₆, box₁₇, box₁₈, box₁₉, box₂₀, box₂₁, box₂₂}
 use Rattle.mail_world.proofs.OneRefusal.{box₂₃, box₂₄, box₂₅, box₂₆, box₂₇, box₂₈, h8, h9, h10, h11, h12, h13, h14, h15, h16, h17, h18, h19, h20, h21, h22, h23}
-use Rattle.mail_world.proofs.OneRefusal.{h24, h25, h26, h27, h28, h29, h30, h31, h32, h33, h34, h35, h36, h37, h38, h39, h40, h41, one_run, later_run, step1, step2, step3}
+use Rattle.mail_world.proofs.OneRefusal.{h24, h25, h26, h27, h28, h29, h30, h31, h32, h33, h34, h35, h36, h37, h38, h39, h40, h41, one_run, later_run, step1}
+use Rattle.mail_world.proofs.OneRefusal.{step2, step3}
 use Rattle.mail_world.proofs.OneRefusal.{step4, step5, step6, step7, step8}
 
 step9 : Step h8 (Offer 0 (note 1)) h9
@@ -388,11 +389,18 @@ step41 : Step h40 (Collect 0) h41
 unfolding everything
 step41 = record { lane = lane₁₇; slip = slip₃; is = refl; oldest = refl; after = refl }
 
-later_runs : Run h20 later_run
-later_runs = (step21, (step22, (step23, (step24, (step25, (step26, (step27, (step28, (step29, (step30, (step31, (step32, (step33, (step34, (step35, (step36, (step37, (step38, (step39, (step40, (step41, tt)))))))))))))))))))))
+-- ten steps after ten
+after₃₀ : Run h30 (drop 10 later_run)
+after₃₀ = (step31, (step32, (step33, (step34, (step35, (step36, (step37, (step38, (step39, (step40, (step41, tt)))))))))))
+
+after₂₀ : Run h20 later_run
+after₂₀ = (step21, (step22, (step23, (step24, (step25, (step26, (step27, (step28, (step29, (step30, after₃₀))))))))))
+
+after₁₀ : Run h10 (drop 10 one_run)
+after₁₀ = (step11, (step12, (step13, (step14, (step15, (step16, (step17, (step18, (step19, (step20, after₂₀))))))))))
 
 pub it_runs : Run start one_run
-it_runs = (step1, (step2, (step3, (step4, (step5, (step6, (step7, (step8, (step9, (step10, (step11, (step12, (step13, (step14, (step15, (step16, (step17, (step18, (step19, (step20, later_runs))))))))))))))))))))
+it_runs = (step1, (step2, (step3, (step4, (step5, (step6, (step7, (step8, (step9, (step10, after₁₀))))))))))
 
 pub it_shows : HasSpoolAndPlaces h41 (mailbox calendar site [] (note 1 ∷ [])) (Some Failed ∷ Some Stored ∷ Some OverQuota ∷ Some Failed ∷ Some Failed ∷ [])
 unfolding everything
