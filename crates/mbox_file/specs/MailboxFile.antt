@@ -79,10 +79,14 @@ pub record HasRefused (old new : FileState) : Type 0 where
   pub same : new ≡ record old { refusals = new.refusals }
   pub refused : Rises old.refusals new.refusals
 
+-- the path was found to name another file, or none
+abbrev pub HasFoundAnother : FileState → FileState → Type 0
+HasFoundAnother old new = HasRefused (record old { is_named = false }) new
+
 -- whether the path is found to name the open file
 abbrev pub HasLooked : FileState → FileState → Bool → Type 0
 HasLooked old new true = new ≡ record old { is_named = true }
-HasLooked old new false = HasRefused old new
+HasLooked old new false = HasFoundAnother old new
 
 -- Both locks are held, and the open file is the one that the path names: others neither write it nor put another in its
 -- place.
