@@ -1,5 +1,6 @@
 pub mod Envelope
-pub mod Sharing
+pub mod TurnState
+pub mod TurnLog
 pub mod Spool
 pub mod Tail
 pub mod MemorySpool

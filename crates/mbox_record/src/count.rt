@@ -1,73 +1,132 @@
 //! A spool that keeps no bytes: it measures what is written to it.
-ghost use Rattle.std.specs.Prelude.{◌≡◌, ◌+◌, ◌<◌, ◌≤◌, ℕ, List, ◌++◌, length, take, None, Ok, IsOk, IsErr, IfOk, OnOk};
-ghost use Rattle.std.specs.Prelude.{OnErr};
+ghost use Rattle.std.specs.Prelude.{◌≡◌, ◌+◌, ◌^◌, ◌<◌, ◌≤◌, ◌++◌, ⊤, length, take, min, Ok, Err, IsErr, IfOk, OnOk, OnErr};
 ghost use Rattle.std.specs.Prelude.{true, false};
 ghost use Rattle.mail_world.specs.Counts.{counted};
-ghost use Rattle.mbox_record.specs.Spool.{SpoolTook, SpoolFailed, HasSynced, HasNotSynced};
-ghost use Rattle.mail_world.specs.Endings.{ending_from};
+ghost use Rattle.mail_world.specs.Endings.{ending};
+ghost use Rattle.mbox_record.specs.CountSpool.{in_its_turn, state_of};
+ghost use Rattle.mbox_record.specs.Spool.{SpoolTook, SpoolFailed, HasSynced, HasNotSynced, AsksForTurn, EndsTurn};
 ghost use Rattle.mbox_record.specs.Tail.{ending_of};
-ghost use Rattle.mbox_record.specs.Sharing.{unshared};
+ghost use Rattle.mbox_record.specs.TurnLog.{begun_at, no_turns, nothing_there, taken_more, made_sure};
+ghost use Rattle.mbox_record.specs.TurnState.{knows_end};
 
 use crate::spool::{InUse, Spool, SpoolFault};
 use crate::tail::{Tail, tail_after};
-use std::marker::Model;
+use crate::turns::Turns;
+use std::marker::{Brand, Model};
 
-/// A spool that counts the bytes that it takes, and knows how they end. It never fails, and takes no memory. Its count
-/// stays at 2^64 - 1.
-#[derive(Debug, Drop)]
+/// A spool that counts the bytes that it takes, and knows how they end. It is in a turn from the start, and has no
+/// other. In that it never fails, and it takes no memory. Its count stays at 2^64 - 1.
+#[derive(Drop)]
 pub struct CountSpool {
     held: u64,
     tail: Tail,
+    failures: u64,
+    in_turn: bool,
     is_unsynced: bool,
+    refusals: u64,
+    turns: Turns,
 }
 
 impl Model for CountSpool {
-    ghost use Rattle.mbox_record.specs.CountSpool.{CountSpool as Counted};
+    ghost use Rattle.mbox_record.specs.CountSpool.{CountSpool as Counted, IsInOrder};
 
     ghost Value = { Counted };
 
-    ghost view = { λ s. record { held = s.held; tail = s.tail; is_unsynced = s.is_unsynced } };
+    ghost view = { λ s. record {
+      held = s.held;
+      tail = s.tail;
+      failures = s.failures;
+      in_turn = s.in_turn;
+      is_unsynced = s.is_unsynced;
+      refusals = s.refusals;
+      log = s.turns.log;
+    } };
+
+    ghost invariant = { λ s. IsInOrder (record {
+      held = s.held;
+      tail = s.tail;
+      failures = s.failures;
+      in_turn = s.in_turn;
+      is_unsynced = s.is_unsynced;
+      refusals = s.refusals;
+      log = s.turns.log;
+    }) };
 }
 
 impl CountSpool {
     /// An empty one.
     pub fn new() -> CountSpool
-        ensures { result ≡ record { held = 0; tail = Tail.Empty; is_unsynced = false } }
+        ensures { result ≡ in_its_turn }
     {
         CountSpool {
             held: 0,
             tail: Tail::Empty,
+            failures: 0,
+            in_turn: true,
             is_unsynced: false,
+            refusals: 0,
+            turns: CountSpool::only_turn(),
         }
+    }
+
+    // The list of turns in which that one is under way.
+    fn only_turn() -> Turns
+        ensures { result.log ≡ begun_at no_turns nothing_there }
+    {
+        Turns::after::<Brand, ()>(&Turns::none(), &(), 0)
+    }
+
+    /// How many bytes it took.
+    pub fn held(&self) -> u64
+        ensures count { result ≡ self.now.held }
+        ensures exact { result ≡ counted (length (state_of self.now).bytes) }
+    {
+        self.held
+    }
+
+    // Counts a failure, which outside its turn each append and sync is.
+    fn fail(&mut self) -> SpoolFault
+        ensures { self.new ≡ record self.old { failures = min (self.old.failures + 1) (2 ^ 64 - 1) } }
+    {
+        self.failures = self.failures.saturating_add(1);
+        SpoolFault
     }
 }
 
 impl Spool for CountSpool {
-    ghost state = { λ s. record {
-      bytes = None;
-      failures = 0;
-      limit = None;
-      synced = 0;
-      held = s.held;
-      sharing = unshared s.is_unsynced;
-    } };
+    ghost state = { λ s. state_of s };
 
-    fn is_shared(&self) -> bool {
-        false
+    ghost MayFind = { λ last now. ⊤ };
+
+    ghost MayRefuse = { λ broke refused. ⊤ };
+
+    /// It is refused.
+    fn lock(&mut self) -> Result<u64, InUse>
+        ensures refused { result ≡ Err InUse.Locked }
+
+        // what every spool ensures
+        ensures asks { AsksForTurn (⟦<CountSpool as Spool>⟧.state self.old)
+            (⟦<CountSpool as Spool>⟧.state self.new) result }
+    {
+        self.refusals = self.refusals.saturating_add(1);
+        self.turns.miss();
+        Err(InUse::Locked)
     }
 
-    fn lock(&mut self) -> Result<Option<u64>, InUse> {
-        Ok(None)
+    fn unlock(&mut self) {
+        if !self.in_turn {
+            return;
+        }
+        let turns = Turns::after::<Brand, CountSpool>(&self.turns, self, self.failures);
+        self.turns = turns;
+        self.in_turn = false;
     }
 
-    fn unlock(&mut self) {}
-
-    /// Takes the whole piece.
+    /// Takes the whole piece, in its turn.
     fn append(&mut self, piece: &[u8]) -> Result<usize, SpoolFault>
         requires { 0 < length piece.now }
-        ensures whole { result ≡ Ok (length piece.now) }
-        ensures held { self.new.held ≡ counted (self.old.held + length piece.now) }
-        ensures tail { ending_of self.new.tail ≡ ending_from (ending_of self.old.tail) piece.now }
+        ensures whole { self.old.in_turn ≡ true → result ≡ Ok (length piece.now) }
+        ensures held { OnOk result (self.new.held ≡ counted (self.old.held + length piece.now)) }
 
         // what every spool ensures
         ensures within { IfOk result (λ n. (1 ≤ n) × (n ≤ length piece.now)) }
@@ -75,10 +134,14 @@ impl Spool for CountSpool {
             (⟦<CountSpool as Spool>⟧.state self.new) (take n piece.now)) }
         ensures err { OnErr result (SpoolFailed (⟦<CountSpool as Spool>⟧.state self.old)
             (⟦<CountSpool as Spool>⟧.state self.new) piece.now) }
-        ensures unsynced { OnOk result ((⟦<CountSpool as Spool>⟧.state self.new).sharing.is_unsynced ≡ true) }
-        ensures outside { (⟦<CountSpool as Spool>⟧.state self.old).sharing.is_shared ≡ true
-            → (⟦<CountSpool as Spool>⟧.state self.old).sharing.in_turn ≡ false → IsErr result }
+        ensures unsynced { OnOk result ((⟦<CountSpool as Spool>⟧.state self.new).turn.is_unsynced ≡ true) }
+        ensures outside { (⟦<CountSpool as Spool>⟧.state self.old).turn.in_turn ≡ false → IsErr result }
     {
+        if !self.in_turn {
+            return Err(self.fail());
+        }
+        let turns = Turns::after::<Brand, &[u8]>(&self.turns, &piece, self.failures);
+        self.turns = turns;
         self.is_unsynced = true;
         self.held = self.held.saturating_add(piece.len() as u64);
         self.tail = tail_after(self.tail, piece);
@@ -87,33 +150,31 @@ impl Spool for CountSpool {
 
     /// There is nothing to keep.
     fn sync(&mut self) -> Result<(), SpoolFault>
-        ensures sound { IsOk result }
-        ensures same { self.new ≡ record self.old { is_unsynced = false } }
+        ensures sound { self.old.in_turn ≡ true → result ≡ Ok (record {}) }
 
         // what every spool ensures
         ensures ok { OnOk result
             (HasSynced (⟦<CountSpool as Spool>⟧.state self.old) (⟦<CountSpool as Spool>⟧.state self.new)) }
         ensures err { OnErr result
             (HasNotSynced (⟦<CountSpool as Spool>⟧.state self.old) (⟦<CountSpool as Spool>⟧.state self.new)) }
-        ensures outside { (⟦<CountSpool as Spool>⟧.state self.old).sharing.is_shared ≡ true
-            → (⟦<CountSpool as Spool>⟧.state self.old).sharing.in_turn ≡ false → IsErr result }
+        ensures outside { (⟦<CountSpool as Spool>⟧.state self.old).turn.in_turn ≡ false → IsErr result }
     {
+        if !self.in_turn {
+            return Err(self.fail());
+        }
+        let turns = Turns::after::<Brand, ()>(&self.turns, &(), self.failures);
+        self.turns = turns;
         self.is_unsynced = false;
         Ok(())
     }
 
     fn tail(&self) -> Tail
-        ensures { result ≡ self.now.tail }
-    {
-        self.tail
-    }
-
-    fn held(&self) -> u64
-        ensures exact { result ≡ self.now.held }
+        ensures same { result ≡ self.now.tail }
 
         // what every spool ensures
-        ensures counted { result ≡ counted (⟦<CountSpool as Spool>⟧.state self.now).held }
+        ensures known { knows_end (⟦<CountSpool as Spool>⟧.state self.now).turn ≡ true
+            → ending_of result ≡ ending (⟦<CountSpool as Spool>⟧.state self.now).bytes }
     {
-        self.held
+        self.tail
     }
 }

@@ -17,6 +17,7 @@ mod quoted;
 mod record;
 mod spool;
 mod tail;
+mod turns;
 
 pub use count::CountSpool;
 pub use envelope::Envelope;
@@ -25,4 +26,5 @@ pub use memory::MemorySpool;
 pub use mending::mend;
 pub use record::RecordWriter;
 pub use spool::{InUse, Spool, SpoolFault};
+pub use turns::{Listed, Turns};
 pub use tail::{Tail, tail_after, tail_of, tail_of_last, what_mends};
