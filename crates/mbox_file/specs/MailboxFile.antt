@@ -123,10 +123,11 @@ pub record HasNotAppended (old new : FileState) (text : List ℕ) : Type 0 where
 abbrev pub KeepsFile : FileState → FileState → Type 0
 KeepsFile old new = new ≡ record old { kept = length old.bytes }
 
--- nobody knows what a crash leaves of what wasn't kept before
+-- Nobody knows what a crash leaves of what wasn't kept before. No more is kept than there is.
 pub record FailsToKeep (old new : FileState) : Type 0 where
   pub same : new ≡ record old { kept = new.kept; faults = new.faults }
   pub kept : old.kept ≤ new.kept
+  pub within : old.kept ≤ length old.bytes → new.kept ≤ length new.bytes
   pub failed : Rises old.faults new.faults
 
 -- only that many of the first bytes are left

@@ -1,7 +1,7 @@
 use Rattle.std.proofs.Common.{[], rules, subst}
-use Rattle.mbox_rd.specs.SharedSpool.{IsInOrder}
+use Rattle.mbox_rd.specs.FileSpool.{IsInOrder}
 use Rattle.mbox_rd.proofs.Failing.{fails_now, fails_after}
-use Rattle.mbox_rd.proofs.shared.SharedSpoolSpool.sync.Goals as goal
+use Rattle.mbox_rd.proofs.file.FileSpoolSpool.sync.Goals as goal
 
 pub returns-then-not-self-clause-err : goal.returns-then-not-self-clause-err
 returns-then-not-self-clause-err g c =

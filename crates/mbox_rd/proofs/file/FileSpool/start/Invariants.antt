@@ -1,5 +1,6 @@
-use Rattle.mbox_rd.specs.TurnLog.{begun_at, standing_of}
-use Rattle.mbox_rd.proofs.turns.Turns.begin.Given as goal
+use Rattle.mbox_record.specs.TurnLog.{begun_at}
+use Rattle.mbox_rd.specs.FileSpool.{standing_of}
+use Rattle.mbox_rd.proofs.file.FileSpool.start.Given as goal
 
 abbrev pub ghosts-after : goal.ghosts-after
 ghosts-after g a = record {

@@ -1,5 +1,6 @@
-use Rattle.mbox_rd.specs.TurnLog.{ended_at, standing_of}
-use Rattle.mbox_rd.proofs.turns.Turns.end.Given as goal
+use Rattle.mbox_record.specs.TurnLog.{ended_at}
+use Rattle.mbox_rd.specs.FileSpool.{standing_of}
+use Rattle.mbox_rd.proofs.file.FileSpoolSpool.unlock.Given as goal
 
 abbrev pub ghosts-after : goal.ghosts-after
 ghosts-after g a = record {
