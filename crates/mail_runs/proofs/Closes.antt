@@ -5,8 +5,9 @@ use Rattle.std.specs.Prelude.{◌⊎◌, slice_get}
 use Rattle.std.proofs.lemmas.Option.{slice_get_within}
 use Rattle.mail_world.specs.declared.Note.{Note}
 use Rattle.mail_world.specs.declared.Slip.{Slip}
-use Rattle.mail_world.specs.declared.Outcome.{Outcome}
 use Rattle.mail_world.specs.declared.Event.TheVariants.{Close}
+use Rattle.mail_world.specs.Turns.{left_by}
+use Rattle.mail_world.specs.Turns.{Told as HadTurn}
 use Rattle.mail_world.specs.Lists.{of_lane}
 use Rattle.mail_world.specs.House.{House, Lane, Box, Copy, Post, notes_of, with_box}
 use Rattle.mail_world.specs.Events.{LaneIs, BoxIs, CloseStep}
@@ -16,40 +17,47 @@ use Rattle.mail_world.proofs.OtherSteps.{there_is}
 use Rattle.mail_world.proofs.Once.{every_run_in_order}
 use Rattle.mail_progress.specs.Orderly.{IsOrderly}
 use Rattle.mail_runs.specs.Deeds.{turns_of}
-use Rattle.mail_runs.specs.Courses.{Server, Spooled, Course, TakesAll}
+use Rattle.mail_runs.specs.Courses.{Server, Course, outcomes_in}
 use Rattle.mail_runs.specs.Histories.{Threads}
-use Rattle.mail_runs.specs.RunOf.{EndsAs, HeardAs, IsRunOf}
+use Rattle.mail_runs.specs.RunOf.{kept_by, EndsAs, HeardAs, IsRunOf}
 use Rattle.mail_runs.proofs.Manners.{Manner, Owed}
 use Rattle.mail_runs.proofs.Parts.{each_set}
 use Rattle.mail_runs.proofs.Same.{Frame, frame_of, frame_run}
 use Rattle.mail_runs.proofs.Story.{Story, goes_on}
-use Rattle.mail_runs.proofs.Stands.{BeginsCopy, BoxStands, LaneStands, IsIdle, IsGiving, spooled, in_the_end}
+use Rattle.mail_runs.proofs.Stands.{BeginsCopy, TurnsLeft, BoxStands, LaneStands, IsIdle, IsGiving}
 use Rattle.mail_runs.proofs.Next.{Next}
 
--- a worker with nothing left to do has no copy in hand, and its spool is as it will be
+-- a worker with nothing left to do has no copy in hand, and its mailbox is as it will be
 record IsWorkerDone (course : Course) (notes : List Note) (box : Box) : Type 0 where
   free_hand : box.hand ≡ None
   none : notes ≡ []
-  ends : in_the_end course ≡ spooled box
+  turns : box.turns ≡ course.turns
+  bytes : box.spool ≡ left_by course.old course.turns
+  synced : box.kept ≡ kept_by 0 course.turns
 
-no_turns : (s : Server) (b : ℕ) (notes : List Note) (outcomes : List Outcome) (old new : Spooled) → [] ≡ turns_of b notes outcomes
-    → TakesAll s notes outcomes old new → (notes ≡ []) × (new ≡ old)
-no_turns s b [] [] old new e takes = (refl, takes)
-no_turns s b [] (o ∷ os) old new e takes = absurd takes
-no_turns s b (n ∷ ns) [] old new e takes = absurd takes
-no_turns s b (n ∷ ns) (o ∷ os) old new e takes = cc
+-- without a turn
+none_had : (s : Server) (b : ℕ) (course : Course) (notes : List Note) (turns : List HadTurn) (box : Box) → box.hand ≡ None
+    → [] ≡ turns_of b notes (outcomes_in turns) → TurnsLeft s course notes turns box.spool box.kept box.turns → IsWorkerDone course notes box
+none_had s b course [] [] box free e takes = record {
+  free_hand = free;
+  none = refl;
+  turns = sym (append-nil box.turns) ∙ takes.all;
+  bytes = takes.bytes;
+  synced = takes.synced;
+}
+none_had s b course [] (told ∷ turns) box free e takes = absurd takes.have
+none_had s b course (n ∷ notes) [] box free e takes = absurd takes.have
+none_had s b course (n ∷ notes) (told ∷ turns) box free e takes = cc
 
-done_by : (s : Server) (b : ℕ) (course : Course) (notes : List Note) (outcomes : List Outcome) (box : Box) (hand : Option Copy) → box.hand ≡ hand
-    → BeginsCopy b [] (turns_of b notes outcomes) hand
-    → TakesAll s notes outcomes (spooled box) (in_the_end course) → IsWorkerDone course notes box
-done_by s b course notes outcomes box None is program takes =
-    let d = no_turns s b notes outcomes (spooled box) (in_the_end course) program takes in
-    record { free_hand = is; none = d.0; ends = d.1 }
-done_by s b course notes outcomes box (Some copy) is program takes = let wrong = program.1 in cc
+done_by : (s : Server) (b : ℕ) (course : Course) (notes : List Note) (turns : List HadTurn) (box : Box) (hand : Option Copy) → box.hand ≡ hand
+    → BeginsCopy b [] (turns_of b notes (outcomes_in turns)) hand
+    → TurnsLeft s course notes turns box.spool box.kept box.turns → IsWorkerDone course notes box
+done_by s b course notes turns box None is program takes = none_had s b course notes turns box is program takes
+done_by s b course notes turns box (Some copy) is program takes = let wrong = program.1 in cc
 
 box_done : (s : Server) (capacity b : ℕ) (course : Course) (box : Box) (stands : BoxStands s capacity b course [] box)
     → IsWorkerDone course stands.work.notes box
-box_done s capacity b course box stands = done_by s b course stands.work.notes stands.work.outcomes box box.hand refl stands.work.program stands.work.takes
+box_done s capacity b course box stands = done_by s b course stands.work.notes stands.work.turns box box.hand refl stands.work.program stands.work.takes
 
 none_left : {A : Type 0} (n : ℕ) (xs : List A) → n ≤ length xs → drop n xs ≡ [] → n ≡ length xs
 none_left n xs le none = let e : length (drop n xs) ≡ 0 = ap length none in omega (arith, length-drop n xs)
@@ -67,9 +75,10 @@ closed s capacity b course box stands =
           (no_posts (drop box.taken box.accepted) (sym (append-nil (notes_of (drop box.taken box.accepted))) ∙ stands.work.queue ∙ d.none));
       closed = refl;
       free_hand = d.free_hand;
-      faulty = sym (ap (λ (x : Spooled). x.faulty) d.ends);
       old = stands.old;
-      spool = sym (ap (λ (x : Spooled). x.bytes) d.ends);
+      turns = d.turns;
+      spool = d.bytes;
+      kept = d.synced;
     }
 
 -- the first n channels are closed

@@ -12,7 +12,7 @@ use Rattle.mail_world.specs.House.{Lane, Box, notes_of}
 use Rattle.mail_world.specs.Depot.{Depot}
 use Rattle.mail_runs.specs.Deeds.{Deed, Gave, Took, Told, Heard, turns_of, given_in, taken_in, told_in, heard_in, given_by, given_to, taken_by, told_to}
 use Rattle.mail_runs.specs.Deeds.{heard_by, is_of_worker, worked_by, of_mailbox, slips_to}
-use Rattle.mail_runs.specs.Courses.{Server, Course}
+use Rattle.mail_runs.specs.Courses.{Server, Course, outcomes_in}
 use Rattle.mail_runs.specs.Histories.{HearsTold}
 use Rattle.mail_runs.specs.Timed.{is_of_lane}
 use Rattle.mail_runs.specs.Ordered.{done_by}
@@ -122,8 +122,8 @@ box_past s capacity b course d rest box past stands =
       flows = flows_on capacity b (length box.accepted - box.taken) (length box.accepted - box.taken) d rest (omega arith) stands.flows;
       work = record {
         notes = stands.work.notes;
-        outcomes = stands.work.outcomes;
-        program = subst (λ l. BeginsCopy b l (turns_of b stands.work.notes stands.work.outcomes) box.hand) (p.worked rest) stands.work.program;
+        turns = stands.work.turns;
+        program = subst (λ l. BeginsCopy b l (turns_of b stands.work.notes (outcomes_in stands.work.turns)) box.hand) (p.worked rest) stands.work.program;
         queue = sym (ap (λ l. notes_of (drop box.taken box.accepted) ++ l) (p.given rest)) ∙ stands.work.queue;
         takes = stands.work.takes;
       };

@@ -135,7 +135,7 @@ given_here s capacity t note key rest box stands =
           stands.flows;
       work = record {
         notes = stands.work.notes;
-        outcomes = stands.work.outcomes;
+        turns = stands.work.turns;
         program = stands.work.program;
         queue = ap (λ l. l ++ given_to b rest) waiting ∙ append_assoc (notes_of (drop box.taken box.accepted)) (note ∷ []) (given_to b rest)
             ∙ ap (λ l. notes_of (drop box.taken box.accepted) ++ l) (sym (given rest)) ∙ stands.work.queue;

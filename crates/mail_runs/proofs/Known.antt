@@ -12,7 +12,7 @@ use Rattle.mail_world.specs.declared.Outcome.{Outcome}
 use Rattle.mail_world.specs.Slips.{slip_of, slips_from}
 use Rattle.mail_world.specs.Lists.{copies}
 use Rattle.mail_runs.specs.Deeds.{Deed, Gave, Took, Told, Heard, given_in, taken_in, told_in, heard_in, of_mailbox, slips_to, is_of_worker, turns_of}
-use Rattle.mail_runs.specs.Courses.{Server, Course, IsCourse}
+use Rattle.mail_runs.specs.Courses.{Server, Course, outcomes_in, IsCourse}
 use Rattle.mail_runs.specs.Histories.{Threads, IsWithin}
 use Rattle.mail_runs.specs.Timed.{TimedDeed, Timed, whats, times, those, is_of_lane, gives_to, takes_from, tells_to, hears_from, accepted_by, taken_of, RisesTo}
 use Rattle.mail_runs.specs.Timed.{AreTimed}
@@ -134,9 +134,9 @@ told_in_turns b [] (outcome ∷ outcomes) = refl
 told_in_turns b (note ∷ notes) [] = refl
 told_in_turns b (note ∷ notes) (outcome ∷ outcomes) = ap (λ l. slip_of b note outcome ∷ l) (told_in_turns b notes outcomes)
 
-turns_take : (s : Server) (b : ℕ) (c : Course) → IsCourse s c → flat_map taken_in (turns_of b c.taken c.outcomes) ≡ c.taken
+turns_take : (s : Server) (b : ℕ) (c : Course) → IsCourse s c → flat_map taken_in (turns_of b c.taken (outcomes_in c.turns)) ≡ c.taken
 turns_take s b c is =
-    taken_in_turns b c.taken c.outcomes (many s c.taken c.outcomes is.first (record { bytes = c.spool; faulty = c.faulty }) is.takes)
+    taken_in_turns b c.taken (outcomes_in c.turns) (many s c.taken c.turns is.0)
 
 -- what passed a channel, as deeds: what they are, their times, and those of one lane or worker
 module _ {A : Type 0} (make : A → Deed) where
@@ -289,7 +289,7 @@ times_many test ds =
 pub heard_many : (slips : List Slip) (ds : List TimedDeed) → flat_map heard_in (whats ds) ≡ slips → length (times (those is_heard ds)) ≡ length slips
 heard_many slips ds is = times_many is_heard ds ∙ heard_deeds (whats ds) ∙ ap length is
 
-pub taken_many : (s : Server) (b : ℕ) (c : Course) (ds : List TimedDeed) → IsCourse s c → whats ds ≡ turns_of b c.taken c.outcomes
+pub taken_many : (s : Server) (b : ℕ) (c : Course) (ds : List TimedDeed) → IsCourse s c → whats ds ≡ turns_of b c.taken (outcomes_in c.turns)
     → length (times (those is_taken ds)) ≡ length c.taken
 taken_many s b c ds is turned =
     times_many is_taken ds ∙ taken_deeds (whats ds) ∙ ap (λ l. length (flat_map taken_in l)) turned ∙ ap length (turns_take s b c is)
@@ -307,7 +307,7 @@ module _ (s : Server) (t : Threads) (x : Known) (h : AreKnown s t x) where
 
   slips_are : (k : ℕ) → k < s.lanes → AllByRecursion (λ slip. slip.txn.lane ≡ k) (t.heard k)
   slips_are k low = from_parts (λ slip. slip.txn.lane ≡ k) (λ slip. slip.worker) s.boxes (t.heard k) (h.came_out.heard_only k low) (λ b box.
-      let all = slips_from b (t.courses b).outcomes (t.courses b).taken in
+      let all = slips_from b (outcomes_in (t.courses b).turns) (t.courses b).taken in
       subst (λ l. AllByRecursion (λ slip. slip.txn.lane ≡ k) l) (sym (h.came_out.heard k b low box))
       (implied (λ slip. (slip.txn.lane == k) ≡ true) (λ slip. slip.txn.lane ≡ k) (slips_to k all) (λ slip e. eqb-true slip.txn.lane k e)
       (each_passes (λ (slip : Slip). slip.txn.lane == k) all)))
@@ -331,7 +331,7 @@ module _ (s : Server) (t : Threads) (x : Known) (h : AreKnown s t x) where
   worker_all : (b : ℕ) → b < s.boxes → AllByRecursion (IsWorkerDeed s b) (whats (x.workers b))
   worker_all b box =
       subst (λ ds. AllByRecursion (IsWorkerDeed s b) ds) (sym (h.workers b box).turned)
-      (worker_deeds s b (t.courses b).taken (t.courses b).outcomes box
+      (worker_deeds s b (t.courses b).taken (outcomes_in (t.courses b).turns) box
       (both_hold (λ note. note.txn.lane < s.lanes) (λ note. note.mailbox ≡ b) (λ note. (note.txn.lane < s.lanes) × (note.mailbox ≡ b)) (t.courses b).taken
       (λ note lane mailbox. (lane, mailbox)) (h.came_out.taken_only b box) (taken_are b box)))
 
@@ -386,7 +386,7 @@ module _ (s : Server) (t : Threads) (x : Known) (h : AreKnown s t x) where
       same_deeds (those (tells_to k) (x.workers b)) (those (is_of_worker b) (accepted_by Told (y.slips k)))
       (sym (whats_those (tells_to k) (x.workers b)) ∙ made_told k (whats (x.workers b))
       ∙ ap (λ l. map Told (slips_to k (flat_map told_in l))) (h.workers b box).turned
-      ∙ ap (λ l. map Told (slips_to k l)) (told_in_turns b (t.courses b).taken (t.courses b).outcomes)
+      ∙ ap (λ l. map Told (slips_to k l)) (told_in_turns b (t.courses b).taken (outcomes_in (t.courses b).turns))
       ∙ sym (sym (whats_those (is_of_worker b) (accepted_by Told (y.slips k)))
       ∙ ap (filter (is_of_worker b)) (accepted_whats Told (t.heard k) m.accepted m.taken (slips_many k low) c.later)
       ∙ part_whats Told (λ slip. slip.worker) (is_of_worker b) b (λ slip. refl) (t.heard k) ∙ ap (map Told) (h.came_out.heard k b low box)))

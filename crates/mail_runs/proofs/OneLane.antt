@@ -15,7 +15,9 @@ use Rattle.mail_world.specs.Slips.{slip_of, slips_from, of_worker}
 use Rattle.mail_world.specs.Lists.{Transaction, copies, copies_if, copies_from, of_lane}
 use Rattle.mail_runs.specs.Deeds.{Deed, Gave, Took, Told, Heard, turns_of, given_in, taken_in, told_in, heard_in, given_by, given_to, taken_by, told_to}
 use Rattle.mail_runs.specs.Deeds.{heard_by, is_of_worker, worked_by, of_mailbox, slips_to}
-use Rattle.mail_runs.specs.Courses.{Server, Spooled, TakesAll}
+use Rattle.mail_world.specs.Turns.{HaveTurns}
+use Rattle.mail_world.specs.Turns.{Told as HadTurn}
+use Rattle.mail_runs.specs.Courses.{Server, outcomes_in}
 use Rattle.mail_runs.specs.Histories.{Threads, RiseAbove, IsWithin, TakesGiven, HearsTold, IsHistory}
 use Rattle.mail_runs.specs.OneLane.{IsOfOneLane}
 use Rattle.mail_runs.proofs.ByTime.{same?, all_both}
@@ -261,11 +263,11 @@ all_fit b [] all = tt
 all_fit b (note ∷ notes) all = fit_if b note notes (note.mailbox == b) refl all.0 (all_fit b notes all.1)
 
 -- as many outcomes as copies
-pub many : (s : Server) (notes : List Note) (outcomes : List Outcome) (old new : Spooled) → TakesAll s notes outcomes old new → length outcomes ≡ length notes
-many s [] [] old new t = refl
-many s [] (outcome ∷ outcomes) old new t = absurd t
-many s (note ∷ notes) [] old new t = absurd t
-many s (note ∷ notes) (outcome ∷ outcomes) old new t = let m = many s notes outcomes t.0 new t.2 in omega arith
+pub many : (s : Server) (notes : List Note) (turns : List HadTurn) → HaveTurns s.calendar s.site s.quota notes turns → length (outcomes_in turns) ≡ length notes
+many s [] [] t = refl
+many s [] (told ∷ turns) t = absurd t
+many s (note ∷ notes) [] t = absurd t
+many s (note ∷ notes) (told ∷ turns) t = let m = many s notes turns t.1 in omega arith
 
 -- copies that are given before other deeds
 abbrev giving : List Note → List Deed
@@ -319,11 +321,10 @@ one_lane s t is =
     let notes : List Note = flat_map (copies 0) (t.transactions 0) in
     let ours : AllByRecursion (NamesLane 0) notes = of_transactions 0 (t.transactions 0) in
     let takes : ℕ → List Note = λ b. (t.courses b).taken in
-    let outcomes : ℕ → List Outcome = λ b. (t.courses b).outcomes in
+    let outcomes : ℕ → List Outcome = λ b. outcomes_in (t.courses b).turns in
     let l : AreLeft s takes outcomes (t.heard 0) = record {
       told = is.told;
-      as_many = λ b below. let c = is.courses b below in
-          many s (t.courses b).taken (t.courses b).outcomes c.first (record { bytes = (t.courses b).spool; faulty = (t.courses b).faulty }) c.takes;
+      as_many = λ b below. many s (t.courses b).taken (t.courses b).turns (is.courses b below).0;
       fits = λ b below. subst (λ ns. AllByRecursion (IsFor b) ns) (sym (is.taken b below)) (all_fit b notes ours);
       workers = is.told_only;
     } in

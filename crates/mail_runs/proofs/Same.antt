@@ -1,7 +1,8 @@
 -- What stays through a run: the setting, and how many lanes and mailboxes there are.
 use Rattle.std.proofs.Common.{◌≡◌, ℕ, List, [], ◌∷◌, length, Option, refl, ap, ◌∙◌}
 use Rattle.mail_world.specs.declared.Event.{Event}
-use Rattle.mail_world.specs.declared.Event.TheVariants.{Begin, Put, Cancel, Seal, Split, Offer, HandBack, Collect, Take, Write, Sync, Release, GiveSlip}
+use Rattle.mail_world.specs.declared.Event.TheVariants.{Begin, Put, Cancel, Seal, Split, Offer, HandBack, Collect, Take, Lock, Miss}
+use Rattle.mail_world.specs.declared.Event.TheVariants.{Write, Sync, Cut, Unlock, Release, GiveSlip}
 use Rattle.mail_world.specs.declared.Event.TheVariants.{Reclaim, Close}
 use Rattle.mail_world.specs.Records.{Calendar}
 use Rattle.std.specs.Prelude.{slice_set}
@@ -44,8 +45,12 @@ frame_step h (Offer k note) new st = ap frame_of st.after ∙ both_set h k _ not
 frame_step h (HandBack k i m) new st = ap frame_of st.after ∙ lane_set h k _
 frame_step h (Collect k) new st = ap frame_of st.after ∙ lane_set h k _
 frame_step h (Take w) new st = ap frame_of st.after ∙ box_set h w _
+frame_step h (Lock w bytes) new st = ap frame_of st.after ∙ box_set h w _
+frame_step h (Miss w) new st = ap frame_of st.after ∙ box_set h w _
 frame_step h (Write w bytes) new st = ap frame_of st.after ∙ box_set h w _
 frame_step h (Sync w) new st = ap frame_of st.after ∙ box_set h w _
+frame_step h (Cut w) new st = ap frame_of st.after ∙ box_set h w _
+frame_step h (Unlock w) new st = ap frame_of st.after ∙ box_set h w _
 frame_step h (Release w) new st = ap frame_of st.after ∙ box_set h w _
 frame_step h (GiveSlip w o) new st = ap frame_of st.after ∙ both_set h st.copy.post.note.txn.lane _ w _
 frame_step h (Reclaim slot generation) new st = ap frame_of st.2

@@ -4,37 +4,40 @@ use Rattle.std.specs.Prelude.{flat_map, slice_get, sum_by}
 use Rattle.std.specs.List.{AllByRecursion}
 use Rattle.mail_world.specs.declared.Note.{Note}
 use Rattle.mail_world.specs.declared.Slip.{Slip}
-use Rattle.mail_world.specs.declared.Outcome.{Outcome}
+use Rattle.mail_world.specs.Turns.{HaveTurns, AllKeep, left_by}
+use Rattle.mail_world.specs.Turns.{Told as HadTurn}
 use Rattle.mail_world.specs.Slips.{slip_of}
 use Rattle.mail_world.specs.Lists.{Transaction, copies, copies_from}
 use Rattle.mail_world.specs.Depot.{Key, Depot, Slot, Held, Free, Draft, Sealed, Retired, blocks_for}
 use Rattle.mail_world.specs.House.{House, Lane, Box, Copy, notes_of}
 use Rattle.mail_world.specs.Events.{LaneIs, BoxIs, outcome_of, sealed_up_to}
 use Rattle.mail_runs.specs.Deeds.{Deed, Gave, Told, given_by, given_to, told_to, heard_by, worked_by, turns_of}
-use Rattle.mail_runs.specs.Courses.{Server, Spooled, Course, TakesAll}
+use Rattle.mail_runs.specs.Courses.{Server, Course, outcomes_in}
+use Rattle.mail_runs.specs.RunOf.{kept_by}
 use Rattle.mail_runs.specs.Histories.{Threads, RiseAbove, IsWithin, TakesGiven, HearsTold}
 use Rattle.mail_runs.specs.Ordered.{done_by, FindsRoom}
 use Rattle.mail_runs.proofs.Manners.{Manner, Owed}
 use Rattle.mail_runs.proofs.Exchanges.{KeepsExchange}
-
--- what a mailbox's spool holds, and whether its worker is faulty
-abbrev pub spooled : Box → Spooled
-spooled box = record { bytes = box.spool; faulty = box.faulty }
-
-abbrev pub in_the_end : Course → Spooled
-in_the_end course = record { bytes = course.spool; faulty = course.faulty }
 
 -- what is left of a worker's deeds: the slip of the copy in hand, and the copies that it has yet to take
 abbrev pub BeginsCopy : ℕ → List Deed → List Deed → Option Copy → Type 0
 BeginsCopy b all turns None = all ≡ turns
 BeginsCopy b all turns (Some copy) = (copy.released ≡ true) × (all ≡ Told (slip_of b copy.post.note (outcome_of copy)) ∷ turns)
 
+-- the turns that are left of a course, where the mailbox holds these bytes, keeps so many and had these turns
+pub record TurnsLeft (s : Server) (course : Course) (notes : List Note) (turns : List HadTurn) (spool : List ℕ) (kept : ℕ) (had : List HadTurn) : Type 0 where
+  pub have : HaveTurns s.calendar s.site s.quota notes turns
+  pub keep : AllKeep turns
+  pub all : had ++ turns ≡ course.turns
+  pub bytes : left_by spool turns ≡ left_by course.old course.turns
+  pub synced : kept_by kept turns ≡ kept_by 0 course.turns
+
 pub record WorkLeft (s : Server) (b : ℕ) (course : Course) (left : List Deed) (box : Box) : Type 0 where
   pub notes : List Note
-  pub outcomes : List Outcome
-  pub program : BeginsCopy b (worked_by b left) (turns_of b notes outcomes) box.hand
+  pub turns : List HadTurn
+  pub program : BeginsCopy b (worked_by b left) (turns_of b notes (outcomes_in turns)) box.hand
   pub queue : notes_of (drop box.taken box.accepted) ++ given_to b left ≡ notes
-  pub takes : TakesAll s notes outcomes (spooled box) (in_the_end course)
+  pub takes : TurnsLeft s course notes turns box.spool box.kept box.turns
 
 -- what is left of the deeds takes what the channel has accepted by then, and gives where it has room, where that many copies wait
 pub record Flows (capacity b waiting : ℕ) (left : List Deed) : Type 0 where

@@ -95,8 +95,8 @@ large_once : (slots blocks : ℕ) → HasEachBlockOnce blocks (large slots block
 large_once slots blocks x = ap (λ bs. occurrences x (numbers_below blocks ++ bs)) (no_blocks slots) ∙ ap (occurrences x) (append-nil (numbers_below blocks))
     ∙ each_once blocks x
 
-abbrev first_box : Course → List ℕ → Bool → Box
-first_box course spool faulty = record { old = course.old; accepted = []; taken = 0; settled = 0; closed = false; spool = spool; hand = None; faulty = faulty }
+abbrev first_box : Course → Box
+first_box course = record { old = course.old; accepted = []; taken = 0; closed = false; spool = course.old; kept = 0; turns = []; hand = None }
 
 abbrev first_lane : Lane
 first_lane = record {
@@ -120,16 +120,22 @@ a_first_box m s t deeds p b low =
     let h : IsHistory s t deeds = p.history in
     let course : Course = t.courses b in
     let c : IsCourse s course = h.courses b low in (
-      first_box course c.first.bytes c.first.faulty,
+      first_box course,
       record {
-        fresh = record { accepted = refl; taken = refl; settled = refl; closed = refl; hand = refl; spool = c.begun };
+        fresh = record { accepted = refl; taken = refl; closed = refl; spool = refl; kept = omega arith; turns = refl; hand = refl };
         stands = record {
           old = refl;
           still_open = refl;
           prefix = omega arith;
           all = h.accepted b low;
           flows = record { taken_later = h.taken_later b low; finds_room = p.finds_room b low };
-          work = record { notes = course.taken; outcomes = course.outcomes; program = h.workers b low; queue = h.accepted b low; takes = c.takes };
+          work = record {
+            notes = course.taken;
+            turns = course.turns;
+            program = h.workers b low;
+            queue = h.accepted b low;
+            takes = record { have = c.0; keep = c.1; all = refl; bytes = refl; synced = refl };
+          };
         };
       },
     )

@@ -1,8 +1,9 @@
 -- A run that has come to a house, and its next step.
 use Rattle.std.proofs.Common.{◌≡◌, ℕ, List, [], ◌∷◌, ◌++◌, false, Some, refl, sym, subst}
+use Rattle.mail_world.specs.declared.Outcome.{Outcome}
 use Rattle.mail_world.specs.declared.Event.{Event}
 use Rattle.mail_world.specs.declared.Event.TheVariants.{Release}
-use Rattle.mail_world.specs.House.{House, Box, Copy, IsStart}
+use Rattle.mail_world.specs.House.{House, Box, Copy, Done, IsStart}
 use Rattle.mail_world.specs.Events.{Step, MayHappen, BoxIs}
 use Rattle.mail_world.specs.Runs.{Happened, Run, last_house}
 use Rattle.mail_world.proofs.MayHappen.{release_happens}
@@ -57,8 +58,8 @@ finds_room {m} h story o =
     subst (SlipsFindRoom m.room) story.last (slips_find_room m.room story.blocks story.start story.run story.starts story.runs (story.orderly o))
 
 -- what a worker may do in a house to which a run has come
-pub may_release : {m : Manner} (h : House) → Story m h → (w : ℕ) (box : Box) (copy : Copy) → BoxIs h w box → box.hand ≡ Some copy → copy.released ≡ false
-    → MayHappen h (Release w)
-may_release h story w box copy =
-    subst (λ g. BoxIs g w box → box.hand ≡ Some copy → copy.released ≡ false → MayHappen g (Release w)) story.last
-    (release_happens story.blocks story.start story.run story.starts story.runs w box copy)
+pub may_release : {m : Manner} (h : House) → Story m h → (w : ℕ) (box : Box) (copy : Copy) (outcome : Outcome) → BoxIs h w box → box.hand ≡ Some copy
+    → copy.progress ≡ Done outcome → copy.released ≡ false → MayHappen h (Release w)
+may_release h story w box copy outcome =
+    subst (λ g. BoxIs g w box → box.hand ≡ Some copy → copy.progress ≡ Done outcome → copy.released ≡ false → MayHappen g (Release w)) story.last
+    (release_happens story.blocks story.start story.run story.starts story.runs w box copy outcome)

@@ -13,7 +13,7 @@ use Rattle.mail_world.specs.Events.{Step, LaneIs, BoxIs, outcome_of}
 use Rattle.mail_progress.specs.Orderly.{IsInOrder, OfLane, uncollected}
 use Rattle.mail_progress.specs.OrderlyRuns.{SlipsFindRoom}
 use Rattle.mail_runs.specs.Deeds.{Deed, Told, told_to, worked_by, turns_of, told_in, is_of_worker}
-use Rattle.mail_runs.specs.Courses.{Server, Course}
+use Rattle.mail_runs.specs.Courses.{Server, Course, outcomes_in}
 use Rattle.mail_runs.specs.Histories.{Threads}
 use Rattle.mail_runs.proofs.Manners.{Manner}
 use Rattle.mail_runs.proofs.Parts.{passes, same_number}
@@ -47,13 +47,13 @@ telling b slip left notes outcomes (Some copy) begins =
 
 of_box : (s : Server) (capacity : ℕ) (course : Course) (slip : Slip) (rest : List Deed) (box : Box)
     (stands : BoxStands s capacity slip.worker course (Told slip ∷ rest) box)
-    → Telling slip.worker slip (worked_by slip.worker rest) (turns_of slip.worker stands.work.notes stands.work.outcomes) box.hand
+    → Telling slip.worker slip (worked_by slip.worker rest) (turns_of slip.worker stands.work.notes (outcomes_in stands.work.turns)) box.hand
 of_box s capacity course slip rest box stands =
     let b : ℕ = slip.worker in
     let w = stands.work in
     let its : worked_by b (Told slip ∷ rest) ≡ Told slip ∷ worked_by b rest = passes (is_of_worker b) (Told slip) rest (same_number b b refl) in
-    let begins = subst (λ l. BeginsCopy b l (turns_of b w.notes w.outcomes) box.hand) its w.program in
-    telling b slip (worked_by b rest) w.notes w.outcomes box.hand begins
+    let begins = subst (λ l. BeginsCopy b l (turns_of b w.notes (outcomes_in w.turns)) box.hand) its w.program in
+    telling b slip (worked_by b rest) w.notes (outcomes_in w.turns) box.hand begins
 
 -- its hand is free then
 abbrev freed : Box → Box
@@ -71,7 +71,7 @@ box_after s capacity course slip rest box stands =
       flows = flows_on capacity slip.worker (length box.accepted - box.taken) (length box.accepted - box.taken) (Told slip) rest refl stands.flows;
       work = record {
         notes = stands.work.notes;
-        outcomes = stands.work.outcomes;
+        turns = stands.work.turns;
         program = (of_box s capacity course slip rest box stands).turns_left;
         queue = stands.work.queue;
         takes = stands.work.takes;

@@ -10,7 +10,7 @@ use Rattle.mail_world.specs.declared.Slip.{Slip}
 use Rattle.mail_world.specs.declared.Outcome.{Outcome}
 use Rattle.mail_runs.specs.Deeds.{Deed, Gave, Took, Told, Heard, given_in, taken_in, told_in, heard_in, given_by, given_to, taken_by, told_to, heard_by}
 use Rattle.mail_runs.specs.Deeds.{is_of_worker, turns_of}
-use Rattle.mail_runs.specs.Courses.{Server}
+use Rattle.mail_runs.specs.Courses.{Server, outcomes_in}
 use Rattle.mail_runs.specs.Histories.{Threads, IsWithin, TakesGiven, HearsTold, IsHistory}
 use Rattle.mail_runs.specs.Timed.{TimedDeed, Passed, Timed, whats, those, is_of_lane, gives_to, takes_from, tells_to, hears_from, accepted_by, taken_of}
 use Rattle.mail_runs.specs.Timed.{AreTimed}
@@ -384,11 +384,10 @@ module _ (s : Server) (t : Threads) (x : Timed) (h : AreTimed s t x) where
   -- what passed a channel is what was taken of it
   copies_are : (b : ℕ) → b < s.boxes → map (λ p. p.what) (x.copies b) ≡ (t.courses b).taken
   copies_are b low =
-      let c = h.courses b low in
       sym (notes_taken (x.copies b)) ∙ ap (λ l. flat_map taken_in (whats l)) (sym (h.agree.took b low)) ∙ sym ((takings b).are (x.workers b))
       ∙ own_takings b (x.workers b) ∙ ap (λ l. flat_map taken_in (whats l)) (h.of_workers b low) ∙ ap (flat_map taken_in) (h.workers b low)
-      ∙ taken_in_turns b (t.courses b).taken (t.courses b).outcomes
-      (many s (t.courses b).taken (t.courses b).outcomes c.first (record { bytes = (t.courses b).spool; faulty = (t.courses b).faulty }) c.takes)
+      ∙ taken_in_turns b (t.courses b).taken (outcomes_in (t.courses b).turns)
+      (many s (t.courses b).taken (t.courses b).turns (h.courses b low).0)
 
   slips_are : (k : ℕ) → k < s.lanes → map (λ p. p.what) (x.slips k) ≡ t.heard k
   slips_are k low =

@@ -5,7 +5,7 @@ use Rattle.mail_world.specs.declared.Slip.{Slip}
 use Rattle.mail_world.specs.Lists.{Transaction, copies}
 use Rattle.mail_runs.specs.Deeds.{Deed, Gave, Took, Told, Heard, given_by, given_to, taken_by, told_to, heard_by}
 use Rattle.mail_runs.specs.Deeds.{worked_by, turns_of}
-use Rattle.mail_runs.specs.Courses.{Server, Course, IsCourse}
+use Rattle.mail_runs.specs.Courses.{Server, Course, outcomes_in, IsCourse}
 
 -- what the threads came to: the transactions of each lane, the slips that it heard, and each mailbox
 pub record Threads : Type 0 where
@@ -42,7 +42,8 @@ pub record IsHistory (s : Server) (t : Threads) (deeds : List Deed) : Type 0 whe
   pub within : AllByRecursion (IsWithin s) deeds
   pub lanes : (k : ℕ) → k < s.lanes → given_by k deeds ≡ flat_map (copies k) (t.transactions k)
   pub rise : (k : ℕ) → k < s.lanes → RiseAbove 0 (t.transactions k)
-  pub workers : (b : ℕ) → b < s.boxes → worked_by b deeds ≡ turns_of b (t.courses b).taken (t.courses b).outcomes
+  pub workers : (b : ℕ) → b < s.boxes
+      → worked_by b deeds ≡ turns_of b (t.courses b).taken (outcomes_in (t.courses b).turns)
   pub courses : (b : ℕ) → b < s.boxes → IsCourse s (t.courses b)
   pub accepted : (b : ℕ) → b < s.boxes → given_to b deeds ≡ (t.courses b).taken
   pub told : (k : ℕ) → k < s.lanes → told_to k deeds ≡ t.heard k

@@ -6,7 +6,7 @@ use Rattle.mail_world.specs.declared.Slip.{Slip}
 use Rattle.mail_world.specs.Slips.{of_worker, slips_from}
 use Rattle.mail_world.specs.Lists.{copies, of_lane, copies_owed}
 use Rattle.mail_runs.specs.Deeds.{Deed, Gave, Took, Told, Heard, given_in, heard_in, slips_to, turns_of}
-use Rattle.mail_runs.specs.Courses.{Server, IsCourse}
+use Rattle.mail_runs.specs.Courses.{Server, outcomes_in, IsCourse}
 use Rattle.mail_runs.specs.Histories.{Threads, RiseAbove}
 use Rattle.mail_runs.specs.Timed.{TimedDeed, Passed, Timed, whats, times, those, gives_to, tells_to, RisesTo, AreTimed}
 
@@ -21,7 +21,7 @@ pub record ComeOut (s : Server) (t : Threads) : Type 0 where
       → of_lane k (t.courses b).taken ≡ copies_owed k b (t.transactions k)
   pub taken_only : (b : ℕ) → b < s.boxes → AllByRecursion (λ note. note.txn.lane < s.lanes) (t.courses b).taken
   pub heard : (k b : ℕ) → k < s.lanes → b < s.boxes
-      → of_worker b (t.heard k) ≡ slips_to k (slips_from b (t.courses b).outcomes (t.courses b).taken)
+      → of_worker b (t.heard k) ≡ slips_to k (slips_from b (outcomes_in (t.courses b).turns) (t.courses b).taken)
   pub heard_only : (k : ℕ) → k < s.lanes → AllByRecursion (λ slip. slip.worker < s.boxes) (t.heard k)
 
 -- when what passed a channel was accepted, and when it was taken
@@ -95,7 +95,7 @@ pub record AreKnown (s : Server) (t : Threads) (x : Known) : Type 0 where
   pub came_out : ComeOut s t
   pub lanes : (k : ℕ) → k < s.lanes → AreLaneDeeds (flat_map (copies k) (t.transactions k)) (t.heard k) (x.lanes k)
   pub workers : (b : ℕ) → b < s.boxes
-      → AreWorkerDeeds (turns_of b (t.courses b).taken (t.courses b).outcomes) (x.workers b)
+      → AreWorkerDeeds (turns_of b (t.courses b).taken (outcomes_in (t.courses b).turns)) (x.workers b)
   pub copies : (b : ℕ) → b < s.boxes → HavePassed (x.copies b)
   pub slips : (k : ℕ) → k < s.lanes → HavePassed (x.slips k)
   pub gave : (k b : ℕ) → k < s.lanes → b < s.boxes

@@ -5,7 +5,7 @@ use Rattle.mail_world.specs.declared.Note.{Note}
 use Rattle.mail_world.specs.declared.Slip.{Slip}
 use Rattle.mail_world.specs.Lists.{copies}
 use Rattle.mail_runs.specs.Deeds.{Deed, Gave, Took, Told, Heard, given_in, heard_in, is_of_worker, turns_of}
-use Rattle.mail_runs.specs.Courses.{Server, IsCourse}
+use Rattle.mail_runs.specs.Courses.{Server, outcomes_in, IsCourse}
 use Rattle.mail_runs.specs.Histories.{Threads, RiseAbove, IsWithin, IsHistory}
 
 -- a deed, and when it was done: what a thread gives to a channel is given when the channel accepts it
@@ -100,7 +100,8 @@ pub record AreTimed (s : Server) (t : Threads) (x : Timed) : Type 0 where
   pub lanes : (k : ℕ) → k < s.lanes → flat_map given_in (whats (x.lanes k)) ≡ flat_map (copies k) (t.transactions k)
   pub rise : (k : ℕ) → k < s.lanes → RiseAbove 0 (t.transactions k)
   pub heard : (k : ℕ) → k < s.lanes → flat_map heard_in (whats (x.lanes k)) ≡ t.heard k
-  pub workers : (b : ℕ) → b < s.boxes → whats (x.workers b) ≡ turns_of b (t.courses b).taken (t.courses b).outcomes
+  pub workers : (b : ℕ) → b < s.boxes
+      → whats (x.workers b) ≡ turns_of b (t.courses b).taken (outcomes_in (t.courses b).turns)
   pub courses : (b : ℕ) → b < s.boxes → IsCourse s (t.courses b)
 
 -- then there is an order

@@ -8,12 +8,12 @@ use Rattle.mail_world.specs.declared.Slip.{Slip}
 use Rattle.mail_world.specs.Slips.{names, times_named, gather_for, txn_of, own_slip, slip_of}
 use Rattle.mail_world.specs.House.{Post, Copy, Box, Lane, House, IsFreshBox, IsFreshLane, IsStart}
 use Rattle.mail_world.specs.declared.Event.{Event}
-use Rattle.mail_world.specs.declared.Event.TheVariants.{Begin, Put, Cancel, Seal, Split, Offer, HandBack, Collect, Take, Write, Sync, Release, GiveSlip}
+use Rattle.mail_world.specs.declared.Event.TheVariants.{Begin, Put, Cancel, Seal, Split, Offer, HandBack, Collect, Take, Write, Sync, Lock, Miss, Cut, Unlock, Release, GiveSlip}
 use Rattle.mail_world.specs.declared.Event.TheVariants.{Reclaim, Close}
 use Rattle.mail_world.specs.Events.{Step, LaneIs, BoxIs, without_copy, sealed_up_to, with_heard, outcome_of}
-use Rattle.mail_world.specs.Runs.{Happened, Run, last_house, finished_by, HearsOnce}
+use Rattle.mail_world.specs.Runs.{HaveTheirTurns, Happened, Run, last_house, finished_by, HearsOnce}
 use Rattle.mail_world.proofs.Accepted.{get_set, each_at}
-use Rattle.mail_world.proofs.Spools.{AllSound, sound_step, sound_fresh, held}
+use Rattle.mail_world.proofs.Spools.{sound_step, sound_fresh, held}
 use Rattle.mail_world.proofs.Depots.{total_set}
 use Rattle.mail_world.proofs.Holds.{drop_get}
 use Rattle.mail_world.proofs.Once.{is_copy, every_run_is_once}
@@ -130,7 +130,7 @@ way_gave txn p bs w box copy before was in_hand last at =
     ap (count_by (is_of txn p)) list ∙ count-cons (is_of txn p) copy.post (drop box.taken box.accepted) in
     omega (arith, way_set txn p bs w box (record box { hand = None }) was)
 
-bounded_step : (h : House) (e : Event) (new : House) → AllSound h → AllBounded h → Step h e new → AllBounded new
+bounded_step : (h : House) (e : Event) (new : House) → HaveTheirTurns h → AllBounded h → Step h e new → AllBounded new
 bounded_step h (Begin k) new sound all st =
     lane_alone h new k st.lane _ (ap (λ (x : House). x.boxes) st.after) (ap (λ (x : House). x.lanes) st.after) st.is (λ txn p b. b) all
 bounded_step h (Put k bytes) new sound all st = no_lane h new (ap (λ (x : House). x.lanes) st.after) (λ txn p. rw (st.after) (omega arith)) all
@@ -179,11 +179,23 @@ bounded_step h (Write w bytes) new sound all st =
 bounded_step h (Sync w) new sound all st =
     box_alone h new w st.box _ (ap (λ (x : House). x.boxes) st.after) (ap (λ (x : House). x.lanes) st.after) st.is
     (ap (λ hand. drop (finished_by st.box.taken hand) st.box.accepted) (sym st.in_hand)) all
+bounded_step h (Lock w bytes) new sound all st =
+    box_alone h new w st.box _ (ap (λ (x : House). x.boxes) st.after) (ap (λ (x : House). x.lanes) st.after) st.is
+    (ap (λ hand. drop (finished_by st.box.taken hand) st.box.accepted) (sym st.in_hand)) all
+bounded_step h (Miss w) new sound all st =
+    box_alone h new w st.box _ (ap (λ (x : House). x.boxes) st.after) (ap (λ (x : House). x.lanes) st.after) st.is
+    (ap (λ hand. drop (finished_by st.box.taken hand) st.box.accepted) (sym st.in_hand)) all
+bounded_step h (Cut w) new sound all st =
+    box_alone h new w st.box _ (ap (λ (x : House). x.boxes) st.after) (ap (λ (x : House). x.lanes) st.after) st.is
+    (ap (λ hand. drop (finished_by st.box.taken hand) st.box.accepted) (sym st.in_hand)) all
+bounded_step h (Unlock w) new sound all st =
+    box_alone h new w st.box _ (ap (λ (x : House). x.boxes) st.after) (ap (λ (x : House). x.lanes) st.after) st.is
+    (ap (λ hand. drop (finished_by st.box.taken hand) st.box.accepted) (sym st.in_hand)) all
 bounded_step h (Release w) new sound all st =
     box_alone h new w st.box _ (ap (λ (x : House). x.boxes) st.after) (ap (λ (x : House). x.lanes) st.after) st.is
     (ap (λ hand. drop (finished_by st.box.taken hand) st.box.accepted) (sym st.in_hand)) all
 bounded_step h (GiveSlip w o) new sound all st =
-    let hand = held h.calendar h.site h.quota st.box st.copy st.in_hand (sound w st.box st.is) in
+    let hand = held h st.box st.copy st.in_hand (sound w st.box st.is) in
     let next : Lane = record st.lane { slips = st.lane.slips ++ slip_of w st.copy.post.note (outcome_of st.copy) ∷ [] } in
     let boxes : new.boxes ≡ slice_set h.boxes w (record st.box { hand = None }) = ap (λ (x : House). x.boxes) st.after in
     let way : (txn : Txn) (p : ℕ) → times_on_way txn p h.boxes ≡ times_on_way txn p new.boxes + cond (is_of txn p st.copy.post) 1 0 =
@@ -194,7 +206,7 @@ bounded_step h (GiveSlip w o) new sound all st =
 bounded_step h (Reclaim slot generation) new sound all st = no_lane h new (ap (λ (x : House). x.lanes) st.2) (λ txn p. rw (st.2) (omega arith)) all
 bounded_step h (Close m) new sound all st = box_alone h new m st.0 _ (ap (λ (x : House). x.boxes) st.3) (ap (λ (x : House). x.lanes) st.3) st.1 refl all
 
-bounded_run : (h : House) (run : List Happened) → AllSound h → AllBounded h → Run h run → AllBounded (last_house h run)
+bounded_run : (h : House) (run : List Happened) → HaveTheirTurns h → AllBounded h → Run h run → AllBounded (last_house h run)
 bounded_run h [] sound all r = all
 bounded_run h (x ∷ xs) sound all r = bounded_run x.house xs (sound_step h x.event x.house sound r.0) (bounded_step h x.event x.house sound all r.0) r.1
 
@@ -215,7 +227,7 @@ once_by false a b way old le h = omega arith
 
 pub every_run_hears_once : (blocks : ℕ) (start : House) (run : List Happened) → IsStart blocks start → Run start run → HearsOnce (last_house start run)
 every_run_hears_once blocks start run is r k lane at txn p =
-    let all = bounded_run start run (λ b box here. sound_fresh start.calendar start.site start.quota box (each_at IsFreshBox start.boxes b box is.boxes here))
+    let all = bounded_run start run (λ b box here. sound_fresh start box (each_at IsFreshBox start.boxes b box is.boxes here))
     (bounded_start blocks start is) r in
     once_by (k == txn.lane) (times_named txn p lane.heard) (times_named txn p (drop lane.collected lane.slips)) _ _
     (given_once k (last_house start run) lane at (every_run_is_once blocks start run is r) txn.number p) (all k lane at txn p)

@@ -13,7 +13,7 @@ use Rattle.mail_world.specs.Slips.{names, times_named, gather_for, txn_of, own_s
 use Rattle.mail_world.specs.Depot.{Key}
 use Rattle.mail_world.specs.House.{Post, Box, SealedMessage, Lane, House, IsFreshBox, IsFreshLane, IsStart}
 use Rattle.mail_world.specs.declared.Event.{Event}
-use Rattle.mail_world.specs.declared.Event.TheVariants.{Begin, Put, Cancel, Seal, Split, Offer, HandBack, Collect, Take, Write, Sync, Release, GiveSlip}
+use Rattle.mail_world.specs.declared.Event.TheVariants.{Begin, Put, Cancel, Seal, Split, Offer, HandBack, Collect, Take, Write, Sync, Lock, Miss, Cut, Unlock, Release, GiveSlip}
 use Rattle.mail_world.specs.declared.Event.TheVariants.{Reclaim, Close}
 use Rattle.mail_world.specs.Events.{Step, LaneIs, BoxIs, without_copy, sealed_up_to, with_heard, outcome_of}
 use Rattle.mail_world.specs.Runs.{Happened, Run, last_house, events_of, times_copied, is_collect, handed_back_by, handed_back, IsOfMessage, IsHandedBack}
@@ -296,6 +296,18 @@ so_far_step events h (Write w bytes) new all st =
     (λ v. (refl, refl)) all
 so_far_step events h (Sync w) new all st =
     no_lane events (Sync w) h new (ap (λ (x : House). x.lanes) st.after) (one_box h new w st.box _ (ap (λ (x : House). x.boxes) st.after) st.is refl)
+    (λ v. (refl, refl)) all
+so_far_step events h (Lock w bytes) new all st =
+    no_lane events (Lock w bytes) h new (ap (λ (x : House). x.lanes) st.after) (one_box h new w st.box _ (ap (λ (x : House). x.boxes) st.after) st.is refl)
+    (λ v. (refl, refl)) all
+so_far_step events h (Miss w) new all st =
+    no_lane events (Miss w) h new (ap (λ (x : House). x.lanes) st.after) (one_box h new w st.box _ (ap (λ (x : House). x.boxes) st.after) st.is refl)
+    (λ v. (refl, refl)) all
+so_far_step events h (Cut w) new all st =
+    no_lane events (Cut w) h new (ap (λ (x : House). x.lanes) st.after) (one_box h new w st.box _ (ap (λ (x : House). x.boxes) st.after) st.is refl)
+    (λ v. (refl, refl)) all
+so_far_step events h (Unlock w) new all st =
+    no_lane events (Unlock w) h new (ap (λ (x : House). x.lanes) st.after) (one_box h new w st.box _ (ap (λ (x : House). x.boxes) st.after) st.is refl)
     (λ v. (refl, refl)) all
 so_far_step events h (Release w) new all st =
     no_lane events (Release w) h new (ap (λ (x : House). x.lanes) st.after) (one_box h new w st.box _ (ap (λ (x : House). x.boxes) st.after) st.is refl)

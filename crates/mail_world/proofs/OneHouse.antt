@@ -1,5 +1,5 @@
 -- The house of the computed runs: one lane, one mailbox and two blocks, up to its first message.
-use Rattle.std.proofs.Common.{◌≡◌, ℕ, zero, suc, List, [], ◌∷◌, false, Option, Some, None, inl, refl, arith, ◌≤◌, lit<}
+use Rattle.std.proofs.Common.{◌≡◌, ℕ, zero, suc, List, [], ◌∷◌, false, Option, Some, None, refl, arith, ◌≤◌, lit<, lit≤}
 use Rattle.std.specs.Prelude.{codes, nat_lt, if◌then◌else◌}
 use Rattle.std.specs.List.{AllByRecursion}
 use Rattle.std.proofs.lemmas.Bool.Decides.{nat_tests}
@@ -7,7 +7,7 @@ use Rattle.mail_world.specs.declared.Event.{Event}
 use Rattle.mail_world.specs.declared.Event.TheVariants.{Begin, Put, Seal}
 use Rattle.mail_world.specs.declared.Note.{Note}
 use Rattle.mail_world.specs.Depot.{Key, Slot, Free, Draft, Sealed, with_held, occurrences, IsSplitInto, HasEachBlockOnce}
-use Rattle.mail_world.specs.House.{Post, Copy, Box, Lane, House, with_depot, with_lane, IsFreshSlot, IsStart}
+use Rattle.mail_world.specs.House.{Post, Taken, Copy, Box, Lane, House, with_depot, with_lane, IsFreshSlot, IsStart}
 use Rattle.mail_world.specs.Slips.{gather_for}
 use Rattle.mail_world.specs.Events.{Step}
 use Rattle.mail_world.specs.Runs.{Happened}
@@ -36,7 +36,7 @@ only_copy number message = record {
 
 -- a copy of which nothing is written
 abbrev pub just_taken : Post → Copy
-just_taken post = record { post = post; written = 0; synced = false; over = false; released = false }
+just_taken post = record { post = post; progress = Taken; released = false }
 
 abbrev pub lane₀ : Lane
 lane₀ = record {
@@ -51,7 +51,7 @@ lane₀ = record {
 }
 
 abbrev pub box₀ : Box
-box₀ = record { old = []; accepted = []; taken = 0; settled = 0; closed = false; spool = []; hand = None; faulty = false }
+box₀ = record { old = []; accepted = []; taken = 0; closed = false; spool = []; kept = 0; turns = []; hand = None }
 
 abbrev pub free_slot : Slot
 free_slot = record { generation = 0; held = Free }
@@ -109,7 +109,7 @@ each_once (suc (suc x)) = each_past (suc (suc x)) (omega arith)
 pub starts : (capacity : ℕ) (quota : Option ℕ) (slots : List Slot) → AllByRecursion IsFreshSlot slots → HasEachBlockOnce 2 (house₀ capacity quota slots).depot
     → IsStart 2 (house₀ capacity quota slots)
 starts capacity quota slots fresh once = record {
-  boxes = (record { accepted = refl; taken = refl; settled = refl; closed = refl; hand = refl; spool = inl (refl, refl) }, tt);
+  boxes = (record { accepted = refl; taken = refl; closed = refl; spool = refl; kept = lit≤ tt; turns = refl; hand = refl }, tt);
   lanes = (record { number = refl; draft = refl; messages = refl; holds = refl; places = refl; slips = refl; collected = refl; heard = refl }, tt);
   slots = fresh;
   free = once;

@@ -7,6 +7,7 @@ use Rattle.std.proofs.lemmas.List.{length-append}
 use Rattle.mail_world.specs.declared.Note.{Note}
 use Rattle.mail_world.specs.Records.{Calendar, record_of, mailbox}
 use Rattle.mail_world.specs.Endings.{mended}
+use Rattle.mail_world.proofs.MendedRecords.{mailbox_mended}
 use Rattle.mail_world.specs.Quotas.{fits, are_kept_after, are_kept, marked, kept}
 use Rattle.mail_world.specs.Site.{Site}
 
@@ -65,8 +66,13 @@ module _ (calendar : Calendar) (site : Site) where
       let rest = within_after quota after notes (within_by t quota len (size note) refl h) in
       subst (λ n. n ≤ quota) (grows_by t len note notes (are_kept_after calendar site (Some quota) after notes)) rest
 
-  long : (old : List ℕ) (notes : List Note) → length (old ++ mended old) + total notes ≡ length (mailbox calendar site old notes)
-  long old notes = sym (length-append (old ++ mended old) (flat_map (record_of calendar site) notes))
+  -- a mailbox with what mends it
+  abbrev closed : List ℕ → List Note → List ℕ
+  closed old notes = mailbox calendar site old notes ++ mended (mailbox calendar site old notes)
+
+  long : (old : List ℕ) (notes : List Note) → length (old ++ mended old) + total notes ≡ length (closed old notes)
+  long old notes =
+      sym (ap length (mailbox_mended calendar site old notes) ∙ length-append (old ++ mended old) (flat_map (record_of calendar site) notes))
 
   pub all_kept : (old : List ℕ) (notes : List Note) → kept calendar site None old notes ≡ notes
   unfolding are_kept
@@ -75,7 +81,7 @@ module _ (calendar : Calendar) (site : Site) where
   pub kept_next : (quota : Option ℕ) (old : List ℕ) (notes : List Note) (note : Note)
       → are_kept calendar site quota old (notes ++ note ∷ [])
       ≡ are_kept calendar site quota old notes
-      ++ fits quota (length (mailbox calendar site old (kept calendar site quota old notes))) (length (record_of calendar site note)) ∷ []
+      ++ fits quota (length (closed old (kept calendar site quota old notes))) (length (record_of calendar site note)) ∷ []
   unfolding are_kept
   kept_next quota old notes note =
       next_after quota (length (old ++ mended old)) notes note
@@ -85,4 +91,7 @@ module _ (calendar : Calendar) (site : Site) where
       → length (mailbox calendar site old (kept calendar site (Some quota) old notes)) ≤ quota
   unfolding are_kept
   kept_within quota old notes h =
-      subst (λ n. n ≤ quota) (long old (kept calendar site (Some quota) old notes)) (within_after quota (length (old ++ mended old)) notes h)
+      let held : List ℕ = mailbox calendar site old (kept calendar site (Some quota) old notes) in
+      let all : length (closed old (kept calendar site (Some quota) old notes)) ≤ quota =
+      subst (λ n. n ≤ quota) (long old (kept calendar site (Some quota) old notes)) (within_after quota (length (old ++ mended old)) notes h) in
+      omega (arith, length-append held (mended held))

@@ -1,6 +1,7 @@
 -- Turns at a mailbox that other programs read and empty too: between two copies it belongs to whoever takes its locks,
 -- and what a worker does with one copy is a turn, from a lock to an unlock.
-use Rattle.std.specs.Prelude.{◌≡◌, ℕ, Bool, true, false, List, [], ◌∷◌, ◌++◌, length, Option, ⊤}
+use Rattle.std.specs.Prelude.{◌≡◌, ◌≢◌, ℕ, ◌≤◌, Bool, true, false, List, [], ◌∷◌, ◌++◌, length, Option, ⊤}
+use Rattle.std.specs.List.{AllByRecursion}
 use Rattle.mail_world.specs.declared.Note.{Note}
 use Rattle.mail_world.specs.declared.Outcome.{Outcome}
 use Rattle.mail_world.specs.declared.Outcome.TheVariants.{Stored, Failed, OverQuota}
@@ -64,12 +65,54 @@ IsTurn calendar site quota note OverQuota (Had lock unlock) = IsFullTurn calenda
 IsTurn calendar site quota note Failed (Had lock unlock) = IsBrokenTurn calendar site quota note lock unlock
 IsTurn calendar site quota note _ _ = ⊥
 
+-- a turn, and what is told of its copy
+pub record Told : Type 0 where
+  pub outcome : Outcome
+  pub turn : Turn
+
 -- each of these copies has its turn, in their order
-abbrev pub HaveTurns : Calendar → Site → Option ℕ → List Note → List Outcome → List Turn → Type 0
-HaveTurns calendar site quota [] [] [] = ⊤
-HaveTurns calendar site quota (note ∷ notes) (outcome ∷ outcomes) (turn ∷ turns) =
-    IsTurn calendar site quota note outcome turn × HaveTurns calendar site quota notes outcomes turns
-HaveTurns calendar site quota _ _ _ = ⊥
+abbrev pub HaveTurns : Calendar → Site → Option ℕ → List Note → List Told → Type 0
+HaveTurns calendar site quota [] [] = ⊤
+HaveTurns calendar site quota (note ∷ notes) (told ∷ turns) =
+    IsTurn calendar site quota note told.outcome told.turn × HaveTurns calendar site quota notes turns
+HaveTurns calendar site quota _ _ = ⊥
+
+-- how much is kept at the end of a turn: where it broke no less than at its lock, and no more than stands there; a copy
+-- that is over the quota changes nothing (what a turn keeps that stored is said above)
+abbrev pub KeepsAtEnd : Outcome → Standing → Standing → Type 0
+KeepsAtEnd Failed lock unlock = (lock.synced ≤ unlock.synced) × (unlock.synced ≤ length unlock.bytes)
+KeepsAtEnd OverQuota lock unlock = unlock.synced ≡ lock.synced
+KeepsAtEnd _ lock unlock = ⊤
+
+-- and at its lock no more than stands there
+abbrev pub KeepsInTurn : Outcome → Turn → Type 0
+KeepsInTurn outcome NotHad = ⊤
+KeepsInTurn outcome (Had lock unlock) = (lock.synced ≤ length lock.bytes) × KeepsAtEnd outcome lock unlock
+
+abbrev pub AllKeep : List Told → Type 0
+AllKeep turns = AllByRecursion (λ told. KeepsInTurn told.outcome told.turn) turns
+
+-- what stands after a turn, and after these turns, where these bytes stood before
+abbrev pub left_after : List ℕ → Turn → List ℕ
+left_after bytes NotHad = bytes
+left_after bytes (Had lock unlock) = unlock.bytes
+
+abbrev pub left_by : List ℕ → List Told → List ℕ
+left_by bytes [] = bytes
+left_by bytes (told ∷ turns) = left_by (left_after bytes told.turn) turns
+
+-- nobody else changed these bytes before the turn, and between these turns
+abbrev pub BeginsAt : List ℕ → Turn → Type 0
+BeginsAt bytes NotHad = ⊤
+BeginsAt bytes (Had lock unlock) = lock.bytes ≡ bytes
+
+abbrev pub AreAlone : List ℕ → List Told → Type 0
+AreAlone bytes [] = ⊤
+AreAlone bytes (told ∷ turns) = BeginsAt bytes told.turn × AreAlone (left_after bytes told.turn) turns
+
+-- none of them was missed, and none broke
+abbrev pub NoneFailed : List Told → Type 0
+NoneFailed turns = AllByRecursion (λ told. told.outcome ≢ Failed) turns
 
 -- whether the last turn that was had broke, by one more turn and what is told of its copy
 abbrev pub breaks_last : Bool → Outcome → Turn → Bool
@@ -78,6 +121,6 @@ breaks_last broke Failed (Had lock unlock) = true
 breaks_last broke _ (Had lock unlock) = false
 
 -- and by these turns, one after the other
-abbrev pub last_broke : Bool → List Outcome → List Turn → Bool
-last_broke broke (outcome ∷ outcomes) (turn ∷ turns) = last_broke (breaks_last broke outcome turn) outcomes turns
-last_broke broke _ _ = broke
+abbrev pub last_broke : Bool → List Told → Bool
+last_broke broke [] = broke
+last_broke broke (told ∷ turns) = last_broke (breaks_last broke told.outcome told.turn) turns

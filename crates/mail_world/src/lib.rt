@@ -86,10 +86,18 @@ pub enum Event {
     Collect(u32),
     /// The worker takes the next copy from its channel.
     Take(u32),
-    /// The worker's spool takes bytes.
+    /// The turn of the worker's copy begins: the mailbox holds these bytes.
+    Lock(u32, LinkedList<u8>),
+    /// The worker's copy misses its turn.
+    Miss(u32),
+    /// The mailbox takes bytes.
     Write(u32, LinkedList<u8>),
-    /// The worker's spool is synced.
+    /// The mailbox is synced.
     Sync(u32),
+    /// What the turn wrote is cut off again.
+    Cut(u32),
+    /// The turn is over.
+    Unlock(u32),
     /// The worker releases the hold of its copy.
     Release(u32),
     /// The worker tells the copy's lane what became of it.

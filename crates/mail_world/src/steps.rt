@@ -4,16 +4,18 @@ ghost use Rattle.std.specs.Prelude.{◌≡◌, ◌≢◌, ℕ, ◌+◌, ◌<◌,
 ghost use Rattle.std.specs.Prelude.{slice_get};
 ghost use Rattle.mail_world.specs.declared.Note.{Note};
 ghost use Rattle.mail_world.specs.declared.Event.TheVariants.{Begin, Put, Cancel, Seal, Split, Offer, HandBack};
-ghost use Rattle.mail_world.specs.declared.Event.TheVariants.{Collect, Take, Write, Sync, Release, GiveSlip, Reclaim};
+ghost use Rattle.mail_world.specs.declared.Event.TheVariants.{Collect, Take, Lock, Miss, Write, Sync, Cut};
+ghost use Rattle.mail_world.specs.declared.Event.TheVariants.{Unlock, Release, GiveSlip, Reclaim};
 ghost use Rattle.mail_world.specs.declared.Event.TheVariants.{Close};
 ghost use Rattle.mail_world.specs.declared.Outcome.{Outcome};
-ghost use Rattle.mail_world.specs.declared.Outcome.TheVariants.{Stored, Failed, OverQuota};
-ghost use Rattle.mail_world.specs.Records.{record_of};
+ghost use Rattle.mail_world.specs.Turns.{Standing};
 ghost use Rattle.mail_world.specs.Depot.{Key, Slot, Free, Sealed, Retired, HasRoom, held_under, spent};
 ghost use Rattle.mail_world.specs.Depot as depot;
-ghost use Rattle.mail_world.specs.House.{House, Box, Lane, Copy, Hold, SealedMessage, is_settled};
+ghost use Rattle.mail_world.specs.House.{House, Box, Lane, Taken, Going, Done, Copy, Hold, SealedMessage};
+ghost use Rattle.mail_world.specs.House.{is_taken, is_going, is_done};
 ghost use Rattle.mail_world.specs.Events.{Step, MayHappen, HasCopy, BoxIs, LaneIs, sealed_up_to, outcome_of};
-ghost use Rattle.mail_world.specs.Runs.{InEveryRun, fits_next};
+ghost use Rattle.mail_world.specs.Events.{added, TurnEnd, end_of};
+ghost use Rattle.mail_world.specs.Runs.{InEveryRun};
 
 /// A lane that has a draft may add bytes to it where enough blocks are free, seal it and drop it, a hold of weight 1
 /// may be released, and what became of a copy may be told: in each house of each run, the depot and the lanes are as
@@ -29,8 +31,11 @@ pub fn steps_of_holders_may_happen()
         (λ blocks events h. (k n : ℕ) (lane : Lane) (key : Key) → LaneIs h k lane → lane.draft ≡ Some key → 1 ≤ n
         → MayHappen h (Seal k n)) }
     ensures release { InEveryRun
-        (λ blocks events h. (w : ℕ) (box : Box) (copy : Copy) → BoxIs h w box → box.hand ≡ Some copy
-        → copy.released ≡ false → MayHappen h (Release w)) }
+        (λ blocks events h. (w : ℕ) (box : Box) (copy : Copy) (outcome : Outcome) → BoxIs h w box
+        → box.hand ≡ Some copy → copy.progress ≡ Done outcome → copy.released ≡ false → MayHappen h (Release w)) }
+    ensures unlock { InEveryRun
+        (λ blocks events h. (w : ℕ) (box : Box) (copy : Copy) (end : TurnEnd) → BoxIs h w box → box.hand ≡ Some copy
+        → end_of copy.progress ≡ Some end → MayHappen h (Unlock w)) }
     ensures give_slip { InEveryRun
         (λ blocks events h. (w : ℕ) (box : Box) (copy : Copy) → BoxIs h w box → box.hand ≡ Some copy
         → copy.released ≡ true → MayHappen h (GiveSlip w (outcome_of copy))) }
@@ -53,12 +58,18 @@ pub fn other_steps_may_happen()
         → MayHappen h (Collect k) }
     ensures take { (h : House) (w : ℕ) (box : Box) → BoxIs h w box → box.hand ≡ None → box.taken < length box.accepted
         → MayHappen h (Take w) }
-    ensures write { (h : House) (w : ℕ) (bytes more : List ℕ) (box : Box) (copy : Copy) → BoxIs h w box
-        → box.hand ≡ Some copy → copy.released ≡ false → is_settled copy ≡ false → box.faulty ≡ false
-        → drop copy.written (record_of h.calendar h.site copy.post.note) ≡ bytes ++ more → MayHappen h (Write w bytes) }
-    ensures sync { (h : House) (w : ℕ) (box : Box) (copy : Copy) → BoxIs h w box → box.hand ≡ Some copy
-        → copy.released ≡ false → is_settled copy ≡ false → box.faulty ≡ false
-        → copy.written ≡ length (record_of h.calendar h.site copy.post.note) → MayHappen h (Sync w) }
+    ensures lock { (h : House) (w : ℕ) (bytes : List ℕ) (box : Box) (copy : Copy) → BoxIs h w box
+        → box.hand ≡ Some copy → copy.progress ≡ Taken → MayHappen h (Lock w bytes) }
+    ensures miss { (h : House) (w : ℕ) (box : Box) (copy : Copy) → BoxIs h w box → box.hand ≡ Some copy
+        → copy.progress ≡ Taken → MayHappen h (Miss w) }
+    ensures write { (h : House) (w : ℕ) (bytes more : List ℕ) (box : Box) (copy : Copy) (at : Standing) (written : ℕ)
+        → BoxIs h w box → box.hand ≡ Some copy → copy.progress ≡ Going at written
+        → drop written (added h copy.post.note at.bytes) ≡ bytes ++ more → MayHappen h (Write w bytes) }
+    ensures sync { (h : House) (w : ℕ) (box : Box) (copy : Copy) (at : Standing) (written : ℕ) → BoxIs h w box
+        → box.hand ≡ Some copy → copy.progress ≡ Going at written
+        → written ≡ length (added h copy.post.note at.bytes) → MayHappen h (Sync w) }
+    ensures cut { (h : House) (w : ℕ) (box : Box) (copy : Copy) (at : Standing) (written : ℕ) → BoxIs h w box
+        → box.hand ≡ Some copy → copy.progress ≡ Going at written → MayHappen h (Cut w) }
     ensures reclaim { (h : House) (key : Key) (bytes blocks : List ℕ) → held_under h.depot key ≡ spent bytes blocks
         → MayHappen h (Reclaim key.slot key.generation) }
     ensures close { (h : House) (b : ℕ) (box : Box) → BoxIs h b box → box.closed ≡ false → MayHappen h (Close b) }
@@ -118,32 +129,27 @@ pub fn wrong_steps_of_workers_have_no_result()
         → Step h (Take w) new → ⊥ }
     ensures take_of_none { (h new : House) (w : ℕ) (box : Box) → BoxIs h w box → length box.accepted ≤ box.taken
         → Step h (Take w) new → ⊥ }
-    ensures write_without_copy { (h new : House) (w : ℕ) (bytes : List ℕ) (box : Box) → BoxIs h w box → box.hand ≡ None
+    ensures lock_unless_taken { (h new : House) (w : ℕ) (bytes : List ℕ) (box : Box) (copy : Copy) → BoxIs h w box
+        → box.hand ≡ Some copy → is_taken copy.progress ≡ false → Step h (Lock w bytes) new → ⊥ }
+    ensures miss_unless_taken { (h new : House) (w : ℕ) (box : Box) (copy : Copy) → BoxIs h w box
+        → box.hand ≡ Some copy → is_taken copy.progress ≡ false → Step h (Miss w) new → ⊥ }
+    ensures write_unless_going { (h new : House) (w : ℕ) (bytes : List ℕ) (box : Box) (copy : Copy) → BoxIs h w box
+        → box.hand ≡ Some copy → is_going copy.progress ≡ false → Step h (Write w bytes) new → ⊥ }
+    ensures sync_unless_going { (h new : House) (w : ℕ) (box : Box) (copy : Copy) → BoxIs h w box
+        → box.hand ≡ Some copy → is_going copy.progress ≡ false → Step h (Sync w) new → ⊥ }
+    ensures cut_unless_going { (h new : House) (w : ℕ) (box : Box) (copy : Copy) → BoxIs h w box
+        → box.hand ≡ Some copy → is_going copy.progress ≡ false → Step h (Cut w) new → ⊥ }
+    ensures unlock_out_of_turn { (h new : House) (w : ℕ) (box : Box) (copy : Copy) → BoxIs h w box
+        → box.hand ≡ Some copy → end_of copy.progress ≡ None → Step h (Unlock w) new → ⊥ }
+    ensures release_unless_done { (h new : House) (w : ℕ) (box : Box) (copy : Copy) → BoxIs h w box
+        → box.hand ≡ Some copy → is_done copy.progress ≡ false → Step h (Release w) new → ⊥ }
+    ensures write_of_other_bytes { (h new : House) (w : ℕ) (bytes : List ℕ) (box : Box) (copy : Copy) (lock : Standing)
+        (written : ℕ) → BoxIs h w box → box.hand ≡ Some copy → copy.progress ≡ Going lock written
+        → ((more : List ℕ) → drop written (added h copy.post.note lock.bytes) ≢ bytes ++ more)
         → Step h (Write w bytes) new → ⊥ }
-    ensures write_of_other_bytes { (h new : House) (w : ℕ) (bytes : List ℕ) (box : Box) (copy : Copy) → BoxIs h w box
-        → box.hand ≡ Some copy →
-        ((more : List ℕ) → drop copy.written (record_of h.calendar h.site copy.post.note) ≢ bytes ++ more)
-        → Step h (Write w bytes) new → ⊥ }
-    ensures write_when_faulty { (h new : House) (w : ℕ) (bytes : List ℕ) (box : Box) → BoxIs h w box → box.faulty ≡ true
-        → Step h (Write w bytes) new → ⊥ }
-    ensures write_after_release { (h new : House) (w : ℕ) (bytes : List ℕ) (box : Box) (copy : Copy) → BoxIs h w box
-        → box.hand ≡ Some copy → copy.released ≡ true → Step h (Write w bytes) new → ⊥ }
-    ensures write_after_sync { (h new : House) (w : ℕ) (bytes : List ℕ) (box : Box) (copy : Copy) → BoxIs h w box
-        → box.hand ≡ Some copy → copy.synced ≡ true → Step h (Write w bytes) new → ⊥ }
-    ensures write_over_quota { (h new : House) (w : ℕ) (bytes : List ℕ) (box : Box) (copy : Copy) → BoxIs h w box
-        → box.hand ≡ Some copy → copy.over ≡ true → Step h (Write w bytes) new → ⊥ }
-    ensures sync_without_copy { (h new : House) (w : ℕ) (box : Box) → BoxIs h w box → box.hand ≡ None
-        → Step h (Sync w) new → ⊥ }
-    ensures sync_of_part { (h new : House) (w : ℕ) (box : Box) (copy : Copy) → BoxIs h w box → box.hand ≡ Some copy
-        → copy.written ≢ length (record_of h.calendar h.site copy.post.note) → Step h (Sync w) new → ⊥ }
-    ensures sync_when_faulty { (h new : House) (w : ℕ) (box : Box) → BoxIs h w box → box.faulty ≡ true
-        → Step h (Sync w) new → ⊥ }
-    ensures sync_after_release { (h new : House) (w : ℕ) (box : Box) (copy : Copy) → BoxIs h w box
-        → box.hand ≡ Some copy → copy.released ≡ true → Step h (Sync w) new → ⊥ }
-    ensures sync_twice { (h new : House) (w : ℕ) (box : Box) (copy : Copy) → BoxIs h w box → box.hand ≡ Some copy
-        → copy.synced ≡ true → Step h (Sync w) new → ⊥ }
-    ensures sync_over_quota { (h new : House) (w : ℕ) (box : Box) (copy : Copy) → BoxIs h w box → box.hand ≡ Some copy
-        → copy.over ≡ true → Step h (Sync w) new → ⊥ }
+    ensures sync_of_part { (h new : House) (w : ℕ) (box : Box) (copy : Copy) (lock : Standing) (written : ℕ)
+        → BoxIs h w box → box.hand ≡ Some copy → copy.progress ≡ Going lock written
+        → written ≢ length (added h copy.post.note lock.bytes) → Step h (Sync w) new → ⊥ }
     ensures release_without_copy { (h new : House) (w : ℕ) (box : Box) → BoxIs h w box → box.hand ≡ None
         → Step h (Release w) new → ⊥ }
     ensures release_twice { (h new : House) (w : ℕ) (box : Box) (copy : Copy) → BoxIs h w box → box.hand ≡ Some copy
@@ -155,16 +161,6 @@ pub fn wrong_steps_of_workers_have_no_result()
     ensures slip_that_lies { (h new : House) (w : ℕ) (outcome : Outcome) (box : Box) (copy : Copy) → BoxIs h w box
         → box.hand ≡ Some copy → outcome ≢ outcome_of copy
         → Step h (GiveSlip w outcome) new → ⊥ }
-    ensures stored_without_sync { (h new : House) (w : ℕ) (box : Box) (copy : Copy) → BoxIs h w box
-        → box.hand ≡ Some copy → copy.synced ≡ false → Step h (GiveSlip w Stored) new → ⊥ }
-    ensures failed_after_sync { (h new : House) (w : ℕ) (box : Box) (copy : Copy) → BoxIs h w box → box.hand ≡ Some copy
-        → copy.synced ≡ true → Step h (GiveSlip w Failed) new → ⊥ }
-    ensures stored_over_quota { (h new : House) (w : ℕ) (box : Box) (copy : Copy) → BoxIs h w box
-        → box.hand ≡ Some copy → copy.over ≡ true → Step h (GiveSlip w Stored) new → ⊥ }
-    ensures failed_over_quota { (h new : House) (w : ℕ) (box : Box) (copy : Copy) → BoxIs h w box
-        → box.hand ≡ Some copy → copy.over ≡ true → Step h (GiveSlip w Failed) new → ⊥ }
-    ensures over_quota_within { (h new : House) (w : ℕ) (box : Box) (copy : Copy) → BoxIs h w box
-        → box.hand ≡ Some copy → copy.over ≡ false → Step h (GiveSlip w OverQuota) new → ⊥ }
     ensures reclaim_of_held { (h new : House) (key : Key) (bytes blocks : List ℕ) (weight : ℕ)
         → held_under h.depot key ≡ Sealed bytes blocks weight → 0 < weight
         → Step h (Reclaim key.slot key.generation) new → ⊥ }
@@ -176,24 +172,4 @@ pub fn wrong_steps_of_workers_have_no_result()
         → Step h (Reclaim key.slot key.generation) new → ⊥ }
     ensures close_twice { (h new : House) (b : ℕ) (box : Box) → BoxIs h b box → box.closed ≡ true → Step h (Close b) new
         → ⊥ }
-{}
-
-/// Steps of a worker that have no result in each house of each run: it writes nothing of a copy whose record doesn't
-/// fit, and what it says is Failed where it is faulty, else Stored or OverQuota as the record fits.
-pub fn wrong_steps_with_a_quota_have_no_result()
-    ensures write { InEveryRun
-        (λ blocks events h. (new : House) (w : ℕ) (bytes : List ℕ) (box : Box) (copy : Copy) → BoxIs h w box
-        → box.hand ≡ Some copy → fits_next h box copy.post.note ≡ false → Step h (Write w bytes) new → ⊥) }
-    ensures faulty { InEveryRun
-        (λ blocks events h. (new : House) (w : ℕ) (outcome : Outcome) (box : Box) → BoxIs h w box → box.faulty ≡ true
-        → outcome ≢ Failed → Step h (GiveSlip w outcome) new → ⊥) }
-    ensures sound { InEveryRun
-        (λ blocks events h. (new : House) (w : ℕ) (box : Box) → BoxIs h w box → box.faulty ≡ false
-        → Step h (GiveSlip w Failed) new → ⊥) }
-    ensures over_quota { InEveryRun
-        (λ blocks events h. (new : House) (w : ℕ) (box : Box) (copy : Copy) → BoxIs h w box → box.hand ≡ Some copy
-        → fits_next h box copy.post.note ≡ true → Step h (GiveSlip w OverQuota) new → ⊥) }
-    ensures stored { InEveryRun
-        (λ blocks events h. (new : House) (w : ℕ) (box : Box) (copy : Copy) → BoxIs h w box → box.hand ≡ Some copy
-        → fits_next h box copy.post.note ≡ false → Step h (GiveSlip w Stored) new → ⊥) }
 {}

@@ -1,4 +1,5 @@
 pub mod Taken
+pub mod Counted
 pub mod Tails
 pub mod Parts
 pub mod Rests

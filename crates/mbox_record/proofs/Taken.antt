@@ -1,5 +1,5 @@
 -- Texts that a spool takes one after another.
-use Rattle.std.proofs.Common.{◌≡◌, ◌||◌, ℕ, ◌+◌, ◌-◌, ◌<◌, arith, Bool, List, ◌++◌, length, Option, Some, None, Result, Ok, Err, take, drop, get_or, sym, ap, ◌∙◌}
+use Rattle.std.proofs.Common.{◌≡◌, ◌||◌, ℕ, ◌+◌, ◌-◌, ◌<◌, ◌≤◌, arith, Bool, true, List, ◌++◌, length, Option, Some, None, Result, Ok, Err, take, drop, get_or, sym, ap, ◌∙◌}
 use Rattle.std.proofs.Common.{subst, append_assoc}
 use Rattle.std.proofs.lemmas.List.{take-append-drop, take_rest, drop_more, length-append}
 use Rattle.std.proofs.lemmas.List.Concat.{flat_map-append}
@@ -8,31 +8,21 @@ use Rattle.std.specs.Result.{OnOk, OnErr}
 use Rattle.std.specs.Io.KnownBytes.{Appends}
 use Rattle.mail_world.specs.Counts.{counted}
 use Rattle.mail_world.specs.Failures.{Rises}
-use Rattle.mbox_record.specs.Sharing.{Sharing}
 use Rattle.mail_world.specs.Turns.{Standing}
-use Rattle.mbox_record.specs.Sharing.{lock_of}
-use Rattle.mbox_record.specs.Spool.{SpoolState, SpoolTook, SpoolFailed, LeavesPart, StaysCovered, IsSameTurn, FailsTurn, Grows}
+use Rattle.mbox_record.specs.TurnState.{TurnState}
+use Rattle.mbox_record.specs.Spool.{SpoolState, SpoolTook, SpoolFailed, LeavesPart, IsFull, IsSameTurn, FailsTurn}
 
-pub Appends-then : (u v w : Option (List ℕ)) (a b : List ℕ) → Appends u v a → Appends v w b → Appends u w (a ++ b)
-Appends-then None v w a b x y = tt
-Appends-then (Some xs) None w a b x y = absurd x
-Appends-then (Some xs) (Some ys) None a b x y = y
-Appends-then (Some xs) (Some ys) (Some zs) a b x y = y ∙ ap (λ (t : List ℕ). t ++ b) x ∙ append_assoc xs a b
-
--- first by m, then by n
-counted_then : (u v w m n : ℕ) → counted v ≡ counted (u + m) → counted w ≡ counted (v + n) → counted w ≡ counted (u + (m + n))
-counted_then u v w m n x y = grind (arith)
-
-Grows-then : (u v w : ℕ) (a b : List ℕ) → Grows u v (length a) → Grows v w (length b) → Grows u w (length (a ++ b))
-Grows-then u v w a b x y = rw (length-append a b) (counted_then u v w (length a) (length b) x y)
+-- one text after another
+pub Appends-then : (u v w a b : List ℕ) → v ≡ u ++ a → w ≡ v ++ b → w ≡ u ++ (a ++ b)
+Appends-then u v w a b x y = y ∙ ap (λ (t : List ℕ). t ++ b) x ∙ append_assoc u a b
 
 -- a turn stays, and then stays or fails
-IsSameTurn-then : (s t u : Sharing) → IsSameTurn s t → IsSameTurn t u → IsSameTurn s u
-IsSameTurn-then s t u x y = y ∙ ap (λ (v : Sharing). record v { is_unsynced = u.is_unsynced }) x
+IsSameTurn-then : (s t u : TurnState) → IsSameTurn s t → IsSameTurn t u → IsSameTurn s u
+IsSameTurn-then s t u x y = y ∙ ap (λ (v : TurnState). record v { is_unsynced = u.is_unsynced }) x
 
-pub FailsTurn-then : (s t u : Sharing) → IsSameTurn s t → FailsTurn t u → FailsTurn s u
+pub FailsTurn-then : (s t u : TurnState) → IsSameTurn s t → FailsTurn t u → FailsTurn s u
 FailsTurn-then s t u x y =
-    y ∙ ap (λ (v : Sharing). record v { has_failed = v.has_failed || v.in_turn; is_unsynced = u.is_unsynced }) x
+    y ∙ ap (λ (v : TurnState). record v { has_failed = v.has_failed || v.in_turn; is_unsynced = u.is_unsynced }) x
 
 pub OnErr-any : {T E Q : Type 0} (r : Result T E) → Q → OnErr r Q
 OnErr-any (Ok x) q = tt
@@ -59,52 +49,45 @@ SpoolTook-then s t u a b x y = record {
   sound = y.sound ∙ x.sound;
   limited = y.limited ∙ x.limited;
   covered = y.covered ∙ x.covered;
-  grown = Grows-then s.held t.held u.held a b x.grown y.grown;
-  turn = IsSameTurn-then s.sharing t.sharing u.sharing x.turn y.turn;
+  turn = IsSameTurn-then s.turn t.turn u.turn x.turn y.turn;
 }
 
 -- what is left of a text is left of a longer one
-LeavesPart-first : (lock : Option Standing) (u v : Option (List ℕ)) (a b : List ℕ) → LeavesPart lock u v a → LeavesPart lock u v (a ++ b)
+LeavesPart-first : (lock : Option Standing) (u v a b : List ℕ) → LeavesPart lock u v a → LeavesPart lock u v (a ++ b)
 LeavesPart-first None u v a b x = record {
   prefix = x.prefix;
   rest = x.rest ++ b;
   whole = ap (λ (w : List ℕ). w ++ b) x.whole ∙ append_assoc x.prefix x.rest b;
   appended = x.appended;
 }
-LeavesPart-first (Some lock) None v a b x = tt
-LeavesPart-first (Some lock) (Some held) None a b x = absurd x
-LeavesPart-first (Some lock) (Some held) (Some left) a b x = record {
+LeavesPart-first (Some lock) u v a b x = record {
   above = x.above;
   below = record {
     rest = x.below.rest ++ b;
-    whole = sym (append_assoc held a b) ∙ ap (λ (w : List ℕ). w ++ b) x.below.whole ∙ append_assoc left x.below.rest b;
+    whole = sym (append_assoc u a b) ∙ ap (λ (w : List ℕ). w ++ b) x.below.whole ∙ append_assoc v x.below.rest b;
   };
 }
 
 -- and what is left of a text that followed another, of both
-LeavesPart-later : (lock : Option Standing) (u v w : Option (List ℕ)) (a b : List ℕ) → Appends u v a → LeavesPart lock v w b
-    → LeavesPart lock u w (a ++ b)
+LeavesPart-later : (lock : Option Standing) (u v w a b : List ℕ) → v ≡ u ++ a → LeavesPart lock v w b → LeavesPart lock u w (a ++ b)
 LeavesPart-later None u v w a b x y = record {
   prefix = a ++ y.prefix;
   rest = y.rest;
   whole = ap (λ (t : List ℕ). a ++ t) y.whole ∙ sym (append_assoc a y.prefix y.rest);
   appended = Appends-then u v w a y.prefix x y.appended;
 }
-LeavesPart-later (Some lock) None v w a b x y = tt
-LeavesPart-later (Some lock) (Some held) None w a b x y = absurd x
-LeavesPart-later (Some lock) (Some held) (Some now) None a b x y = absurd y
-LeavesPart-later (Some lock) (Some held) (Some now) (Some left) a b x y = record {
+LeavesPart-later (Some lock) u v w a b x y = record {
   above = y.above;
   below = record {
     rest = y.below.rest;
-    whole = sym (append_assoc held a b) ∙ ap (λ (t : List ℕ). t ++ b) (sym x) ∙ y.below.whole;
+    whole = sym (append_assoc u a b) ∙ ap (λ (t : List ℕ). t ++ b) (sym x) ∙ y.below.whole;
   };
 }
 
 -- a failure in the first text, in the second
 pub SpoolFailed-first : (s t : SpoolState) (a b : List ℕ) → SpoolFailed s t a → SpoolFailed s t (a ++ b)
 SpoolFailed-first s t a b x = record {
-  left = LeavesPart-first (lock_of s.sharing) s.bytes t.bytes a b x.left;
+  left = LeavesPart-first s.turn.began s.bytes t.bytes a b x.left;
   failed = x.failed;
   limited = x.limited;
   covered = x.covered;
@@ -114,17 +97,16 @@ SpoolFailed-first s t a b x = record {
 
 pub SpoolFailed-later : (s t u : SpoolState) (a b : List ℕ) → SpoolTook s t a → SpoolFailed t u b → SpoolFailed s u (a ++ b)
 SpoolFailed-later s t u a b x y =
-    let same : lock_of t.sharing ≡ lock_of s.sharing = ap lock_of x.turn in
     let L : Option Standing → Type 0 = λ lock. LeavesPart lock t.bytes u.bytes b in
-    let C : Bool → ℕ → Type 0 = λ is_shared n. StaysCovered is_shared n u.synced in
+    let F : Bool → Type 0 = λ in_turn. in_turn ≡ true → IsFull u.limit u.bytes in
     record {
-      left = LeavesPart-later (lock_of s.sharing) s.bytes t.bytes u.bytes a b x.appended (subst L same y.left);
+      left = LeavesPart-later s.turn.began s.bytes t.bytes u.bytes a b x.appended
+          (subst L (ap (λ (v : TurnState). v.began) x.turn) y.left);
       failed = let P : ℕ → Type 0 = λ n. Rises n u.failures in subst P x.sound y.failed;
       limited = y.limited ∙ x.limited;
-      covered = subst (λ is_shared. C is_shared s.synced) (ap (λ (v : Sharing). v.is_shared) x.turn)
-          (subst (C t.sharing.is_shared) x.covered y.covered);
-      full = y.full;
-      turn = FailsTurn-then s.sharing t.sharing u.sharing x.turn y.turn;
+      covered = let P : ℕ → Type 0 = λ n. n ≤ u.synced in subst P x.covered y.covered;
+      full = subst F (ap (λ (v : TurnState). v.in_turn) x.turn) y.full;
+      turn = FailsTurn-then s.turn t.turn u.turn x.turn y.turn;
     }
 
 -- the spool took the text up to the rest

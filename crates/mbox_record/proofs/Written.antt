@@ -18,20 +18,14 @@ use Rattle.mbox_record.proofs.Taken.{SpoolTook-then, SpoolTook-as, SpoolFailed-f
 use Rattle.mbox_marks.proofs.Renamed.{stored_by}
 use Rattle.mbox_record.proofs.Onward.{Writes-on, Fails-on, Writes-then, Fails-then}
 
--- nothing yet
-Appends-none : (bytes : Option (List ℕ)) → Appends bytes bytes []
-Appends-none None = tt
-Appends-none (Some bytes) = sym (append-nil bytes)
-
 pub Writes-none : (s : SpoolState) (f : List ℕ → List ℕ) → Writes s s f f
 Writes-none s f = record {
   text = [];
   taken = record {
-    appended = Appends-none s.bytes;
+    appended = sym (append-nil s.bytes);
     sound = refl;
     limited = refl;
     covered = refl;
-    grown = ap counted (let same : s.held ≡ s.held + 0 = omega arith in same);
     turn = refl;
   };
   goes = λ rest. refl;

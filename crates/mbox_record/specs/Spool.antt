@@ -43,11 +43,17 @@ pub record IsWithin (lock most left : List ℕ) : Type 0 where
   pub above : IsPrefix lock left
   pub below : IsPrefix left most
 
--- What is left after a fault, where a text was to be appended. Outside a turn nothing is changed. In a turn the bytes at
--- its lock are left, and a prefix of what was appended in it, that text included: what waited to be written may be
--- lost.
+-- a prefix of the text was taken
+pub record LeavesPrefix (old new text : List ℕ) : Type 0 where
+  pub prefix : List ℕ
+  pub rest : List ℕ
+  pub whole : text ≡ prefix ++ rest
+  pub appended : new ≡ old ++ prefix
+
+-- What is left after a fault, where a text was to be appended: in a turn the bytes at its lock, and a prefix of what
+-- was appended in it, that text included, since what waited to be written may be lost.
 abbrev pub LeavesPart : Option Standing → List ℕ → List ℕ → List ℕ → Type 0
-LeavesPart None old new text = new ≡ old
+LeavesPart None old new text = LeavesPrefix old new text
 LeavesPart (Some lock) old new text = IsWithin lock.bytes (old ++ text) new
 
 -- of what was kept at the lock nothing was lost, and no more is kept than there is

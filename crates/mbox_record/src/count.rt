@@ -1,8 +1,9 @@
 //! A spool that keeps no bytes: it measures what is written to it.
-ghost use Rattle.std.specs.Prelude.{◌≡◌, ◌+◌, ◌^◌, ◌<◌, ◌≤◌, ◌++◌, ⊤, length, take, min, Ok, Err, IsErr, IfOk, OnOk, OnErr};
+ghost use Rattle.std.specs.Prelude.{◌≡◌, ◌-◌, ◌+◌, ◌^◌, ◌<◌, ◌≤◌, ◌++◌, ⊤, length, take, min, Ok, Err, IsErr, IfOk, OnOk, OnErr};
 ghost use Rattle.std.specs.Prelude.{true, false};
 ghost use Rattle.mail_world.specs.Counts.{counted};
 ghost use Rattle.mail_world.specs.Endings.{ending};
+ghost use Rattle.mail_world.specs.Failures.{Rises};
 ghost use Rattle.mbox_record.specs.CountSpool.{in_its_turn, state_of};
 ghost use Rattle.mbox_record.specs.Spool.{SpoolTook, SpoolFailed, HasSynced, HasNotSynced, AsksForTurn, EndsTurn};
 ghost use Rattle.mbox_record.specs.Tail.{ending_of};
@@ -86,7 +87,8 @@ impl CountSpool {
 
     // Counts a failure, which outside its turn each append and sync is.
     fn fail(&mut self) -> SpoolFault
-        ensures { self.new ≡ record self.old { failures = min (self.old.failures + 1) (2 ^ 64 - 1) } }
+        ensures new { self.new ≡ record self.old { failures = min (self.old.failures + 1) (2 ^ 64 - 1) } }
+        ensures counted { Rises self.old.failures self.new.failures }
     {
         self.failures = self.failures.saturating_add(1);
         SpoolFault
@@ -135,7 +137,8 @@ impl Spool for CountSpool {
         ensures err { OnErr result (SpoolFailed (⟦<CountSpool as Spool>⟧.state self.old)
             (⟦<CountSpool as Spool>⟧.state self.new) piece.now) }
         ensures unsynced { OnOk result ((⟦<CountSpool as Spool>⟧.state self.new).turn.is_unsynced ≡ true) }
-        ensures outside { (⟦<CountSpool as Spool>⟧.state self.old).turn.in_turn ≡ false → IsErr result }
+        ensures outside { (⟦<CountSpool as Spool>⟧.state self.old).turn.in_turn ≡ false → IsErr result
+            × ((⟦<CountSpool as Spool>⟧.state self.new).bytes ≡ (⟦<CountSpool as Spool>⟧.state self.old).bytes) }
     {
         if !self.in_turn {
             return Err(self.fail());

@@ -1,5 +1,5 @@
 //! A spool in memory, with a bound on what it takes.
-ghost use Rattle.std.specs.Prelude.{◌≡◌, ◌↔◌, ◌×◌, ◌+◌, ◌-◌, ◌^◌, ◌<◌, ◌≤◌, ◌++◌, length, take, min, is_err};
+ghost use Rattle.std.specs.Prelude.{◌≡◌, ◌↔◌, ◌||◌, ◌+◌, ◌-◌, ◌^◌, ◌<◌, ◌≤◌, ◌++◌, length, take, min, is_err};
 ghost use Rattle.std.specs.Prelude.{IsErr, IfOk, OnOk, OnErr, Ok, Err, true, false};
 ghost use Rattle.mail_world.specs.Counts.{counted};
 ghost use Rattle.mail_world.specs.Endings.{ending};
@@ -207,7 +207,8 @@ impl Spool for MemorySpool {
             (SpoolFailed (⟦<MemorySpool as Spool>⟧.state self.old)
             (⟦<MemorySpool as Spool>⟧.state self.new) piece.now) }
         ensures unsynced { OnOk result ((⟦<MemorySpool as Spool>⟧.state self.new).turn.is_unsynced ≡ true) }
-        ensures outside { (⟦<MemorySpool as Spool>⟧.state self.old).turn.in_turn ≡ false → IsErr result }
+        ensures outside { (⟦<MemorySpool as Spool>⟧.state self.old).turn.in_turn ≡ false → IsErr result
+            × ((⟦<MemorySpool as Spool>⟧.state self.new).bytes ≡ (⟦<MemorySpool as Spool>⟧.state self.old).bytes) }
     {
         if !self.in_turn || self.room == 0 {
             return Err(self.fail());

@@ -66,7 +66,8 @@ pub trait Spool {
         ensures ok { IfOk result (λ n. SpoolTook (state self.old) (state self.new) (take n piece.now)) }
         ensures err { OnErr result (SpoolFailed (state self.old) (state self.new) piece.now) }
         ensures unsynced { OnOk result ((state self.new).turn.is_unsynced ≡ true) }
-        ensures outside { (state self.old).turn.in_turn ≡ false → IsErr result };
+        ensures outside { (state self.old).turn.in_turn ≡ false
+            → IsErr result × ((state self.new).bytes ≡ (state self.old).bytes) };
 
     /// Asks that all it holds be kept through a crash, as a file's `sync_data` does, and waits for the answer. After a
     /// fault any of it may be lost. Outside a turn it is a fault.

@@ -1,0 +1,45 @@
+-- Each event of a worker's own lowers what is left of the copy in hand.
+use Rattle.std.proofs.Common.{◌≡◌, ℕ, zero, suc, ◌+◌, ◌-◌, ◌<◌, ◌≤◌, List, [], ◌∷◌, ◌++◌, length, drop, Bool, true, false, Some, refl, ap, sym, ◌∙◌, arith, length-append}
+use Rattle.std.specs.Prelude.{if◌then◌else◌}
+use Rattle.std.proofs.lemmas.List.{length-drop}
+use Rattle.mail_world.specs.declared.Note.{Note}
+use Rattle.mail_world.specs.Records.{record_of}
+use Rattle.mail_world.specs.Endings.{mended}
+use Rattle.mail_world.specs.Turns.{Standing, has_room}
+use Rattle.mail_world.specs.House.{Progress, Taken, Going, Full, Synced, CutBack, Done, House}
+use Rattle.mail_world.proofs.Endings.{mended_few}
+use Rattle.mail_world.specs.Events.{added, begun, TurnEnd, end_of}
+
+-- lock or miss, the bytes that mend and the record, sync or cut, unlock, release, the slip, which is collected
+abbrev pub left : House → Note → Progress → ℕ
+left h note Taken = length (record_of h.calendar h.site note) + 44 + 6
+left h note (Going lock written) = (length (added h note lock.bytes) - written) + 5
+left h note (Full lock) = 4
+left h note (Synced lock) = 4
+left h note (CutBack lock) = 4
+left h note (Done outcome) = 3
+
+lock_by : (h : House) (note : Note) (lock : Standing) (t : Bool) → left h note (if t then Going lock 0 else Full lock) < left h note Taken
+lock_by h note lock true = omega (arith, mended_few lock.bytes, length-append (mended lock.bytes) (record_of h.calendar h.site note))
+lock_by h note lock false = omega arith
+
+pub lock_lowers : (h : House) (note : Note) (lock : Standing) → left h note (begun h note lock) < left h note Taken
+lock_lowers h note lock = lock_by h note lock (has_room h.calendar h.site h.quota note lock.bytes)
+
+pub write_lowers : (h : House) (note : Note) (lock : Standing) (written : ℕ) (bytes more : List ℕ) → 1 ≤ length bytes
+    → drop written (added h note lock.bytes) ≡ bytes ++ more → left h note (Going lock (written + length bytes)) < left h note (Going lock written)
+write_lowers h note lock written bytes more some next =
+    let e : length (added h note lock.bytes) - written ≡ length bytes + length more =
+    sym (length-drop written (added h note lock.bytes)) ∙ ap length next ∙ length-append bytes more in omega arith
+
+pub sync_lowers : (h : House) (note : Note) (lock : Standing) (written : ℕ) → left h note (Synced lock) < left h note (Going lock written)
+sync_lowers h note lock written = omega arith
+
+pub unlock_lowers : (h : House) (note : Note) (progress : Progress) (end : TurnEnd) → end_of progress ≡ Some end
+    → left h note (Done end.outcome) < left h note progress
+unlock_lowers h note Taken end e = cc
+unlock_lowers h note (Done outcome) end e = cc
+unlock_lowers h note (Going lock written) end e = omega arith
+unlock_lowers h note (Full lock) end e = omega arith
+unlock_lowers h note (Synced lock) end e = omega arith
+unlock_lowers h note (CutBack lock) end e = omega arith
