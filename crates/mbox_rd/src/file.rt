@@ -216,8 +216,8 @@ impl<F: MailboxFile + Drop, C: Clock + Drop> FileSpool<F, C> {
         self.has_failed = false;
         self.is_unsynced = false;
         self.patience.was_missed = false;
-        let turns = Turns::after::<Brand, F>(&self.turns, &self.file, self.failures);
-        self.turns = turns;
+        let begun = Turns::after::<Brand, F>(&self.turns, &self.file, self.failures);
+        self.turns = begun;
     }
 
     // Counts a missed turn.
@@ -317,8 +317,8 @@ impl<F: MailboxFile + Drop, C: Clock + Drop> Spool for FileSpool<F, C> {
         end_turn(&mut self.file, self.has_failed, self.began);
         self.waiting.clear();
         self.in_turn = false;
-        let turns = Turns::after::<Brand, F>(&self.turns, &self.file, self.failures);
-        self.turns = turns;
+        let ended = Turns::after::<Brand, F>(&self.turns, &self.file, self.failures);
+        self.turns = ended;
     }
 
     /// Fills the buffer, and writes it where it is full.

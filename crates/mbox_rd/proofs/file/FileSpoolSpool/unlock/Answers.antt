@@ -7,4 +7,4 @@ pub returns-clause-over : goal.returns-clause-over
 returns-clause-over g c = λ turn.
     ends g.F.MailboxFile.state c.args.self.now _ c.end_turn.new.file _ _ c.self.view_is c.self.invariant.2
     (ap (λ (s : FileSpool _). s.in_turn) c.self.view_is ∙ turn)
-    c.end_turn.ensures c.clear.ensures.items c.after-turns.ensures
+    c.end_turn.ensures c.clear.ensures.items c.after-ended.ensures
