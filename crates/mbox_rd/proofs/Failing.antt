@@ -1,6 +1,6 @@
 -- What a spool is left with where a call failed, and where its turn is over.
 use Rattle.std.proofs.Common.{◌≡◌, ◌⊎◌, ◌&&◌, not, ℕ, Bool, true, false, take, List, [], ◌++◌, refl, sym, ap, ◌∙◌}
-use Rattle.std.proofs.Common.{subst, arith, inl, Some, append-nil as append_nil}
+use Rattle.std.proofs.Common.{subst, arith, inl, append-nil as append_nil}
 use Rattle.mail_world.specs.Failures.{Rises}
 use Rattle.mail_world.specs.Turns.{Standing}
 use Rattle.mbox_file.specs.MailboxFile.{FileState}
