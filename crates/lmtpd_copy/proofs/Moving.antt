@@ -1,8 +1,7 @@
 -- Bytes that are read of one file and written to another.
 use Rattle.std.proofs.Common.{◌≡◌, ◌∙◌, ℕ, ◌<◌, List, [], ◌++◌, length, take, Option, Some, None, Result, Ok, Err, OnOk, Bool, ap, sym, subst, refl, append-nil}
 use Rattle.std.specs.Io.KnownBytes.{Appends, Consumes, IsAtEnd}
-use Rattle.std.proofs.KnownBytes.{Consumes-trans}
-use Rattle.mbox_record.proofs.Taken.{Appends-then}
+use Rattle.std.proofs.KnownBytes.{Appends-trans, Consumes-trans}
 use Rattle.mbox_file.specs.MailboxFile.{FileState, IsHeld}
 use Rattle.mbox_rd.specs.Turn.{HasLetGo}
 use Rattle.lmtpd_copy.specs.Copied.{Copies, HasCopiedFile, IsCopied, StaysLocked, StaysMade}
@@ -29,7 +28,7 @@ pub moved_more : (u v w r b c d : Option (List ℕ)) (piece : List ℕ) → HasM
 moved_more u v w r b c d piece h came same written = record {
   text = h.text ++ piece;
   came = subst (λ (l : Option (List ℕ)). Consumes u l (h.text ++ piece)) (sym same) (Consumes-trans u v w h.text piece h.came came);
-  written = Appends-then b c d h.text piece h.written written;
+  written = Appends-trans b c d h.text piece h.written written;
 }
 
 -- a read that gave nothing is the end
