@@ -7,7 +7,7 @@ use Rattle.mail_world.specs.Endings.{Ending, Empty, ending, ending_from}
 use Rattle.mail_world.specs.Failures.{Rises}
 use Rattle.mail_world.specs.Turns.{Standing}
 use Rattle.mail_world.proofs.Endings.{ending-append}
-use Rattle.mbox_record.specs.CountSpool.{CountSpool, IsInOrder, state_of}
+use Rattle.box_worker.specs.CountSpool.{CountSpool, IsInOrder, state_of}
 use Rattle.mbox_record.specs.declared.tail.Tail.{Tail}
 use Rattle.mbox_record.specs.Spool.{LeavesPart, SpoolFailed}
 use Rattle.mbox_record.specs.Tail.{ending_of}
