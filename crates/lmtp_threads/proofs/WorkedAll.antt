@@ -161,7 +161,7 @@ module _ {S G : Type 0} (view : SpoolsView S) where
           as_many = h.handled.told.as_many;
           each = λ j before after e f.
               let o = h.handled.told.each j before after e f in
-              let kept : after.gone ≡ false = none_gone p.right.worker.slips j after (none_came_back _ _ _ _ _ h no) f in
+              let kept : after.gone ≡ false = none_gone p.right.worker.slips j after (none_came_back _ _ _ _ _ _ h no) f in
               (o.sent.channel, o.sent.number, o.sent.sent ∙ ap (λ l. before.sent ++ l) (o.all kept), kept);
         } in
         let took : Took p.left.receiver (box_done p.left p.right h).work = record {
@@ -169,14 +169,14 @@ module _ {S G : Type 0} (view : SpoolsView S) where
           capacity = h.capacity;
           lanes = h.lanes;
           took = refl;
-          closed = was_closed _ _ _ _ _ h no;
+          closed = was_closed _ _ _ _ _ _ h no;
         } in
         let given_at : Given (worker_of t.row) t.row (works k) =
         subst (λ (j : BoxTask S). Given (worker_of j.slips) j.slips (works k)) t.is
         (subst (λ d. Given (worker_of p.left.slips) p.left.slips d.work) (sym p.picked) given_out) in
         let did_at : Did (worker_of t.row) (dones k) =
         subst (λ (j : BoxTask S). Did (worker_of j.slips) (dones k)) t.is
-        (subst (λ d. Did (worker_of p.left.slips) d) (sym p.picked) (h.turns.all (none_came_back _ _ _ _ _ h no))) in record {
+        (subst (λ d. Did (worker_of p.left.slips) d) (sym p.picked) (h.turns.all (none_came_back _ _ _ _ _ _ h no))) in record {
           inbox = t.inbox;
           row = t.row;
           spool = t.spool;
