@@ -7,8 +7,8 @@ use Rattle.mail_world.specs.declared.Note.{Note}
 use Rattle.mail_world.specs.declared.Outcome.{Outcome}
 use Rattle.mail_world.specs.declared.Slip.{Slip}
 use Rattle.mail_world.specs.Slips.{slip_of, slips_from}
+use Rattle.mail_world.proofs.Given.{slips_from-append}
 use Rattle.mail_world.proofs.OneLine.{other_byte}
-use Rattle.mail_world.proofs.Settled.{slips_from-append}
 use Rattle.mail_post.proofs.Offered.{OwesOneMore}
 use Rattle.box_worker.specs.Told.{owed_to}
 
@@ -19,7 +19,7 @@ pub owed_more : (worker : ℕ) (before after : List Outcome) (copies : List Note
 owed_more worker before after copies note outcome long last =
     let slip : Slip = slip_of worker note outcome in
     let gives : slips_from worker after (copies ++ note ∷ []) ≡ slips_from worker before copies ++ slip ∷ [] =
-    ap (λ outcomes. slips_from worker outcomes (copies ++ note ∷ [])) last ∙ slips_from-append worker before outcome copies note long in
+    ap (λ outcomes. slips_from worker outcomes (copies ++ note ∷ [])) last ∙ slips_from-append worker before copies outcome note long in
     let owed : (k : ℕ) → owed_to worker after k (copies ++ note ∷ []) ≡ owed_to worker before k copies ++ cond (note.txn.lane == k) (slip ∷ []) [] =
     λ k. ap (filter (λ (s : Slip). s.txn.lane == k)) gives ∙ filter-append (λ (s : Slip). s.txn.lane == k) (slips_from worker before copies) (slip ∷ []) in
     record {
