@@ -26,7 +26,7 @@ use Rattle.lmtp_threads.specs.Tasks.{LanesGiven, WorkersGiven, HaveServed, HaveW
 use Rattle.lmtp_house.proofs.AnsweredAll.{outcomes_are_answers}
 use Rattle.lmtp_house.proofs.HeardAll.{heard_all}
 use Rattle.lmtp_house.proofs.NamedOnce.{named_once}
-use Rattle.lmtp_house.proofs.RunOfModel.{HaveExchanged}
+use Rattle.lmtp_house.proofs.RunOfModel.{HaveExchanged, is_left_alone}
 use Rattle.lmtp_house.proofs.ManyLanes.{HaveDeeds, all_lanes_run}
 use Rattle.lmtp_house.proofs.HouseTimes.{have_deeds}
 use Rattle.lmtp_threads.proofs.ChannelRows.{at, at_map, zip_at, at_zip}
@@ -218,4 +218,5 @@ module _ {V S : Type 0} {capacity room : ℕ} (site : Site) (May : ℕ → Type 
     told = exchanged.told;
     told_only = exchanged.told_only;
     is_run = all_lanes_run site spools lanes.works boxes.works handed back exchanged each_box some_boxes deeds_told;
+    alone = is_left_alone site spools lanes.works boxes.works handed back exchanged;
   }

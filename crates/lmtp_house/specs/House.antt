@@ -10,7 +10,7 @@ use Rattle.mail_runs.specs.Courses.{outcomes_in}
 use Rattle.box_worker.specs.Told.{owed_to}
 use Rattle.lmtp_house.specs.declared.house.sizes.Sizes.{Sizes}
 use Rattle.lmtp_house.specs.Handed.{HandedIn, HandedBack}
-use Rattle.lmtp_house.specs.RunOfModel.{IsRunOfModel}
+use Rattle.lmtp_house.specs.RunOfModel.{IsRunOfModel, IsNobodyElses, IsLeftAlone}
 use Rattle.mail_world.specs.Counts.{counted}
 use Rattle.lmtp_talk.specs.Peer.{PeerState}
 use Rattle.lmtp_talk.specs.Served.{terms}
@@ -65,3 +65,7 @@ pub record HasRun {V S : Type 0} (site : Site) (May : ℕ → Type 0) (view : Vi
       → AllByRecursion (λ slip. slip.worker < length old.spools) (lanes k).heard
   -- what lanes and workers did is an orderly run of the model, over channels of the server's capacity
   pub is_run : IsRunOfModel site spools.state lanes boxes old
+  -- and a spool that is nobody else's holds at the end what the model's mailbox does
+  pub alone : (b : ℕ) (before after : S) → slice_get old.spools b ≡ Some before → slice_get new.spools b ≡ Some after
+      → IsNobodyElses spools.manner (spools.state before)
+      → IsLeftAlone (boxes b).turns (spools.state before).bytes (spools.state after).bytes

@@ -1,15 +1,17 @@
 -- What a server's threads did is an orderly run of the model of `mail_world`: what holds of each run there, and what
 -- `mail_progress` says of each orderly run, holds of this server.
-use Rattle.std.specs.Prelude.{◌≡◌, ◌<◌, ℕ, List, [], length, map, get_or}
+use Rattle.std.specs.Prelude.{◌≡◌, ◌<◌, ℕ, false, List, [], length, map, get_or}
 use Rattle.mail_world.specs.declared.limits.TheConstants.{RECIPIENT_LIMIT}
 use Rattle.mail_world.specs.Site.{Site}
 use Rattle.mail_world.specs.Lists.{transactions, due}
 use Rattle.mail_world.specs.Runs.{events_of, offers_by}
+use Rattle.mail_world.specs.Turns.{Standing, Told, AreAlone, left_by}
 use Rattle.mail_runs.specs.Courses.{Server, Course}
 use Rattle.mail_runs.specs.Histories.{Threads}
 use Rattle.mail_runs.specs.Ordered.{IsOrderlyRunOf}
 use Rattle.lmtp_text.specs.Calendar.{civil_at}
 use Rattle.mbox_record.specs.Spool.{SpoolState}
+use Rattle.box_worker.specs.Turned.{Manner}
 use Rattle.lmtp_lane.specs.Visits.{conversations_of}
 use Rattle.lmtp_threads.specs.Works.{LaneWork, BoxWork}
 use Rattle.lmtp_house.specs.Handed.{HandedIn}
@@ -53,3 +55,13 @@ pub record IsRunOfModel {V S : Type 0} (site : Site) (state : S → SpoolState) 
       (threads_of site lanes (courses_of state boxes old))
   pub offered : (k b : ℕ) → k < length old.visits → b < length old.spools
       → offers_by k b (events_of is.is.run) ≡ due site k b (conversations_of (lanes k).visits)
+
+-- nobody else changes such a spool, which is between two turns
+pub record IsNobodyElses (manner : Manner) (spool : SpoolState) : Type 0 where
+  pub free : spool.turn.in_turn ≡ false
+  pub same : (last now : Standing) → manner.MayFind last now → now.bytes ≡ last.bytes
+
+-- these bytes were left alone before the turns, between them and after them
+pub record IsLeftAlone (turns : List Told) (before after : List ℕ) : Type 0 where
+  pub between : AreAlone before turns
+  pub left : after ≡ left_by before turns
