@@ -74,8 +74,9 @@ sum_of m n a b whole is_a is_b is some_m some_n (Some s) some =
     (omega (arith, below, same), some.1 ∙ same)
 
 -- what a spool counts that held nothing and took a text
-pub counted_text : (s t : SpoolState) (text : List ℕ) (held : ℕ) → s.held ≡ 0 → SpoolTook s t text → held ≡ counted t.held → held ≡ counted (length text)
-counted_text s t text held none x says = let e : s.held + length text ≡ length text = omega (arith, none) in says ∙ x.grown ∙ ap counted e
+pub counted_text : (s t : SpoolState) (text : List ℕ) (held : ℕ) → s.bytes ≡ [] → SpoolTook s t text → held ≡ counted (length t.bytes)
+    → held ≡ counted (length text)
+counted_text s t text held none x says = says ∙ ap (λ (l : List ℕ). counted (length l)) (x.appended ∙ ap (λ (l : List ℕ). l ++ text) none)
 
 -- a head begins with `From `
 some_head : (calendar : Calendar) (site : Site) (envelope : Envelope) → 1 ≤ length (head_text calendar site envelope)

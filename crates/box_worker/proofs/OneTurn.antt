@@ -15,9 +15,9 @@ use Rattle.mail_world.specs.Turns.{Standing, Turn, NotHad, Had, Told, IsTurn, Ke
 use Rattle.mbox_record.specs.TurnState.{TurnState, knows_end, had}
 use Rattle.mbox_record.specs.Spool.{SpoolState, IsWithin, IsFull, LeavesPart, KeepsSince, standing, BeginsTurn, EndsTurn}
 use Rattle.box_worker.specs.Limits.{Setting}
-use Rattle.box_worker.specs.Stored.{MailboxState}
+use Rattle.box_worker.specs.Stored.{MailboxState, CountedMailbox}
 use Rattle.box_worker.specs.Turned.{Manner, TurnedMailbox, turned, StoresInTurn, KeepsOutOfTurn, BreaksTurn, FromLock, HadTurn, MissedTurn, TakesTurn}
-use Rattle.box_worker.specs.Turned.{EndsInTurn, IsFound, is_not_had, IsFullWhereBroken}
+use Rattle.box_worker.specs.Turned.{TurnsCopy, MeasuresAgain, CountsInTurn, EndsInTurn, IsFound, is_not_had, IsFullWhereBroken}
 
 -- a copy's turn, by its end
 module _ (manner : Manner) (quota : Option ℕ) (text : List ℕ) (old locked new : MailboxState) (held before after : ℕ)
@@ -36,6 +36,16 @@ module _ (manner : Manner) (quota : Option ℕ) (text : List ℕ) (old locked ne
   turn_by Failed e = inr (turn e.0, is true e.1)
   turn_by NoRoom e = absurd e
   turn_by TooLarge e = absurd e
+
+-- and by the worker's count, which is made again at the lock
+pub had_by : (manner : Manner) (text : List ℕ) (outcome : Outcome) (held : ℕ) (old locked new : CountedMailbox)
+    → BeginsTurn old.mailbox.state locked.mailbox.state held → manner.MayFind (standing old.mailbox.state) (standing locked.mailbox.state)
+    → manner.MayRefuse old.mailbox.state.turn.has_failed false → MeasuresAgain locked.mailbox.state old.limit locked.limit
+    → CountsInTurn (λ quota. EndsInTurn quota text outcome locked.mailbox new.mailbox) locked new → new.in_use ≡ old.in_use
+    → TurnsCopy manner text outcome old new
+had_by manner text outcome held old locked new begins found granted measured ends same quota n counts =
+    let e = ends quota (measured quota n counts) in
+    (turn_by manner quota text old.mailbox locked.mailbox new.mailbox held old.in_use new.in_use begins found granted same outcome e.0, e.1)
 
 -- a turn leaves its lock and its list alone until it ends
 record IsSameLog (locked done : SpoolState) : Type 0 where
@@ -196,7 +206,7 @@ module _ (at : Setting) (manner : Manner) (note : Note) (old new : TurnedMailbox
           part = part.2;
           left = part.1;
         };
-        keeps = (h.begins.covered, keeps.least, keeps.most);
+        keeps = (h.begins.covered, (keeps.least, keeps.most));
         listed = lists old.state locked done h.held h.begins same new.state h.rest.ends;
         free = λ _. ap (λ (s : TurnState). s.in_turn) h.rest.ends.turn;
         found = λ _. (h.found, h.begins.sound, refl);

@@ -1,6 +1,5 @@
 -- What a worker did with one more copy, in order of time.
 use Rattle.std.proofs.Common.{◌≡◌, ◌||◌, ℕ, ◌+◌, List, [], ◌∷◌, ◌++◌, length, Bool, true, false, Option, IsSome, refl, ap, sym, ◌∙◌, subst, arith}
-use Rattle.std.specs.Option.{IfSome}
 use Rattle.std.proofs.lemmas.Bool.{eq-eqb, ne_eqb}
 use Rattle.std.proofs.lemmas.List.{map-append}
 use Rattle.mail_world.specs.declared.Note.{Note}
@@ -9,10 +8,9 @@ use Rattle.mail_world.specs.declared.Outcome.{Outcome}
 use Rattle.mail_world.specs.Counts.{counted}
 use Rattle.mail_world.specs.Records.{record_of}
 use Rattle.mail_world.specs.Slips.{slip_of}
+use Rattle.mail_runs.specs.Courses.{outcomes_in}
 use Rattle.mail_runs.specs.Deeds.{Deed, Took, Told, turns_of}
 use Rattle.mail_runs.specs.Timed.{TimedDeed, whats}
-use Rattle.mbox_record.specs.Mending.{HasNotMended}
-use Rattle.mbox_record.specs.Sharing.{knows_end}
 use Rattle.mbox_record.specs.Spool.{SpoolState}
 use Rattle.mail_post.specs.Channel.{Sender, Inbox, taken, IsTimed, HasSameTimes}
 use Rattle.mail_post.specs.InTime.{Ends, clock_of, AreInTime}
@@ -20,13 +18,13 @@ use Rattle.mail_post.specs.Offered.{IsPart, HaveNumber, IsOffered, any_gone}
 use Rattle.mail_post.proofs.InTime.{deed, none_done, gave_more, gone_keeps_time, took_more, took_none}
 use Rattle.mail_post.proofs.Offered.{part_more, part_both, gone_now, gone_as_before}
 use Rattle.box_worker.specs.declared.limit.Limit.{Limit}
-use Rattle.box_worker.specs.Limits.{Setting, StartsAt, CountsTo}
-use Rattle.box_worker.specs.Stored.{mailbox_of, CountedMailbox, TakesCopy, CountsOutcome, HasStored}
+use Rattle.box_worker.specs.Limits.{Setting, CountsTo}
+use Rattle.box_worker.specs.Stored.{mailbox_of, CountedMailbox, CountsOutcome}
 use Rattle.box_worker.specs.Told.{slip_by}
-use Rattle.box_worker.specs.Turned.{TurnsCopy}
+use Rattle.box_worker.specs.Turned.{Manner, TurnsCopy}
 use Rattle.box_worker.specs.TurnTimes.{worker_sorts, TakeTurns}
 use Rattle.box_worker.specs.Worked.{WorkerState, counted_of, idle, is_lost, HasHandled, worker_ends, IsWorking, HasWorked}
-use Rattle.box_worker.proofs.Handling.{handled_more, counting_none, handled_of, handled_lost}
+use Rattle.box_worker.proofs.Handling.{as_many, handled_more, counting_none, handled_lost}
 
 turns_more : (worker : ℕ) (copies : List Note) (outcomes : List Outcome) (note : Note) (outcome : Outcome) → length outcomes ≡ length copies
     → turns_of worker (copies ++ note ∷ []) (outcomes ++ outcome ∷ []) ≡ (turns_of worker copies outcomes ++ Took note ∷ [])
@@ -114,52 +112,44 @@ turns_end worker copies outcomes before slips was now same x = record {
 }
 
 -- one more copy
-pub working_more : (at : Setting) (copies : List Note) (before was inbox : Inbox Note) (old now : WorkerState) (limit : Option Limit)
+pub working_more : (at : Setting) (manner : Manner) (copies : List Note) (before was inbox : Inbox Note) (old now : WorkerState) (limit : Option Limit)
     (next : List (Sender Slip)) (note : Note) (accepted : Bool)
-    → IsWorking at copies before was old now limit → IsTimed (clock_of now.slips was) was inbox → (outcome : Outcome) (after : CountedMailbox)
+    → IsWorking at manner copies before was old now limit → IsTimed (clock_of now.slips was) was inbox → (outcome : Outcome) (after : CountedMailbox)
     → CountsOutcome outcome now.mailbox after.mailbox
-    → after.mailbox.state.sharing.is_shared ≡ now.mailbox.state.sharing.is_shared
-    → (now.mailbox.state.sharing.is_shared ≡ false → TakesCopy (record_of at.calendar at.site note) outcome (counted_of now limit) after)
-    → (now.mailbox.state.sharing.is_shared ≡ false → after.in_use ≡ now.in_use)
-    → (now.mailbox.state.sharing.is_shared ≡ true → TurnsCopy (record_of at.calendar at.site note) outcome (counted_of now limit) after)
+    → TurnsCopy manner (record_of at.calendar at.site note) outcome (counted_of now limit) after
     → IsOffered (clock_of now.slips inbox) note.txn.lane (slip_by note.txn note.place outcome) accepted now.slips next
-    → IsWorking at (copies ++ note ∷ []) before inbox old
+    → IsWorking at manner (copies ++ note ∷ []) before inbox old
     (record { slips = next; mailbox = after.mailbox; in_use = after.in_use; taken = counted (now.taken + 1); lost = any_gone next }) after.limit
-working_more at copies before was inbox old now limit next note accepted x timed outcome after tallied whose alone never shared offered =
-    let y = handled_more at copies old now limit next note accepted x.counting (clock_of now.slips inbox) outcome after tallied whose alone never shared
-    offered in
+working_more at manner copies before was inbox old now limit next note accepted x timed outcome after tallied turns offered =
+    let h = x.counting.handled in
+    let y = handled_more at manner copies old now limit next note accepted x.counting (clock_of now.slips inbox) outcome after tallied turns offered in
     record {
       counting = y.0;
       turns = subst (λ os. TakeTurns at.worker (copies ++ note ∷ []) os (worker_ends old before) (record { senders = next; inbox = inbox })) (sym y.1)
-          (turn_more at.worker copies x.counting.outcomes note outcome (worker_ends old before) now.slips next was inbox x.counting.each x.turns timed accepted
-          offered
-          (x.counting.numbered note.txn.lane offered.sender offered.is));
+          (turn_more at.worker copies (outcomes_in h.turns) note outcome (worker_ends old before) now.slips next was inbox
+          (as_many at copies h.turns h.each.are) x.turns timed accepted offered (h.numbered note.txn.lane offered.sender offered.is));
     }
 
 -- a worker that took nothing
-pub working_none : (at : Setting) (slips : List (Sender Slip)) (inbox : Inbox Note) (old : SpoolState) (new : CountedMailbox)
-    → HaveNumber at.worker slips → (old.sharing.is_shared ≡ false → HasStored at.calendar at.site [] old new.mailbox)
-    → (old.sharing.is_shared ≡ false → new.mailbox.faulty ≡ true → HasNotMended old new.mailbox.state)
-    → (old.sharing.is_shared ≡ true → new.mailbox ≡ mailbox_of old 0 0 false)
-    → (new.mailbox.stored ≡ 0) × (new.mailbox.over ≡ 0) × (new.in_use ≡ 0)
-    → ((start : ℕ) × (knows_end old.sharing ≡ true → IfSome at.quota (λ quota. StartsAt old start)) × CountsTo at.quota start new.limit)
-    → new.mailbox.state.sharing.is_shared ≡ old.sharing.is_shared
-    → IsWorking at [] inbox inbox (idle slips old) (record { slips = slips; mailbox = new.mailbox; in_use = new.in_use; taken = 0; lost = any_gone slips })
-    new.limit
-working_none at slips inbox old new mine stored broken left none begins whose =
-    let y = counting_none at slips old new mine stored broken left none begins whose in
+pub working_none : (at : Setting) (manner : Manner) (slips : List (Sender Slip)) (inbox : Inbox Note) (old : SpoolState) (new : CountedMailbox)
+    → HaveNumber at.worker slips → new.mailbox ≡ mailbox_of old 0 0 false → new.in_use ≡ 0 → CountsTo at.quota 0 new.limit
+    → IsWorking at manner [] inbox inbox (idle slips old)
+    (record { slips = slips; mailbox = new.mailbox; in_use = new.in_use; taken = 0; lost = any_gone slips }) new.limit
+working_none at manner slips inbox old new mine left none begins =
+    let y = counting_none at manner slips old new mine left none begins in
     let ends : Ends Slip Note = record { senders = slips; inbox = inbox } in
     record { counting = y.0; turns = subst (λ os. TakeTurns at.worker [] os ends ends) (sym y.1) (turns_none at.worker ends) }
 
 -- a worker whose channel has ended
-pub worked : (at : Setting) (before was after : Inbox Note) (old now : WorkerState) (limit : Option Limit) → IsWorking at (taken was) before was old now limit
+pub worked : (at : Setting) (manner : Manner) (before was after : Inbox Note) (old now : WorkerState) (limit : Option Limit)
+    → IsWorking at manner (taken was) before was old now limit
     → after.channel ≡ before.channel → after.lanes ≡ before.lanes → after.capacity ≡ before.capacity
     → taken after ≡ taken was → HasSameTimes was after → IsSome after.gone
-    → (lost : Bool) → lost ≡ (any_gone now.slips || is_lost after.gone) → HasWorked at before after old (record now { lost = lost })
-worked at before was after old now limit x channel lanes capacity took same over lost found =
+    → (lost : Bool) → lost ≡ (any_gone now.slips || is_lost after.gone) → HasWorked at manner before after old (record now { lost = lost })
+worked at manner before was after old now limit x channel lanes capacity took same over lost found =
     let new : WorkerState = record now { lost = lost } in
-    let P : List Note → Type 0 = λ copies. (h : HasHandled at copies old new)
-    × TakeTurns at.worker copies h.outcomes (worker_ends old before) (worker_ends new after) in
-    let h : HasHandled at (taken was) old new = handled_lost at (taken was) old now lost (handled_of at (taken was) old now limit x.counting) in
-    let all = subst P (sym took) (h, turns_end at.worker (taken was) x.counting.outcomes (worker_ends old before) now.slips was after same x.turns) in
+    let P : List Note → Type 0 = λ copies. (h : HasHandled at manner copies old new)
+    × TakeTurns at.worker copies (outcomes_in h.turns) (worker_ends old before) (worker_ends new after) in
+    let h : HasHandled at manner (taken was) old new = handled_lost at manner (taken was) old now lost x.counting.handled in
+    let all = subst P (sym took) (h, turns_end at.worker (taken was) (outcomes_in h.turns) (worker_ends old before) now.slips was after same x.turns) in
     record { channel = channel; lanes = lanes; capacity = capacity; ended = over; lost = found; handled = all.0; turns = all.1 }

@@ -1,11 +1,10 @@
 //! What a worker counts of its mailbox under a quota.
 
-ghost use Rattle.std.specs.Prelude.{◌≡◌, ◌+◌, ◌<◌, ◌^◌, ℕ, true, SomeIff};
+ghost use Rattle.std.specs.Prelude.{◌≡◌, ◌+◌, ◌<◌, ◌^◌, ℕ, SomeIff};
 ghost use Rattle.mail_world.specs.Counts.{counted};
-ghost use Rattle.mbox_record.specs.Sharing.{knows_end};
-ghost use Rattle.box_worker.specs.Limits.{StartsAt, Admits, missing};
+ghost use Rattle.box_worker.specs.Limits.{Admits, missing};
 
-use mbox_record::{Spool, Tail, what_mends};
+use mbox_record::{Tail, what_mends};
 
 /// A quota of bytes, and how many stand in the mailbox by the worker's own count, which stays at 2^64 - 1.
 #[derive(Clone, Copy, Debug, PartialEq, Eq)]
@@ -15,14 +14,6 @@ pub struct Limit {
 }
 
 impl Limit {
-    /// For a spool before it is mended: what mending appends is counted already.
-    pub fn of<S: Spool>(spool: &S, quota: u64) -> Limit
-        ensures { (start : ℕ) × (knows_end (S.state spool.now).sharing ≡ true → StartsAt (S.state spool.now) start)
-            × (result ≡ record { quota = quota; held = counted start }) }
-    {
-        Limit::at(quota, spool.held(), spool.tail())
-    }
-
     /// For a mailbox of that many bytes that end so: what mends it is counted already.
     pub fn at(quota: u64, held: u64, tail: Tail) -> Limit
         ensures { result ≡ record { quota = quota; held = counted (held + missing tail) } }

@@ -17,7 +17,7 @@ pub struct WorkerReport<N: DepotName, S: Spool, G: Gate> {
     pub stored: u64,
     pub over: u64,
     pub in_use: u64,
-    /// Whether the spool failed: a shared one in the last turn that was had.
+    /// Whether the last turn that was had broke.
     pub faulty: bool,
     /// Whether a channel was found gone: the mailbox's before its closing marks came, or a lane's that handed a slip
     /// back.

@@ -15,9 +15,9 @@ use mbox_record::{CountSpool, Envelope, RecordWriter, Spool, SpoolFault, mend};
 use msg_depot::{Depot, DepotName, Hold};
 use std::sync::Wait;
 
-/// Appends the record of the held message and has it kept. After a fault a private spool holds a prefix of the record.
+// Appends the record of the held message and has it kept.
 #[tactic(auto, using(crate::proofs::Messages::not_kept))]
-pub(crate) fn store<N: DepotName, S: Spool, R: Wait>(
+fn store<N: DepotName, S: Spool, R: Wait>(
     rt: &R,
     spool: &mut S,
     depot: &Depot<N>,

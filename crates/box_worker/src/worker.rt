@@ -7,6 +7,7 @@ ghost use Rattle.mail_post.specs.InTime.{clock_of};
 ghost use Rattle.mail_post.specs.Offered.{HaveNumber};
 ghost use Rattle.box_worker.specs.Limits.{setting_by};
 ghost use Rattle.box_worker.specs.Told.{worker_of};
+ghost use Rattle.box_worker.specs.Turned.{manner_of};
 ghost use Rattle.box_worker.specs.Worked.{WorkerState, idle, worker_back, IsWorking, HasWorked};
 ghost use Rattle.box_worker.specs.Between.{worker_state};
 
@@ -23,8 +24,8 @@ use std::sync::Wait;
 
 /// Stores the copies that come, one after another, and gives each lane a slip for each of its own, until the channel is
 /// closed or lost. Under a quota a copy whose record would bring the mailbox above it isn't stored, and its
-/// lane is told so. At a mailbox that other programs use too each copy has a turn, from a lock to an unlock; one whose
-/// turn is missed or breaks is told Failed, and the next has a turn again. It takes no memory.
+/// lane is told so. Each copy has a turn at the mailbox, from a lock to an unlock; one whose turn is missed or breaks is
+/// told Failed, and the next has a turn again. It takes no memory.
 pub fn worker_run<N: DepotName, S: Spool, G: Gate, R: Wait>(
     rt: &R,
     receiver: Receiver<N>,
@@ -38,8 +39,8 @@ pub fn worker_run<N: DepotName, S: Spool, G: Gate, R: Wait>(
     requires fresh { taken receiver ≡ [] }
     requires lanes { length slips.items ≡ receiver.lanes }
     requires worker { HaveNumber (worker_of slips.items) slips.items }
-    ensures { HasWorked (setting_by site.now quota (worker_of slips.items)) receiver result.receiver
-        (idle slips.items (S.state spool)) result.worker }
+    ensures { HasWorked (setting_by site.now quota (worker_of slips.items)) (manner_of S.MayFind S.MayRefuse) receiver
+        result.receiver (idle slips.items (S.state spool)) result.worker }
 {
     let mut receiver = receiver;
     let mut worker = Worker {
@@ -99,10 +100,10 @@ impl<S: Spool, G: Gate> Worker<S, G> {
         requires lane { post.txn.lane < length self.old.slips }
         ensures { (quota : Option ℕ) (worker : ℕ) (copies : List Note) (old : WorkerState) (before was : Inbox Note)
             → IsTimed (clock_of self.old.slips was) was receiver.now
-            → IsWorking (setting_by site.now quota worker) copies before was old
+            → IsWorking (setting_by site.now quota worker) (manner_of S.MayFind S.MayRefuse) copies before was old
             (worker_state self.old) self.old.mailbox.limit
-            → IsWorking (setting_by site.now quota worker) (copies ++ post ∷ []) before receiver.now old
-            (worker_state self.new) self.new.mailbox.limit }
+            → IsWorking (setting_by site.now quota worker) (manner_of S.MayFind S.MayRefuse) (copies ++ post ∷ [])
+            before receiver.now old (worker_state self.new) self.new.mailbox.limit }
     {
         let Parts {
             txn,

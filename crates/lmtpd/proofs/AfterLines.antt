@@ -3,7 +3,7 @@ use Rattle.std.proofs.Common.{◌∙◌, ◌++◌, List, ℕ, Option, Err, Ok, O
 use Rattle.std.specs.Prelude.{Result}
 use Rattle.std.specs.Io.KnownBytes.{Appends}
 use Rattle.lmtpd_words.specs.Output.{IsCutOff}
-use Rattle.mbox_record.proofs.Taken.{Appends-then}
+use Rattle.std.proofs.KnownBytes.{Appends-trans}
 
 cut_after : (u v w : Option (List ℕ)) (before text : List ℕ) → Appends u v before → IsCutOff v w text → IsCutOff u w (before ++ text)
 cut_after u v w before text written cut = record {
@@ -12,7 +12,7 @@ cut_after u v w before text written cut = record {
     rest = cut.begins.rest;
     whole = ap (λ (t : List ℕ). before ++ t) cut.begins.whole ∙ sym (append_assoc before cut.prefix cut.begins.rest);
   };
-  appended = Appends-then u v w before cut.prefix written cut.appended;
+  appended = Appends-trans u v w before cut.prefix written cut.appended;
 }
 
 -- a text that was cut off after one that was written whole

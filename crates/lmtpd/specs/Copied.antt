@@ -1,6 +1,7 @@
 -- What came of a copy that the words ask for, the line on standard error and the status.
 use Rattle.std.specs.Prelude.{◌≡◌, ℕ, Bool, List, [], ◌∷◌, ◌++◌, codes, Option, Some, None}
 use Rattle.mail_world.specs.Text.{lf}
+use Rattle.mbox_file.specs.MailboxFile.{FileState}
 use Rattle.lmtpd_words.specs.declared.words.CopyWords.{CopyWords}
 use Rattle.lmtpd_setup.specs.Lines.{fault_line, mark, unread_line}
 use Rattle.lmtpd_setup.specs.declared.fault.Fault.TheVariants as fault
@@ -31,10 +32,10 @@ abbrev pub copy_status : Option CopyFault → ℕ
 copy_status None = 0
 copy_status (Some f) = 1
 
--- The file that the words name was copied to where they say, or it wasn't, with a fault: `unread` is what contracts see
--- of a mailbox's file, `target` of a copy's.
-pub record IsCopiedAsAsked {F T : Type 0} (unread : F → Option (List ℕ)) (target : T → TargetState) (words : CopyWords)
-    (copied : Copied) : Type 0 where
+-- The file that the words name was copied to where they say, or it wasn't, with a fault: `source` and `unread` are what
+-- contracts see of a mailbox's file, `target` of a copy's.
+pub record IsCopiedAsAsked {F T : Type 0} (source : F → FileState) (unread : F → Option (List ℕ))
+    (target : T → TargetState) (words : CopyWords) (copied : Copied) : Type 0 where
   pub file : copied.file.now ≡ words.file.now
   pub to : copied.to.now ≡ words.to.now
-  pub done : copied.fault ≡ None → HasCopiedFile unread target
+  pub done : copied.fault ≡ None → HasCopiedFile source unread target

@@ -10,7 +10,7 @@ ghost use Rattle.lmtpd.specs.Copied.{IsCopiedAsAsked, copy_line, copy_status};
 use lmtpd_copy::{CopyFault, CopyTarget, TargetFile, copy_file};
 use lmtpd_setup::{Exit, Fault, mark, write_fault};
 use lmtpd_words::{CopyWords, WriteFault, write_each};
-use mbox_rd::{MailboxSource, RangeLock, StdMailboxFile};
+use mbox_rd::{MailboxFile, MailboxSource, RangeLock, StdMailboxFile};
 use std::alloc::Global;
 use std::fs::Files;
 use std::io::Write;
@@ -31,8 +31,9 @@ pub fn copy_asked<'a, R>(rt: R, alloc: Global, words: &CopyWords<'a>) -> Copied<
 where
     R: Files + Clock + Copy + Drop,
     R::File: RangeLock,
-    ensures { IsCopiedAsAsked (⟦<StdMailboxFile<R> as MailboxSource>⟧.unread)
-        (⟦<TargetFile<'static, R> as CopyTarget>⟧.state) words.now result }
+    ensures { IsCopiedAsAsked (⟦<StdMailboxFile<R> as MailboxFile>⟧.state)
+        (⟦<StdMailboxFile<R> as MailboxSource>⟧.unread) (⟦<TargetFile<'static, R> as CopyTarget>⟧.state)
+        words.now result }
 {
     let copied = copy_file(rt, alloc, words.file, words.to);
     Copied {

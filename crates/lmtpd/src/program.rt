@@ -21,7 +21,7 @@ use lmtpd_rehearse::Rehearsed;
 use lmtpd_serve::Served;
 use lmtpd_setup::{Exit, ServedMailbox, ServerLog, Stop, report_fault};
 use lmtpd_words::{Words, is_journal, read_words};
-use mbox_rd::{FileLock, MailboxSource, RangeLock, Spool, StdMailboxFile};
+use mbox_rd::{FileLock, MailboxFile, MailboxSource, RangeLock, Spool, StdMailboxFile};
 use std::env::Env;
 use std::fs::Files;
 use std::io::{Read, Write};
@@ -80,7 +80,7 @@ where
         (⟦<LineLog<ServerLog<H>, H> as LaneLog>⟧.addresses) (⟦<ServedMailbox<H, ServerLog<H>> as Spool>⟧.state)
         held_as asked (W.contents writer) (W.contents after))
         (IsCheckedAsAsked P.File.remaining W.contents (W.contents writer))
-        (IsCopiedAsAsked (⟦<StdMailboxFile<H> as MailboxSource>⟧.unread)
+        (IsCopiedAsAsked (⟦<StdMailboxFile<H> as MailboxFile>⟧.state) (⟦<StdMailboxFile<H> as MailboxSource>⟧.unread)
         (⟦<TargetFile<'static, H> as CopyTarget>⟧.state)) (as_texts words.entry.now)
         (streams_of R.remaining W.contents reader writer) result.done }
     ensures status { result.exit.status ≡ exit_status result.done }
@@ -119,7 +119,7 @@ where
         (⟦<LineLog<ServerLog<H>, H> as LaneLog>⟧.addresses) (⟦<ServedMailbox<H, ServerLog<H>> as Spool>⟧.state)
         held_as asked (W.contents writer) (W.contents after))
         (IsCheckedAsAsked P.File.remaining W.contents (W.contents writer))
-        (IsCopiedAsAsked (⟦<StdMailboxFile<H> as MailboxSource>⟧.unread)
+        (IsCopiedAsAsked (⟦<StdMailboxFile<H> as MailboxFile>⟧.state) (⟦<StdMailboxFile<H> as MailboxSource>⟧.unread)
         (⟦<TargetFile<'static, H> as CopyTarget>⟧.state)) (as_texts words.entry.now)
         (streams_of R.remaining W.contents reader writer) result }
 {

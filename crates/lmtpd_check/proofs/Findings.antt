@@ -7,7 +7,7 @@ use Rattle.std.proofs.lemmas.List.{get_or-map, length-map}
 use Rattle.std.proofs.lemmas.List.Elements.{All-nil, All-push}
 use Rattle.lmtp_text.specs.Sites.{texts}
 use Rattle.lmtpd_words.specs.Output.{IsCutOff, pair_texts}
-use Rattle.mbox_record.proofs.Taken.{Appends-then}
+use Rattle.std.proofs.KnownBytes.{Appends-trans}
 use Rattle.lmtpd_words.proofs.Written.{Appends-nil, breaks_next}
 use Rattle.lmtpd_check.specs.Checked.{AreAmong, finding_line, finding_lines, IsFindingOf, IsChecked}
 use Rattle.lmtpd_check.specs.declared.checked.Finding.{Finding}
@@ -63,7 +63,7 @@ module _ {F : Type 0} (remaining : F → Option (List ℕ)) (names : List (Bor (
     count = length-append findings (finding ∷ []) ∙ ap (λ (k : ℕ). k + 1) h.count;
     each = All-push (IsFindingOf remaining) findings finding h.each found;
     written = subst (λ (text : List ℕ). Appends u w text) (sym (line_more names i findings finding d h.count within))
-        (Appends-then u v w (finding_lines (texts names) findings) (finding_line (get_or names i d).now finding) h.written taken);
+        (Appends-trans u v w (finding_lines (texts names) findings) (finding_line (get_or names i d).now finding) h.written taken);
   }
 
   -- a file whose line was cut off

@@ -1,9 +1,9 @@
 -- Bytes that are read of one file and written to another.
 use Rattle.std.proofs.Common.{◌≡◌, ◌∙◌, ℕ, ◌<◌, List, [], ◌++◌, length, take, Option, Some, None, Result, Ok, Err, OnOk, Bool, ap, sym, subst, refl, append-nil}
 use Rattle.std.specs.Io.KnownBytes.{Appends, Consumes, IsAtEnd}
-use Rattle.std.proofs.KnownBytes.{Consumes-trans}
-use Rattle.mbox_record.proofs.Taken.{Appends-then}
-use Rattle.mbox_file.specs.MailboxFile.{FileState}
+use Rattle.std.proofs.KnownBytes.{Appends-trans, Consumes-trans}
+use Rattle.mbox_file.specs.MailboxFile.{FileState, IsHeld}
+use Rattle.mbox_rd.specs.Turn.{HasLetGo}
 use Rattle.lmtpd_copy.specs.Copied.{Copies, HasCopiedFile, IsCopied, StaysLocked, StaysMade}
 use Rattle.lmtpd_copy.specs.Target.{TargetState}
 
@@ -28,7 +28,7 @@ pub moved_more : (u v w r b c d : Option (List ℕ)) (piece : List ℕ) → HasM
 moved_more u v w r b c d piece h came same written = record {
   text = h.text ++ piece;
   came = subst (λ (l : Option (List ℕ)). Consumes u l (h.text ++ piece)) (sym same) (Consumes-trans u v w h.text piece h.came came);
-  written = Appends-then b c d h.text piece h.written written;
+  written = Appends-trans b c d h.text piece h.written written;
 }
 
 -- a read that gave nothing is the end
@@ -52,6 +52,15 @@ made_then s t u x y = y ∙ ap (λ (v : TargetState). record v { bytes = u.bytes
 
 -- what is left of a copy where only bytes are known
 pub copied_file : {F T U E : Type 0} (r : Result U E) (a : Bool) (s : F → FileState) (u : F → Option (List ℕ)) (b : Bool) (t : T → TargetState) (f g : F) (x y : T)
-    → OnOk r (IsCopied a s u b t f g x y) → OnOk r (HasCopiedFile u t)
-copied_file (Ok v) a s u b t f g x y h = (h.copied.filled.first, (h.copied.made, (y, h.copied.filled.copied)))
+    → OnOk r (IsCopied a s u b t f g x y) → OnOk r (HasCopiedFile s u t)
+copied_file (Ok v) a s u b t f g x y h =
+    let filled = h.copied.filled in record {
+      first = filled.first;
+      held = subst IsHeld (sym filled.same) h.stands.held;
+      made = h.copied.made;
+      after = y;
+      copied = filled.copied;
+      last = g;
+      let_go = subst (λ (v : FileState). HasLetGo v (s g)) filled.stays h.let_go;
+    }
 copied_file (Err e) a s u b t f g x y h = tt

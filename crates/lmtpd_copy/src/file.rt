@@ -6,7 +6,7 @@ use crate::copying::copy_mailbox;
 use crate::fault::CopyFault;
 use crate::target::CopyTarget;
 use crate::target_file::TargetFile;
-use mbox_rd::{MailboxSource, RangeLock, StdMailboxFile};
+use mbox_rd::{MailboxFile, MailboxSource, RangeLock, StdMailboxFile};
 use std::alloc::Global;
 use std::fs::Files;
 use std::io;
@@ -26,8 +26,8 @@ pub fn copy_file<R: Files + Clock + Copy + Drop>(
 ) -> Result<(), CopyFault>
 where
     R::File: RangeLock,
-    ensures { OnOk result (HasCopiedFile (⟦<StdMailboxFile<R> as MailboxSource>⟧.unread)
-        (⟦<TargetFile<'static, R> as CopyTarget>⟧.state)) }
+    ensures { OnOk result (HasCopiedFile (⟦<StdMailboxFile<R> as MailboxFile>⟧.state)
+        (⟦<StdMailboxFile<R> as MailboxSource>⟧.unread) (⟦<TargetFile<'static, R> as CopyTarget>⟧.state)) }
 {
     let mut buffer = vec![in alloc; 0u8; BUFFER_SIZE]?;
     let mut source = StdMailboxFile::existing(rt, alloc, from).map_err(fault_of)?;
@@ -42,7 +42,7 @@ fn copy_opened<F: MailboxSource, T: CopyTarget, C: Clock>(
     buffer: &mut [u8],
 ) -> Result<(), CopyFault>
     requires { 0 < length buffer.old }
-    ensures { OnOk result (HasCopiedFile F.unread T.state) }
+    ensures { OnOk result (HasCopiedFile F.state F.unread T.state) }
 {
     copy_mailbox(source, target, clock, buffer)
 }

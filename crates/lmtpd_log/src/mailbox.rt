@@ -44,7 +44,7 @@ impl<S, G: Log> LoggedMailbox<S, G> {
         self.is_in_use = true;
         match in_use {
             InUse::System(code) => self.show_in_use(&io::Error::from_raw_os_error(code)),
-            InUse::Locked | InUse::NotPlain => self.show_in_use(&in_use),
+            InUse::Locked | InUse::Failed | InUse::NotPlain => self.show_in_use(&in_use),
         }
     }
 
@@ -70,11 +70,11 @@ impl<S, G: Log> LoggedMailbox<S, G> {
 impl<S: Spool, G: Log> Spool for LoggedMailbox<S, G> {
     ghost state = { λ mailbox. S.state (spool_in mailbox) };
 
-    fn is_shared(&self) -> bool {
-        self.spool.is_shared()
-    }
+    ghost MayFind = { S.MayFind };
 
-    fn lock(&mut self) -> Result<Option<u64>, InUse> {
+    ghost MayRefuse = { S.MayRefuse };
+
+    fn lock(&mut self) -> Result<u64, InUse> {
         let locked = self.spool.lock();
         match locked {
             Ok(_) => self.tell_free(),
@@ -97,9 +97,5 @@ impl<S: Spool, G: Log> Spool for LoggedMailbox<S, G> {
 
     fn tail(&self) -> Tail {
         self.spool.tail()
-    }
-
-    fn held(&self) -> u64 {
-        self.spool.held()
     }
 }

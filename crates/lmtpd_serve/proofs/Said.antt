@@ -1,7 +1,7 @@
 -- What a server said before its first client, and then after its last.
 use Rattle.std.proofs.Common.{◌≡◌, ◌∙◌, ◌++◌, Bool, true, false, List, ℕ, Option, ap, append_assoc, refl, subst, sym}
 use Rattle.std.specs.Io.KnownBytes.{Appends}
-use Rattle.mbox_record.proofs.Taken.{Appends-then}
+use Rattle.std.proofs.KnownBytes.{Appends-trans}
 use Rattle.lmtpd_words.specs.Output.{IsListed}
 use Rattle.lmtpd_words.proofs.Written.{Appends-keeps}
 use Rattle.lmtpd_serve.specs.Served.{IsAnnounced, ListsOn}
@@ -28,7 +28,7 @@ said_on unknown false cut u v w text a on =
     let all : first.listed ≡ a.text = first.lists.whole (λ e. cc) in
     record {
       listed = a.text ++ then.listed;
-      output = Appends-then u v w a.text then.listed (subst (λ t. Appends u v t) all first.output) then.output;
+      output = Appends-trans u v w a.text then.listed (subst (λ t. Appends u v t) all first.output) then.output;
       lists = record {
         begins = record {
           rest = then.lists.begins.rest;

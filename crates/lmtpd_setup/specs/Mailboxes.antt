@@ -3,7 +3,7 @@ use Rattle.std.specs.Prelude.{ℕ, List, ◌++◌, Option, Some, codes}
 use Rattle.std.specs.Borrow.{Bor}
 use Rattle.mbox_file.specs.StdFile.{file_mode, file_path}
 use Rattle.mbox_file.specs.declared.std_file.StdMailboxFile.{StdMailboxFile}
-use Rattle.mbox_rd.specs.SharedSpool.{SharedSpool}
+use Rattle.mbox_rd.specs.FileSpool.{FileSpool}
 use Rattle.lmtpd_log.specs.Logged.{file_in, spool_in}
 use Rattle.lmtpd_log.specs.declared.file.LoggedFile.{LoggedFile}
 use Rattle.lmtpd_log.specs.declared.mailbox.LoggedMailbox.{LoggedMailbox}
@@ -18,7 +18,7 @@ pub record Held : Type 0 where
   pub wait : ℕ
 
 -- how a mailbox is had
-abbrev pub held_in : {R F D G : Type 0} → SharedSpool (LoggedFile (StdMailboxFile R F D) G) → Held
+abbrev pub held_in : {R F D G : Type 0} → FileSpool (LoggedFile (StdMailboxFile R F D) G) → Held
 held_in spool = record {
   path = file_path (file_in spool.file);
   mode = file_mode (file_in spool.file);
@@ -27,7 +27,7 @@ held_in spool = record {
 
 -- the same of one of which it is logged that it is in use
 abbrev pub held_as : {R F D G : Type 0}
-    → LoggedMailbox (SharedSpool (LoggedFile (StdMailboxFile R F D) G)) G → Held
+    → LoggedMailbox (FileSpool (LoggedFile (StdMailboxFile R F D) G)) G → Held
 held_as mailbox = held_in (spool_in mailbox)
 
 -- where a mailbox of that name is

@@ -13,7 +13,7 @@ use crate::stop::Stop;
 use lmtpd_log::{LoggedFile, LoggedMailbox};
 use lmtpd_words::printable;
 use log::{Log, error};
-use mbox_rd::{RangeLock, SharedSpool, StdMailboxFile};
+use mbox_rd::{FileSpool, RangeLock, StdMailboxFile};
 use std::alloc::{AllocError, Global};
 use std::fs::Files;
 use std::io;
@@ -21,12 +21,11 @@ use std::io::ErrorKind;
 use std::sync::Arc;
 use std::time::Clock;
 
-/// A mailbox's file that other programs read and empty too, of which it is logged that it fails, and that waits for
-/// them until the server is to end.
-type SharedMailbox<R, G> = SharedSpool<LoggedFile<StdMailboxFile<R>, G>, HurriedClock<R>>;
+/// A mailbox of whose file it is logged that it fails, and that waits for other programs until the server is to end.
+type WaitingMailbox<R, G> = FileSpool<LoggedFile<StdMailboxFile<R>, G>, HurriedClock<R>>;
 
 /// One of which it is logged that it is in use.
-pub type ServedMailbox<R, G> = LoggedMailbox<SharedMailbox<R, G>, G>;
+pub type ServedMailbox<R, G> = LoggedMailbox<WaitingMailbox<R, G>, G>;
 
 /// Where mailboxes are, what their files have after their names, how many seconds a turn at one is waited for, the
 /// permission bits of a file that is made, and whether a mailbox is had though its file can't be opened.
@@ -92,7 +91,7 @@ fn open_mailbox<'a, R, G>(
     name: &'a [u8],
     curfew: &Arc<ServerCurfew<R>>,
     log: G,
-) -> Result<SharedMailbox<R, G>, Stop<'a>>
+) -> Result<WaitingMailbox<R, G>, Stop<'a>>
 where
     R: Files + Clock + Copy + Drop,
     R::File: RangeLock,
@@ -103,7 +102,7 @@ where
     let file = open_file(rt, alloc, access, name, &log)?;
     let file = logged_file(alloc, file, name, log)?;
     let clock = HurriedClock::new(rt, shared(curfew)?);
-    match SharedSpool::new(alloc, file, clock, access.wait) {
+    match FileSpool::new(alloc, file, clock, access.wait) {
         Ok(spool) => Ok(spool),
         Err(_) => Err(Stop::Fault(Fault::Memory)),
     }

@@ -4,7 +4,7 @@ use Rattle.std.proofs.Common.{append-nil}
 use Rattle.std.proofs.lemmas.List.{take-append-drop, take_rest, drop_more}
 use Rattle.std.specs.List.{flat_map}
 use Rattle.std.specs.Io.KnownBytes.{Appends, Keeps}
-use Rattle.mbox_record.proofs.Taken.{Appends-then}
+use Rattle.std.proofs.KnownBytes.{Appends-trans}
 use Rattle.lmtpd_words.specs.Output.{IsCutOff}
 
 -- a writer
@@ -43,7 +43,7 @@ pub writes_next : (u v w : Option (List ℕ)) (text a b : List ℕ) → WritesUp
 writes_next u v w text a b x y = record {
   prefix = x.prefix ++ a;
   whole = x.whole ∙ sym (append_assoc x.prefix a b);
-  appended = Appends-then u v w x.prefix a x.appended y;
+  appended = Appends-trans u v w x.prefix a x.appended y;
 }
 
 pub breaks_next : (u v w : Option (List ℕ)) (text a b : List ℕ) → WritesUpTo u v text (a ++ b) → IsCutOff v w a → IsCutOff u w text
@@ -54,7 +54,7 @@ breaks_next u v w text a b x y = record {
     whole = x.whole ∙ ap (λ l. x.prefix ++ (l ++ b)) y.begins.whole ∙ ap (λ l. x.prefix ++ l) (append_assoc y.prefix y.begins.rest b)
         ∙ sym (append_assoc x.prefix y.prefix (y.begins.rest ++ b));
   };
-  appended = Appends-then u v w x.prefix y.prefix x.appended y.appended;
+  appended = Appends-trans u v w x.prefix y.prefix x.appended y.appended;
 }
 
 pub writes_more : (u v w : Option (List ℕ)) (text rest : List ℕ) (n : ℕ) → WritesUpTo u v text rest → Appends v w (take n rest)

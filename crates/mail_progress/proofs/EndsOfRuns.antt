@@ -1,4 +1,4 @@
--- In the last house of the computed run all is finished.
+-- In the last houses of the computed runs all is finished.
 use Rattle.std.proofs.Common.{◌≡◌, ℕ, zero, suc, List, [], ◌∷◌, length, map, Some, None, refl, ap, sym, ◌∙◌, subst}
 use Rattle.std.specs.Prelude.{slice_get, nat_lt, if◌then◌else◌}
 use Rattle.std.specs.List.{AllByRecursion}
@@ -11,6 +11,7 @@ use Rattle.mail_world.proofs.Accepted.{each_at}
 use Rattle.mail_world.proofs.Computed.{everything}
 use Rattle.mail_world.proofs.OneHouse.{each_once}
 use Rattle.mail_world.proofs.OneHealing as healed
+use Rattle.mail_world.proofs.OneRefusal as refused
 use Rattle.mail_progress.specs.Orderly.{HasOutcome}
 use Rattle.mail_progress.specs.Finished.{copies_sealed, IsFinished}
 
@@ -61,6 +62,20 @@ heals_all = all_finished 2 (events_of healed.one_run) healed.h23 _ _ refl refl (
       given_away = refl;
       answered = ((tt, (tt, tt)), tt);
       gathered = (tt, (tt, tt));
+      drained = refl;
+      free_hand = refl;
+    })
+
+pub refuses_all : IsFinished 2 (events_of refused.one_run) refused.h41
+unfolding everything
+refuses_all = all_finished 2 (events_of refused.one_run) refused.h41 _ _ refl refl (refl, tt) each_once
+    (record {
+      no_draft = refl;
+      none_to_offer = refl;
+      collected = refl;
+      given_away = refl;
+      answered = ((tt, (tt, (tt, (tt, (tt, tt))))), tt);
+      gathered = (tt, (tt, (tt, (tt, (tt, tt)))));
       drained = refl;
       free_hand = refl;
     })

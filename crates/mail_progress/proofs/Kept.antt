@@ -211,13 +211,16 @@ kept_step h (Take w) new s st =
 kept_step h (Lock w bytes) new s st =
     let lock : Standing = record { bytes = bytes; synced = st.kept; failures = st.failures } in
     subst KeptSoFar (sym st.after) (kept_box h _ w st.box _ s (λ note bytes. refl) st.is refl refl
-    (λ ok. let r = hand_of h st.box st.copy st.in_hand ok.hand in record { posts = ok.posts; hand = (r.0, part_begun h st.copy.post.note lock); prefix = ok.prefix }))
+    (λ ok. let r = hand_of h st.box st.copy st.in_hand ok.hand in
+    record { posts = ok.posts; hand = (r.0, part_begun h st.copy.post.note lock); prefix = ok.prefix }))
 kept_step h (Miss w) new s st =
     subst KeptSoFar (sym st.after) (kept_box h _ w st.box _ s (λ note bytes. refl) st.is refl refl
     (λ ok. let r = hand_of h st.box st.copy st.in_hand ok.hand in record { posts = ok.posts; hand = (r.0, tt); prefix = ok.prefix }))
 kept_step h (Write w bytes) new s st =
     subst KeptSoFar (sym st.after) (kept_box h _ w st.box _ s (λ note bytes. refl) st.is refl refl
-    (λ ok. let r = hand_of h st.box st.copy st.in_hand ok.hand in record { posts = ok.posts; hand = (r.0, part_more h st.copy.post.note st.lock st.written bytes st.more st.next (subst (IsPart h st.copy.post.note) st.going r.1)); prefix = ok.prefix }))
+    (λ ok. let r = hand_of h st.box st.copy st.in_hand ok.hand in
+    let part = subst (IsPart h st.copy.post.note) st.going r.1 in
+    record { posts = ok.posts; hand = (r.0, part_more h st.copy.post.note st.lock st.written bytes st.more st.next part); prefix = ok.prefix }))
 kept_step h (Sync w) new s st =
     subst KeptSoFar (sym st.after) (kept_box h _ w st.box _ s (λ note bytes. refl) st.is refl refl
     (λ ok. let r = hand_of h st.box st.copy st.in_hand ok.hand in record { posts = ok.posts; hand = (r.0, tt); prefix = ok.prefix }))
@@ -235,7 +238,8 @@ kept_step h (GiveSlip w o) new s st =
     (λ ok. record { posts = ok.posts; hand = tt; prefix = ok.prefix }) (λ ok. ok))
 kept_step h (Reclaim slot generation) new s st = subst KeptSoFar (sym st.2) (kept_none h _ s (λ note bytes. refl) refl refl)
 kept_step h (Close b) new s st =
-    subst KeptSoFar (sym st.3) (kept_box h _ b st.0 _ s (λ note bytes. refl) st.1 refl refl (λ ok. record { posts = ok.posts; hand = ok.hand; prefix = ok.prefix }))
+    subst KeptSoFar (sym st.3) (kept_box h _ b st.0 _ s (λ note bytes. refl) st.1 refl refl
+    (λ ok. record { posts = ok.posts; hand = ok.hand; prefix = ok.prefix }))
 
 kept_run : (h : House) (run : List Happened) → KeptSoFar h → Run h run → KeptSoFar (last_house h run)
 kept_run h [] s r = s

@@ -20,8 +20,8 @@ use Rattle.mail_world.proofs.Spools.{in_hand, open_ending, sound_step, every_run
 use Rattle.mail_world.proofs.Depots.{set_at, used, times-append, begins_turn, puts_turn, seals_turn, releases_turn, drops_turn}
 use Rattle.mail_world.proofs.Holds.{drop_get}
 use Rattle.mail_progress.specs.Orderly.{IsInOrder, IsOrderly}
-use Rattle.mail_progress.specs.StepsLeft.{size, steps_of_copy, steps_of_turn, steps_in_hand, steps_of_one, steps_of_hold, steps_of_lane, steps_of_box, steps_of_slot}
-use Rattle.mail_progress.specs.StepsLeft.{steps_left, IsBounded, AreBounded, EachLowers, EveryRunEnds}
+use Rattle.mail_progress.specs.StepsLeft.{size, steps_of_copy, steps_of_turn, steps_in_hand, steps_of_one, steps_of_hold, steps_of_lane, steps_of_box}
+use Rattle.mail_progress.specs.StepsLeft.{steps_of_slot, steps_left, IsBounded, AreBounded, EachLowers, EveryRunEnds}
 use Rattle.mail_world.proofs.Holds.{sum_set, sum_remove, part_le}
 use Rattle.mail_progress.proofs.Sums.{sum_last, sum_one_more}
 use Rattle.mail_progress.proofs.Slots.{held_changes, held_goes}

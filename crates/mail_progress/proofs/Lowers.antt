@@ -19,7 +19,8 @@ pub lock_lowers : (h : House) (note : Note) (lock : Standing) → steps_of_turn 
 lock_lowers h note lock = lock_by h note lock (has_room h.calendar h.site h.quota note lock.bytes)
 
 pub write_lowers : (h : House) (note : Note) (lock : Standing) (written : ℕ) (bytes more : List ℕ) → 1 ≤ length bytes
-    → drop written (added h note lock.bytes) ≡ bytes ++ more → steps_of_turn h note (Going lock (written + length bytes)) < steps_of_turn h note (Going lock written)
+    → drop written (added h note lock.bytes) ≡ bytes ++ more
+    → steps_of_turn h note (Going lock (written + length bytes)) < steps_of_turn h note (Going lock written)
 write_lowers h note lock written bytes more some next =
     let e : length (added h note lock.bytes) - written ≡ length bytes + length more =
     sym (length-drop written (added h note lock.bytes)) ∙ ap length next ∙ length-append bytes more in omega arith

@@ -22,7 +22,8 @@ only x y (suc i) e = cc
 -- nothing is in hand and nothing to take, or the slip of the copy in hand, whose turn is over, finds no room
 abbrev pub CanNeither : ℕ → Lane → Box → Type 0
 CanNeither room lane box = ((box.hand ≡ None) × (box.taken ≡ length box.accepted))
-    ⊎ ((copy : Copy) × (box.hand ≡ Some copy) × (copy.released ≡ true) × (open_by copy.progress ≡ 0) × (copy.post.note.txn.lane ≡ 0) × (room ≤ uncollected lane))
+    ⊎ ((copy : Copy) × (box.hand ≡ Some copy) × (copy.released ≡ true)
+    × (open_by copy.progress ≡ 0) × (copy.post.note.txn.lane ≡ 0) × (room ≤ uncollected lane))
 
 -- the only lane has a copy to offer, and the only channel is open and full
 pub record IsStill (room : ℕ) (h : House) : Type 0 where

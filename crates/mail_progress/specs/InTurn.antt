@@ -2,7 +2,8 @@
 use Rattle.std.specs.Prelude.{◌⊎◌, ℕ, ◌≤◌, List}
 use Rattle.mail_world.specs.declared.Event.{Event}
 use Rattle.mail_world.specs.declared.Event.TheVariants.{Begin, Put, Cancel, Seal, Split, Offer, HandBack, Collect, Take}
-use Rattle.mail_world.specs.declared.Event.TheVariants.{Lock, Miss, Write, Sync, Cut, Unlock, Release, GiveSlip, Reclaim, Close}
+use Rattle.mail_world.specs.declared.Event.TheVariants.{Lock, Miss, Write, Sync, Cut, Unlock, Release, GiveSlip}
+use Rattle.mail_world.specs.declared.Event.TheVariants.{Reclaim, Close}
 use Rattle.mail_world.specs.House.{House, IsStart}
 use Rattle.mail_world.specs.Events.{MayHappen}
 use Rattle.mail_world.specs.Runs.{Happened, Run, last_house, events_of}

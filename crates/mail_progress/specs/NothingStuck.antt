@@ -5,7 +5,8 @@ use Rattle.std.specs.List.{list_any}
 use Rattle.mail_world.specs.declared.Txn.{Txn}
 use Rattle.mail_world.specs.declared.Event.{Event}
 use Rattle.mail_world.specs.declared.Event.TheVariants.{Begin, Put, Cancel, Seal, Split, Offer, HandBack, Collect, Take}
-use Rattle.mail_world.specs.declared.Event.TheVariants.{Lock, Miss, Write, Sync, Cut, Unlock, Release, GiveSlip, Reclaim, Close}
+use Rattle.mail_world.specs.declared.Event.TheVariants.{Lock, Miss, Write, Sync, Cut, Unlock, Release, GiveSlip}
+use Rattle.mail_world.specs.declared.Event.TheVariants.{Reclaim, Close}
 use Rattle.mail_world.specs.Depot.{Key, Slot, Sealed}
 use Rattle.mail_world.specs.House.{Hold, Post, Copy, Box, Lane, House, IsStart}
 use Rattle.mail_world.specs.Events.{LaneIs, BoxIs, MayHappen}

@@ -21,7 +21,8 @@ abbrev pub most_that_mends : ℕ
 most_that_mends = 44
 
 -- a copy that a channel accepted is taken and locked or missed, what mends the mailbox and its record are written at
--- least one byte at a time and synced or cut off again, it is unlocked and released, and its slip is given and collected
+-- least one byte at a time and synced or cut off again, it is unlocked and released, and its slip is given and
+-- collected
 abbrev pub steps_of_copy : ℕ → ℕ
 steps_of_copy size = size + most_that_mends + 7
 

@@ -2,8 +2,8 @@
 
 ghost use Rattle.std.specs.Prelude.{◌≡◌, List, [], ◌∷◌, ◌++◌, take, Some};
 ghost use Rattle.mail_world.specs.declared.Note.{Note};
-ghost use Rattle.mail_world.specs.declared.Outcome.TheVariants.{Stored, Failed};
-ghost use Rattle.mail_world.specs.Records.{record_of};
+ghost use Rattle.mail_world.specs.declared.Outcome.TheVariants.{Stored, Failed, OverQuota};
+ghost use Rattle.mail_world.specs.Records.{record_of, mailbox};
 ghost use Rattle.mail_world.specs.Endings.{mended};
 ghost use Rattle.mail_world.specs.House.{House, IsStart};
 ghost use Rattle.mail_world.specs.Runs.{Happened, Run, last_house, events_of, HasSpoolAndPlaces, HasDrained};
@@ -19,6 +19,17 @@ pub fn an_orderly_run_heals()
         × let part = take 5 (record_of start.calendar start.site first) in
         HasSpoolAndPlaces (last_house start run) (part ++ mended part ++ record_of start.calendar start.site second)
         (Some Failed ∷ Some Stored ∷ [])
+        × HasDrained (last_house start run)
+        × IsFinished 2 (events_of run) (last_house start run) }
+{}
+
+/// In another, with room for five, of five copies the first breaks and is cut back, one is stored, one is over the
+/// quota, one misses its turn and one is handed back; then too all is finished.
+pub fn an_orderly_run_refuses()
+    ensures { (start : House) × (run : List Happened) × (note : Note) × IsStart 2 start × Run start run
+        × IsOrderly 5 start run
+        × HasSpoolAndPlaces (last_house start run) (mailbox start.calendar start.site [] (note ∷ []))
+        (Some Failed ∷ Some Stored ∷ Some OverQuota ∷ Some Failed ∷ Some Failed ∷ [])
         × HasDrained (last_house start run)
         × IsFinished 2 (events_of run) (last_house start run) }
 {}

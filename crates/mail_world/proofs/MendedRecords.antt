@@ -53,7 +53,8 @@ mended_record calendar site note xs =
     let e = record_ends calendar site note in
     ap (λ l. mended (xs ++ l)) e.1 ∙ ap mended (sym (append_assoc xs e.0 two)) ∙ mended_two (xs ++ e.0)
 
-mended_records : (calendar : Calendar) (site : Site) (xs : List ℕ) (note : Note) (notes : List Note) → mended (xs ++ flat_map (record_of calendar site) (note ∷ notes)) ≡ []
+mended_records : (calendar : Calendar) (site : Site) (xs : List ℕ) (note : Note) (notes : List Note)
+    → mended (xs ++ flat_map (record_of calendar site) (note ∷ notes)) ≡ []
 mended_records calendar site xs note [] =
     ap (λ l. mended (xs ++ l)) (append-nil (record_of calendar site note)) ∙ mended_record calendar site note xs
 mended_records calendar site xs note (other ∷ notes) =

@@ -79,10 +79,14 @@ pub record HasRefused (old new : FileState) : Type 0 where
   pub same : new ≡ record old { refusals = new.refusals }
   pub refused : Rises old.refusals new.refusals
 
+-- the path was found to name another file, or none
+abbrev pub HasFoundAnother : FileState → FileState → Type 0
+HasFoundAnother old new = HasRefused (record old { is_named = false }) new
+
 -- whether the path is found to name the open file
 abbrev pub HasLooked : FileState → FileState → Bool → Type 0
 HasLooked old new true = new ≡ record old { is_named = true }
-HasLooked old new false = HasRefused old new
+HasLooked old new false = HasFoundAnother old new
 
 -- Both locks are held, and the open file is the one that the path names: others neither write it nor put another in its
 -- place.
@@ -119,10 +123,11 @@ pub record HasNotAppended (old new : FileState) (text : List ℕ) : Type 0 where
 abbrev pub KeepsFile : FileState → FileState → Type 0
 KeepsFile old new = new ≡ record old { kept = length old.bytes }
 
--- nobody knows what a crash leaves of what wasn't kept before
+-- Nobody knows what a crash leaves of what wasn't kept before. No more is kept than there is.
 pub record FailsToKeep (old new : FileState) : Type 0 where
   pub same : new ≡ record old { kept = new.kept; faults = new.faults }
   pub kept : old.kept ≤ new.kept
+  pub within : old.kept ≤ length old.bytes → new.kept ≤ length new.bytes
   pub failed : Rises old.faults new.faults
 
 -- only that many of the first bytes are left

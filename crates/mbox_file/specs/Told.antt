@@ -41,6 +41,7 @@ after old step.RangeLocked = record old { has_range_lock = true; is_named = fals
 after old step.RangeRefused = record old { has_range_lock = false; refusals = old.refusals + 1 }
 after old step.RangeUnlocked = record old { has_range_lock = false }
 after old step.Named = record old { is_named = true }
+after old step.NotNamed = record old { is_named = false; refusals = old.refusals + 1 }
 after old step.Refused = record old { refusals = old.refusals + 1 }
 after old step.Reopened = record old { has_range_lock = false; is_named = false; openings = old.openings + 1 }
 after old (step.Measured size last) = record old { bytes = bytes_ending size last.now; kept = 0 }

@@ -126,7 +126,7 @@ pub(crate) fn system_fault(error: io::Error) -> InUse {
 pub(crate) fn error_of(in_use: InUse) -> io::Error {
     match in_use {
         InUse::System(code) => io::Error::from_raw_os_error(code),
-        InUse::Locked => io::Error::from(ErrorKind::WouldBlock),
+        InUse::Locked | InUse::Failed => io::Error::from(ErrorKind::WouldBlock),
         InUse::NotPlain => io::Error::new(ErrorKind::PermissionDenied, "not plain"),
     }
 }

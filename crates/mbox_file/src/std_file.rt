@@ -157,7 +157,7 @@ where
                 Ok(true)
             }
             Ok(false) => {
-                self.told.add(Step::Refused);
+                self.told.add(Step::NotNamed);
                 Ok(false)
             }
             Err(in_use) => {

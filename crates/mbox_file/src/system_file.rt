@@ -295,9 +295,17 @@ where
         }
     }
 
-    pub fn unlock_open(&self) {
-        if let Some(open) = &self.open {
-            let _ = open.file.unlock_bytes();
+    /// Where the system refuses to unlock its bytes the open file is closed, and the lock goes with it.
+    pub fn unlock_open(&mut self)
+        ensures path { string_bytes self.new.path ≡ string_bytes self.old.path }
+        ensures taken { self.new.taken ≡ self.old.taken }
+    {
+        let is_unlocked = match &self.open {
+            Some(open) => open.file.unlock_bytes().is_ok(),
+            None => true,
+        };
+        if !is_unlocked {
+            self.open = None;
         }
     }
 

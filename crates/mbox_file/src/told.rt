@@ -17,6 +17,8 @@ pub(crate) enum Step<'a> {
     RangeUnlocked,
     /// The path names the open file.
     Named,
+    /// It names another file, or none.
+    NotNamed,
     /// What was asked for a turn wasn't granted, and nothing changed.
     Refused,
     Reopened,

@@ -1,18 +1,18 @@
--- What a shared spool is left with where a call failed, and where its turn is over.
+-- What a spool is left with where a call failed, and where its turn is over.
 use Rattle.std.proofs.Common.{◌≡◌, ◌⊎◌, ◌&&◌, not, ℕ, Bool, true, false, take, List, [], ◌++◌, refl, sym, ap, ◌∙◌}
-use Rattle.std.proofs.Common.{subst, arith, inl, Some, append-nil as append_nil}
+use Rattle.std.proofs.Common.{subst, arith, inl, append-nil as append_nil}
 use Rattle.mail_world.specs.Failures.{Rises}
 use Rattle.mail_world.specs.Turns.{Standing}
 use Rattle.mbox_file.specs.MailboxFile.{FileState}
 use Rattle.mbox_record.specs.Spool.{SpoolFailed, EndsTurn}
-use Rattle.mbox_record.specs.Sharing.{Sharing}
+use Rattle.mbox_record.specs.TurnLog.{TurnLog, ended_at}
+use Rattle.mbox_record.specs.TurnState.{TurnState}
 use Rattle.mail_world.specs.Endings.{Ending, ending, ending_from}
 use Rattle.mbox_record.specs.Tail.{ending_of}
 use Rattle.mbox_rd.specs.Turn.{HasEndedTurn}
-use Rattle.mbox_rd.specs.TurnLog.{TurnLog, ended_at, standing_of}
-use Rattle.mbox_rd.specs.SharedSpool.{SharedSpool, IsInOrder, LosesPart, Breaks, failed_again, state_of, contents_of}
+use Rattle.mbox_rd.specs.FileSpool.{FileSpool, standing_of, IsInOrder, LosesPart, Breaks, failed_again, state_of, contents_of}
 use Rattle.mbox_rd.proofs.Tails.{goes_on}
-use Rattle.mbox_rd.proofs.Left.{part_left, cut_left, none_written}
+use Rattle.mbox_rd.proofs.Left.{part_left, cut_left, none_written, kept_since}
 
 -- a sound turn, by one test
 pub is_sound : (in_turn has_failed : Bool) → in_turn && not has_failed ≡ true → (in_turn ≡ true) × (has_failed ≡ false)
@@ -26,15 +26,15 @@ stays_or_is_cut true old new n ended = (ended.is_cut refl).left
 stays_or_is_cut false old new n ended = inl (ended.stays refl).0
 
 module _ {F : Type 0} (state : F → FileState) where
-  abbrev bytes_of : SharedSpool F → List ℕ
+  abbrev bytes_of : FileSpool F → List ℕ
   bytes_of spool = (state spool.file).bytes
 
   -- the spool failed, once that is so of its count
-  abbrev Fails : List ℕ → SharedSpool F → SharedSpool F → Type 0
+  abbrev Fails : List ℕ → FileSpool F → FileSpool F → Type 0
   Fails text old new = Rises old.failures new.failures → SpoolFailed (state_of state old) (state_of state new) text
 
   -- how the file ends with what waits
-  pub knows_tail : (spool : SharedSpool F) (tail : Ending) → IsInOrder state spool
+  pub knows_tail : (spool : FileSpool F) (tail : Ending) → IsInOrder state spool
       → tail ≡ ending_from (ending_of spool.tail) spool.waiting
       → spool.in_turn && not spool.has_failed ≡ true → tail ≡ ending (contents_of state spool)
   knows_tail spool tail order is h =
@@ -43,38 +43,38 @@ module _ {F : Type 0} (state : F → FileState) where
       goes_on (ending_of spool.tail) tail (bytes_of spool) spool.waiting (contents_of state spool) is refl ends
 
   -- nothing of the file changed
-  pub fails_now : (old new : SharedSpool F) (text : List ℕ) → IsInOrder state old → new ≡ failed_again old
+  pub fails_now : (old new : FileSpool F) (text : List ℕ) → IsInOrder state old → new ≡ failed_again old
       → Fails text old new
   fails_now old new text order is rises =
       let now : Fails text old (failed_again old) = λ up. record {
-        left = none_written old.in_turn old.log.began old.began (bytes_of old) old.waiting text order.free order.stands;
+        left = none_written old.in_turn old.log.began old.began (state old.file) old.waiting text order.free order.stands;
         failed = up;
         limited = refl;
         covered = omega arith;
-        full = tt;
+        full = λ _. tt;
         turn = refl;
       } in subst (Fails text old) (sym is) now rises
 
   -- in a turn the file has a part of what waited
-  pub fails_after : (old new : SharedSpool F) (text : List ℕ) → IsInOrder state old → old.in_turn ≡ true
+  pub fails_after : (old new : FileSpool F) (text : List ℕ) → IsInOrder state old → old.in_turn ≡ true
       → LosesPart (state old.file) (state new.file) old.waiting → Breaks old new → Fails text old new
   fails_after old new text order turn lost breaks rises =
       let grown = ap (λ (s : FileState). s.bytes) lost.same in
       let now : Fails text old (record (failed_again old) { file = new.file }) = λ up. record {
-        left = part_left old.log.began old.began (bytes_of old) old.waiting lost.prefix text (bytes_of new)
+        left = part_left old.log.began old.began (state old.file) old.waiting lost.prefix text (bytes_of new)
             (order.stands turn) lost.part grown;
         failed = up;
         limited = refl;
         covered = lost.kept;
-        full = tt;
+        full = λ _. tt;
         turn = refl;
       } in subst (Fails text old) (sym breaks) now rises
 
   -- once its turn is over
-  abbrev over : SharedSpool F → F → List ℕ → TurnLog → SharedSpool F
+  abbrev over : FileSpool F → F → List ℕ → TurnLog → FileSpool F
   over spool file waiting log = record spool { file = file; waiting = waiting; in_turn = false; log = log }
 
-  pub ends : (old seen : SharedSpool F) (file : F) (waiting : List ℕ) (log : TurnLog) → seen ≡ old
+  pub ends : (old seen : FileSpool F) (file : F) (waiting : List ℕ) (log : TurnLog) → seen ≡ old
       → IsInOrder state seen → seen.in_turn ≡ true
       → HasEndedTurn (state seen.file) (state file) seen.has_failed seen.began → waiting ≡ []
       → log ≡ ended_at seen.log (standing_of (state file) seen.failures)
@@ -86,19 +86,22 @@ module _ {F : Type 0} (state : F → FileState) where
       let all = append_nil (state file).bytes in
       let ends : EndsTurn (S seen) (S last) = record {
         stays = λ sound synced. (
-          ap Some (all ∙ (ended.stays sound).0 ∙ sym (append_nil (bytes_of seen))
+          (all ∙ (ended.stays sound).0 ∙ sym (append_nil (bytes_of seen))
               ∙ ap (λ (l : List ℕ). bytes_of seen ++ l) (sym (order.synced synced))),
           (ended.stays sound).1,
         );
-        left = cut_left seen.log.began seen.began (bytes_of seen) seen.waiting [] (state file).bytes (order.stands turn)
+        left = cut_left seen.log.began seen.began (state seen.file) seen.waiting [] (state file).bytes (order.stands turn)
             (stays_or_is_cut seen.has_failed (state seen.file) (state file) seen.began ended);
+        kept = kept_since seen.has_failed seen.log.began seen.began (state seen.file) (state file) (order.stands turn)
+            ended;
+        full = λ _ _. tt;
         sound = refl;
         limited = refl;
-        sharing = let listing : List ℕ → Sharing = λ b. record (S last).sharing {
+        turn = let listing : List ℕ → TurnState = λ b. record (S last).turn {
           turns = (ended_at seen.log (at b)).turns;
         } in ap listing (sym all);
       } in
-      let P : SharedSpool F → Type 0 = λ s. EndsTurn (S s) (S (over seen file waiting log)) in
+      let P : FileSpool F → Type 0 = λ s. EndsTurn (S s) (S (over seen file waiting log)) in
       let Q : List ℕ → Type 0 = λ w. EndsTurn (S seen) (S (over seen file w log)) in
       let R : TurnLog → Type 0 = λ l. EndsTurn (S seen) (S (over seen file [] l)) in
       subst P view (subst Q (sym empty) (subst R (sym listed) ends))

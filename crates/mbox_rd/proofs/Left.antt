@@ -1,11 +1,13 @@
 -- What is left of a turn: the bytes at its lock, and of those that were taken since a prefix.
 use Rattle.std.proofs.Common.{◌≡◌, ◌⊎◌, inl, inr, ℕ, Bool, true, false, take, drop, List, [], ◌++◌, refl, sym, ap}
-use Rattle.std.proofs.Common.{◌∙◌, append_assoc, subst, Option, Some, None, append-nil as append_nil}
+use Rattle.std.proofs.Common.{◌∙◌, ◌≤◌, length, append_assoc, subst, arith, Option, Some, None, append-nil as append_nil}
 use Rattle.std.proofs.lemmas.List.{take-append-drop}
 use Rattle.mail_world.specs.Prefixes.{IsPrefix}
 use Rattle.mail_world.specs.Turns.{Standing}
-use Rattle.mbox_record.specs.Spool.{IsWithin, LeavesPart}
-use Rattle.mbox_rd.specs.SharedSpool.{StandsOn}
+use Rattle.mbox_file.specs.MailboxFile.{FileState}
+use Rattle.mbox_record.specs.Spool.{IsWithin, LeavesPart, KeepsSince}
+use Rattle.mbox_rd.specs.Turn.{HasEndedTurn}
+use Rattle.mbox_rd.specs.FileSpool.{StandsOn}
 
 none_of : (text : List ℕ) → IsPrefix [] text
 none_of text = record { rest = text; whole = refl }
@@ -44,26 +46,27 @@ cut_within lock file waiting text n still = record {
 }
 
 -- in a turn a part of what waited is written
-pub part_left : (began : Option Standing) (n : ℕ) (file waiting prefix text now : List ℕ) → StandsOn began n file
-    → IsPrefix prefix waiting → now ≡ file ++ prefix → LeavesPart began (Some (file ++ waiting)) (Some (now ++ [])) text
+pub part_left : (began : Option Standing) (n : ℕ) (file : FileState) (waiting prefix text now : List ℕ)
+    → StandsOn began n file → IsPrefix prefix waiting → now ≡ file.bytes ++ prefix
+    → LeavesPart began (file.bytes ++ waiting) (now ++ []) text
 part_left None n file waiting prefix text now stands part grown = absurd stands
 part_left (Some lock) n file waiting prefix text now stands part grown =
-    let P : List ℕ → Type 0 = λ l. IsWithin lock.bytes ((file ++ waiting) ++ text) l in
-    subst P (sym (append_nil now ∙ grown)) (within lock.bytes file waiting prefix text n stands.still part)
+    let P : List ℕ → Type 0 = λ l. IsWithin lock.bytes ((file.bytes ++ waiting) ++ text) l in
+    subst P (sym (append_nil now ∙ grown)) (within lock.bytes file.bytes waiting prefix text n stands.still part)
 
 -- in a turn the file stays, or is cut back
-pub cut_left : (began : Option Standing) (n : ℕ) (file waiting text now : List ℕ) → StandsOn began n file
-    → (now ≡ file) ⊎ (now ≡ take n file) → LeavesPart began (Some (file ++ waiting)) (Some (now ++ [])) text
+pub cut_left : (began : Option Standing) (n : ℕ) (file : FileState) (waiting text now : List ℕ) → StandsOn began n file
+    → (now ≡ file.bytes) ⊎ (now ≡ take n file.bytes) → LeavesPart began (file.bytes ++ waiting) (now ++ []) text
 cut_left began n file waiting text now stands (inl same) =
-    part_left began n file waiting [] text now stands (none_of waiting) (same ∙ sym (append_nil file))
+    part_left began n file waiting [] text now stands (none_of waiting) (same ∙ sym (append_nil file.bytes))
 cut_left None n file waiting text now stands (inr cut) = absurd stands
 cut_left (Some lock) n file waiting text now stands (inr cut) =
-    let P : List ℕ → Type 0 = λ l. IsWithin lock.bytes ((file ++ waiting) ++ text) (l ++ []) in
-    subst P (sym (cut ∙ stands.still)) (cut_within lock.bytes file waiting text n stands.still)
+    let P : List ℕ → Type 0 = λ l. IsWithin lock.bytes ((file.bytes ++ waiting) ++ text) (l ++ []) in
+    subst P (sym (cut ∙ stands.still)) (cut_within lock.bytes file.bytes waiting text n stands.still)
 
 -- outside a turn nothing waits, and nothing is written
 none_left : (began : Option Standing) (file waiting text : List ℕ) → waiting ≡ [] → began ≡ None
-    → LeavesPart began (Some (file ++ waiting)) (Some (file ++ [])) text
+    → LeavesPart began (file ++ waiting) (file ++ []) text
 none_left None file waiting text empty none = record {
   prefix = [];
   rest = text;
@@ -73,9 +76,26 @@ none_left None file waiting text empty none = record {
 none_left (Some lock) file waiting text empty none = cc
 
 -- in both cases nothing is written
-pub none_written : (in_turn : Bool) (began : Option Standing) (n : ℕ) (file waiting text : List ℕ)
+pub none_written : (in_turn : Bool) (began : Option Standing) (n : ℕ) (file : FileState) (waiting text : List ℕ)
     → (in_turn ≡ false → (waiting ≡ []) × (began ≡ None)) → (in_turn ≡ true → StandsOn began n file)
-    → LeavesPart began (Some (file ++ waiting)) (Some (file ++ [])) text
+    → LeavesPart began (file.bytes ++ waiting) (file.bytes ++ []) text
 none_written true began n file waiting text free stands =
-    part_left began n file waiting [] text file (stands refl) (none_of waiting) (sym (append_nil file))
-none_written false began n file waiting text free stands = none_left began file waiting text (free refl).0 (free refl).1
+    part_left began n file waiting [] text file.bytes (stands refl) (none_of waiting) (sym (append_nil file.bytes))
+none_written false began n file waiting text free stands =
+    none_left began file.bytes waiting text (free refl).0 (free refl).1
+
+-- of what was kept at the lock nothing is lost as the turn ends
+pub kept_since : (broke : Bool) (began : Option Standing) (n : ℕ) (file now : FileState) → StandsOn began n file
+    → HasEndedTurn file now broke n → KeepsSince began (now.bytes ++ []) now.kept
+kept_since broke None n file now stands ended = absurd stands
+kept_since true (Some lock) n file now stands ended =
+    let kept = (ended.is_cut refl).kept stands.most in record {
+      least = omega (arith, kept.0, stands.within, stands.least);
+      most = subst (λ (l : List ℕ). now.kept ≤ length l) (sym (append_nil now.bytes)) kept.1;
+    }
+kept_since false (Some lock) n file now stands ended =
+    let stays = ended.stays refl in record {
+      least = subst (λ k. lock.synced ≤ k) (sym stays.1) stands.least;
+      most = let P : List ℕ → Type 0 = λ l. now.kept ≤ length l in
+          subst P (sym (append_nil now.bytes ∙ stays.0)) (subst (λ k. k ≤ length file.bytes) (sym stays.1) stands.most);
+    }

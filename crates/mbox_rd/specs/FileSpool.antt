@@ -1,70 +1,221 @@
--- What contracts see of a spool over a file: the file, what waits to be written to it, and whether it is broken.
-use Rattle.std.specs.Prelude.{◌≡◌, ℕ, ◌+◌, ◌-◌, ◌^◌, min, Bool, true, false, List, [], Option, Some, None, ⊤}
-use Rattle.std.specs.Io.KnownBytes.{append_known}
-use Rattle.std.specs.Io.Buffered.{writer_inner, writer_buffer}
+-- What contracts see of a spool over a file, which other programs use too.
+use Rattle.std.specs.Prelude.{◌≡◌, ℕ, ◌+◌, ◌-◌, ◌≤◌, ◌^◌, min, ◌||◌, Bool, true, false, List, [], ◌++◌, length, take}
+use Rattle.std.specs.Prelude.{Option, Some, None}
+use Rattle.mail_world.specs.Counts.{counted}
+use Rattle.mail_world.specs.Failures.{Rises}
 use Rattle.mail_world.specs.Prefixes.{IsPrefix}
+use Rattle.mail_world.specs.Turns.{Standing}
+use Rattle.mbox_record.specs.Spool.{SpoolState}
+use Rattle.mbox_record.specs.TurnLog.{TurnLog, no_turns, begun_at, missed, ended_at}
 use Rattle.mbox_record.specs.declared.tail.Tail.{Tail}
-use Rattle.mbox_rd.specs.declared.file.Sink.{Sink}
-use Rattle.mbox_rd.specs.declared.file.Sink.TheVariants.{Sound, Broken}
+use Rattle.mbox_file.specs.MailboxFile.{FileState, LeavesNoLockFile, IsHeld}
+use Rattle.mail_world.specs.Endings.{ending}
+use Rattle.mbox_record.specs.Tail.{ending_of}
+use Rattle.mbox_rd.specs.Turn.{IsCutBack}
 
 pub record FileSpool (F : Type 0) : Type 0 where
   pub file : F
+  -- how many seconds a lock waits for other programs
+  pub wait : ℕ
   -- the bytes that were taken and aren't written yet
   pub waiting : List ℕ
-  -- a write or a sync failed, and nothing more goes to the file
-  pub is_broken : Bool
-  -- how the file ended when it was opened
-  pub tail : Tail
-  pub failures : ℕ
-  -- how long the file was when it was opened, and the bytes taken since; it stays at 2^64 - 1
-  pub held : ℕ
+  -- it is in a turn
+  pub in_turn : Bool
+  -- a call failed in this turn, or, outside of turns, in the last one that was had
+  pub has_failed : Bool
   -- an append stands after the last good sync
   pub is_unsynced : Bool
+  -- how long the file was as the turn began
+  pub began : ℕ
+  -- how the file ended then, with what was written since, as long as no call failed
+  pub tail : Tail
+  pub failures : ℕ
+  -- how many turns were missed
+  pub refusals : ℕ
+  -- how the spool stood at this turn's lock, and the turns that are over
+  pub log : TurnLog
 
--- the file's bytes and then what waits, where the file's are known
-abbrev pub contents_of : {F : Type 0} → (F → Option (List ℕ)) → FileSpool F → Option (List ℕ)
-contents_of contents spool = append_known (contents spool.file) spool.waiting
+-- the file's bytes and then what waits
+abbrev pub contents_of : {F : Type 0} → (F → FileState) → FileSpool F → List ℕ
+contents_of state spool = (state spool.file).bytes ++ spool.waiting
 
--- of known bytes a prefix is left
-abbrev pub KeepsPrefix : Option (List ℕ) → Option (List ℕ) → Type 0
-KeepsPrefix None new = ⊤
-KeepsPrefix (Some held) None = ⊥
-KeepsPrefix (Some held) (Some left) = IsPrefix left held
+-- one of which nothing waits stands so, by its file and by how often it has failed
+abbrev pub standing_of : FileState → ℕ → Standing
+standing_of file failures = record { bytes = file.bytes; synced = file.kept; failures = failures }
 
--- just opened: nothing waits, and nothing failed
+-- what contracts see of it as a spool
+abbrev pub state_of : {F : Type 0} → (F → FileState) → FileSpool F → SpoolState
+state_of state spool = record {
+  bytes = contents_of state spool;
+  failures = spool.failures;
+  limit = None;
+  synced = (state spool.file).kept;
+  turn = record {
+    in_turn = spool.in_turn;
+    has_failed = spool.has_failed;
+    is_unsynced = spool.is_unsynced;
+    refusals = spool.refusals;
+    began = spool.log.began;
+    turns = spool.log.turns;
+  };
+}
+
+-- it knows how the file ends
+abbrev pub KnowsEnd : {F : Type 0} → (F → FileState) → FileSpool F → Type 0
+KnowsEnd state spool = ending_of spool.tail ≡ ending (state spool.file).bytes
+
+-- It knows the length of what stood at the lock, and that still begins the file. What was kept then is kept, and no
+-- more is kept than there is.
+pub record BeginsWith (lock : Standing) (began : ℕ) (file : FileState) : Type 0 where
+  pub size : began ≡ length lock.bytes
+  pub still : take began file.bytes ≡ lock.bytes
+  pub within : lock.synced ≤ began
+  pub least : lock.synced ≤ file.kept
+  pub most : file.kept ≤ length file.bytes
+
+abbrev pub StandsOn : Option Standing → ℕ → FileState → Type 0
+StandsOn None began file = ⊥
+StandsOn (Some lock) began file = BeginsWith lock began file
+
+-- What holds of it between two calls: outside a turn nothing waits, nor after a good sync; in a turn both locks are
+-- held, and the file still begins with what stood there at the lock, of which as much is kept; and as long as no call
+-- failed in it, its end is known.
+pub record IsInOrder {F : Type 0} (state : F → FileState) (spool : FileSpool F) : Type 0 where
+  pub free : spool.in_turn ≡ false → (spool.waiting ≡ []) × (spool.log.began ≡ None)
+  pub synced : spool.is_unsynced ≡ false → spool.waiting ≡ []
+  pub held : spool.in_turn ≡ true → IsHeld (state spool.file)
+  pub stands : spool.in_turn ≡ true → StandsOn spool.log.began spool.began (state spool.file)
+  pub ends : spool.in_turn ≡ true → spool.has_failed ≡ false → KnowsEnd state spool
+
+-- just opened: nothing waits, nothing failed, and it is in no turn
 pub record IsOpened {F : Type 0} (spool : FileSpool F) : Type 0 where
   pub empty : spool.waiting ≡ []
-  pub sound : spool.is_broken ≡ false
+  pub sound : spool.has_failed ≡ false
+  pub free : spool.in_turn ≡ false
   pub failures : spool.failures ≡ 0
+  pub refusals : spool.refusals ≡ 0
+  pub turns : spool.log ≡ no_turns
 
--- a sound spool stayed one, and nothing failed
+-- A turn began: both locks are on the file that the path names, and its length and end are those that it has now.
+-- Nothing was written, and nothing waits.
+pub record HasTurn {F : Type 0} (state : F → FileState) (old new : FileSpool F) : Type 0 where
+  pub lock_file : (state new.file).has_lock_file ≡ true
+  pub range_lock : (state new.file).has_range_lock ≡ true
+  pub named : (state new.file).is_named ≡ true
+  pub began : new.began ≡ length (state new.file).bytes
+  pub tail : ending_of new.tail ≡ ending (state new.file).bytes
+  pub unchanged : (state new.file).changes ≡ (state old.file).changes
+
+-- It didn't: something was refused, no lock is left but where the lock file couldn't be removed, and nothing was
+-- written.
+pub record HasNoTurn {F : Type 0} (state : F → FileState) (old new : FileSpool F) : Type 0 where
+  pub range_lock : (state old.file).has_range_lock ≡ false → (state new.file).has_range_lock ≡ false
+  pub free : LeavesNoLockFile (state old.file) (state new.file)
+  pub refused : Rises (state old.file).refusals (state new.file).refusals
+  pub unchanged : (state new.file).changes ≡ (state old.file).changes
+
+-- What a turn is to the fields: nothing waits, and no call failed in it yet.
+pub record StartsTurn {F : Type 0} (state : F → FileState) (old new : FileSpool F) : Type 0 where
+  pub was_free : old.in_turn ≡ false
+  pub same : new ≡ record old {
+    file = new.file;
+    waiting = [];
+    in_turn = true;
+    has_failed = false;
+    is_unsynced = false;
+    began = new.began;
+    tail = new.tail;
+    log = begun_at old.log (standing_of (state new.file) old.failures);
+  }
+
+-- a missed turn is counted, and else only the file may have changed
+abbrev pub CountsRefusal : {F : Type 0} → FileSpool F → FileSpool F → Type 0
+CountsRefusal old new = new ≡ record old {
+  file = new.file;
+  refusals = counted (old.refusals + 1);
+  log = missed old.log;
+}
+
+-- A turn is over: both locks were given back, but the lock file where it couldn't be removed. The bytes stay, or,
+-- where a call failed in this turn, they are cut back.
+pub record HasEnded {F : Type 0} (state : F → FileState) (old new : FileSpool F) : Type 0 where
+  pub range_lock : (state new.file).has_range_lock ≡ false
+  pub free : LeavesNoLockFile (state old.file) (state new.file)
+  pub stays : old.has_failed ≡ false
+      → ((state new.file).bytes ≡ (state old.file).bytes) × ((state new.file).kept ≡ (state old.file).kept)
+  pub is_cut : old.has_failed ≡ true → IsCutBack (state old.file) (state new.file) old.began
+
+-- what the end of a turn is to the fields
+abbrev pub StopsTurn : {F : Type 0} → (F → FileState) → FileSpool F → FileSpool F → Type 0
+StopsTurn state old new = new ≡ record old {
+  file = new.file;
+  waiting = [];
+  in_turn = false;
+  log = ended_at old.log (standing_of (state new.file) old.failures);
+}
+
+-- the bytes were taken: the file's and what waits grow by them, and no lock changes
+pub record HasTaken {F : Type 0} (state : F → FileState) (old new : FileSpool F) (text : List ℕ) : Type 0 where
+  pub contents : contents_of state new ≡ contents_of state old ++ text
+  pub same : (state new.file) ≡ record (state old.file) {
+    bytes = (state new.file).bytes;
+    changes = (state new.file).changes;
+  }
+
+-- the file got all of the text, and keeps all that it has through a crash
+pub record KeepsWritten (old new : FileState) (text : List ℕ) : Type 0 where
+  pub contents : new.bytes ≡ old.bytes ++ text
+  pub kept : new.kept ≡ length new.bytes
+  pub same : new ≡ record old { bytes = new.bytes; kept = new.kept; changes = new.changes }
+
+-- all that was taken is in the file, which keeps it
+abbrev pub KeepsAll : {F : Type 0} → (F → FileState) → FileSpool F → FileSpool F → Type 0
+KeepsAll state old new = KeepsWritten (state old.file) (state new.file) old.waiting
+
+-- a call in a turn stays in it, and nothing failed
 pub record StaysSound {F : Type 0} (old new : FileSpool F) : Type 0 where
-  pub was : old.is_broken ≡ false
-  pub is : new.is_broken ≡ false
-  pub tail : new.tail ≡ old.tail
-  pub failures : new.failures ≡ old.failures
+  pub turn : old.in_turn ≡ true
+  pub sound : old.has_failed ≡ false
+  pub same : new ≡ record old {
+    file = new.file;
+    waiting = new.waiting;
+    is_unsynced = new.is_unsynced;
+    tail = new.tail;
+  }
 
--- it failed: the file has a prefix of what it had and what waited, and what isn't in it is thrown away
-pub record Breaks {F : Type 0} (contents : F → Option (List ℕ)) (old new : FileSpool F) : Type 0 where
-  pub prefix : KeepsPrefix (contents_of contents old) (contents new.file)
-  pub empty : new.waiting ≡ []
-  pub broken : new.is_broken ≡ true
-  pub tail : new.tail ≡ old.tail
-  pub failed : new.failures ≡ min (old.failures + 1) (2 ^ 64 - 1)
-  pub held : new.held ≡ old.held
-
--- it only counts one more failure
+-- it only counts one more failure, which breaks its turn
 abbrev pub failed_again : {F : Type 0} → FileSpool F → FileSpool F
-failed_again spool = record spool { failures = min (spool.failures + 1) (2 ^ 64 - 1) }
+failed_again spool = record spool {
+  waiting = [];
+  has_failed = spool.has_failed || spool.in_turn;
+  failures = min (spool.failures + 1) (2 ^ 64 - 1);
+}
 
-abbrev pub file_of : {F : Type 0} → Sink F → F
-file_of (Sound writer) = writer_inner writer
-file_of (Broken file) = file
+-- the file failed: it has a part of the text after what it had, what was kept stays kept, and no lock changed
+pub record LosesPart (old new : FileState) (text : List ℕ) : Type 0 where
+  pub prefix : List ℕ
+  pub part : IsPrefix prefix text
+  pub same : new ≡ record old {
+    bytes = old.bytes ++ prefix;
+    kept = new.kept;
+    changes = new.changes;
+    faults = new.faults;
+  }
+  pub kept : old.kept ≤ new.kept
+  pub within : old.kept ≤ length old.bytes → new.kept ≤ length new.bytes
+  pub failed : Rises old.faults new.faults
 
-abbrev pub waiting_of : {F : Type 0} → Sink F → List ℕ
-waiting_of (Sound writer) = writer_buffer writer
-waiting_of (Broken file) = []
+-- it has a part of what waited
+abbrev pub HasLost : {F : Type 0} → (F → FileState) → FileSpool F → FileSpool F → Type 0
+HasLost state old new = LosesPart (state old.file) (state new.file) old.waiting
 
-abbrev pub is_broken : {F : Type 0} → Sink F → Bool
-is_broken (Sound writer) = false
-is_broken (Broken file) = true
+-- nothing waits any more; or the turn is broken
+abbrev pub HasWritten : {F : Type 0} → FileSpool F → FileSpool F → Type 0
+HasWritten old new = new ≡ record old { file = new.file; waiting = []; tail = new.tail }
+
+abbrev pub HasNotWritten : {F : Type 0} → FileSpool F → FileSpool F → Type 0
+HasNotWritten old new = new ≡ record old { file = new.file; has_failed = true }
+
+-- its turn broke in this call
+abbrev pub Breaks : {F : Type 0} → FileSpool F → FileSpool F → Type 0
+Breaks old new = new ≡ record (failed_again old) { file = new.file }

@@ -1,5 +1,3 @@
 pub mod FileSpool
 pub mod Turn
-pub mod TurnLog
-pub mod SharedSpool
 pub mod Patience

@@ -1,8 +1,8 @@
--- How a turn at the file of a shared spool begins and ends.
-use Rattle.std.specs.Prelude.{◌≡◌, ◌⊎◌, ℕ, ◌≤◌, Bool, true, false, length, take, Option, Some, None}
+-- How a turn at a spool's file begins and ends.
+use Rattle.std.specs.Prelude.{◌≡◌, ◌⊎◌, ℕ, ◌≤◌, Bool, true, false, length, take, min, Option, Some, None}
 use Rattle.mail_world.specs.Failures.{Rises}
 use Rattle.mbox_file.specs.declared.file.FileEnd.{FileEnd}
-use Rattle.mbox_file.specs.MailboxFile.{FileState, IsSharedSince, LeavesNoLockFile, HasRefused, IsEnd}
+use Rattle.mbox_file.specs.MailboxFile.{FileState, IsSharedSince, LeavesNoLockFile, HasFoundAnother, IsEnd}
 
 -- Both locks are held, on the file that the path names, and its end is known. Nothing was written.
 pub record HasBegun (old new : FileState) (end : FileEnd) : Type 0 where
@@ -51,7 +51,7 @@ pub record HasNotSeen (old new : FileState) : Type 0 where
 -- what was seen at the path: the end of the open file, or that it isn't the open file
 abbrev pub HasSeen : FileState → FileState → Option FileEnd → Type 0
 HasSeen old new (Some end) = HasFoundOwnEnd old new end
-HasSeen old new None = HasRefused old new
+HasSeen old new None = HasFoundAnother old new
 
 -- what one try came to: a turn, or another file is open now
 abbrev pub HasTried : FileState → FileState → Option FileEnd → Type 0
@@ -67,10 +67,12 @@ pub record IsBetweenTries (old new : FileState) : Type 0 where
   pub unchanged : new.changes ≡ old.changes
   pub sound : new.faults ≡ old.faults
 
--- Only that many of the first bytes are left, and a crash leaves them; or the cut failed, or that it be kept.
+-- Only that many of the first bytes are left, and a crash leaves them; or the cut failed, or that it be kept. Of those
+-- that were kept no more than what was cut is lost.
 pub record IsCutBack (old new : FileState) (size : ℕ) : Type 0 where
   pub left : (new.bytes ≡ old.bytes) ⊎ (new.bytes ≡ take size old.bytes)
   pub cut : ((new.bytes ≡ take size old.bytes) × (new.kept ≡ length new.bytes)) ⊎ Rises old.faults new.faults
+  pub kept : old.kept ≤ length old.bytes → (min old.kept size ≤ new.kept) × (new.kept ≤ length new.bytes)
 
 -- the file was cut back, and its locks are as before
 pub record HasCutBack (old new : FileState) (size : ℕ) : Type 0 where

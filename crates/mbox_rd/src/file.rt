@@ -1,258 +1,396 @@
-//! A mailbox in a file: what it takes waits in a buffer, and a sync writes it and has it kept.
-ghost use Rattle.std.specs.Prelude.{◌≡◌, ◌↔◌, ◌+◌, ◌-◌, ◌^◌, ◌<◌, ◌≤◌, [], true, false, min, length, take, None, IsErr};
-ghost use Rattle.std.specs.Prelude.{IfOk};
-ghost use Rattle.std.specs.Prelude.{OnOk, OnErr};
-ghost use Rattle.std.specs.Io.Buffered.{writer_buffer, writer_contents};
-ghost use Rattle.std.specs.Io.KnownBytes.{Appends, Keeps};
-ghost use Rattle.std.specs.IoError.{error_kind};
-ghost use Rattle.mail_world.specs.Counts.{counted};
+//! A mailbox in a file, which other programs read and empty too: it takes bytes in turns, and what stands there is
+//! looked at again in each. Nothing of it lasts from one turn to the next but its file and whether the last turn broke.
+ghost use Rattle.std.specs.Prelude.{◌≡◌, ◌<◌, ◌≤◌, [], ◌++◌, true, false, length, take, ⊤};
+ghost use Rattle.std.specs.Prelude.{Err, IsErr, IfOk, OnOk, OnErr};
+ghost use Rattle.mail_world.specs.Endings.{ending, ending_from};
 ghost use Rattle.mail_world.specs.Failures.{Rises};
-ghost use Rattle.mbox_record.specs.Spool.{SpoolTook, SpoolFailed, HasSynced, HasNotSynced};
+ghost use Rattle.mail_world.specs.Prefixes.{IsPrefix};
+ghost use Rattle.mbox_record.specs.Spool.{SpoolTook, SpoolFailed, HasSynced, HasNotSynced, AsksForTurn, EndsTurn};
+ghost use Rattle.mbox_record.specs.Tail.{ending_of};
+ghost use Rattle.mbox_record.specs.TurnState.{knows_end};
+ghost use Rattle.mbox_file.specs.MailboxFile.{IsHeld};
+ghost use Rattle.mbox_rd.specs.FileSpool.{KeepsWritten, LosesPart};
 
-use core::mem::replace_with;
-use mbox_file::{FileLock, OWNER_ONLY, end_of_file, open_or_make};
-use mbox_record::{InUse, Spool, SpoolFault, Tail};
-use std::alloc::Global;
-use std::fs::{Files, OpenFile};
+use crate::patience::Patience;
+use crate::turn::{end_turn, open_anew, wait_for_turn};
+use mbox_file::{FileEnd, MailboxFile};
+use mbox_record::{InUse, Spool, SpoolFault, Tail, Turns, tail_after};
+use std::alloc::{AllocError, Global};
 use std::io;
-use std::io::{BufWriter, ErrorKind, Read, Seek, Write};
-use std::marker::Model;
-use thiserror::Error;
+use std::marker::{Brand, Model};
+use std::time::Clock;
 
 /// The bytes that wait at most before they are written.
-pub(crate) const BUFFER_SIZE: usize = 65_536;
+const BUFFER_SIZE: usize = 65_536;
 
-/// Why a mailbox's file can't be used.
-#[derive(Clone, Copy, Debug, PartialEq, Eq, Error)]
-pub enum OpenFault {
-    /// Memory is lacking, the system's or that of the buffer.
-    #[error("memory")]
-    Memory = 1,
-    /// The file can't be made or opened, it isn't plain where it is to be shared, another holder has it locked, its end
-    /// can't be read, or its folder can't be synced.
-    #[error("cannot open")]
-    Open,
-}
-
-/// A spool over a file that takes bytes at its end. They wait in a buffer of 65,536 bytes until that is
-/// full, until a sync, or until the spool is dropped. After its first fault it is broken: what waited is
-/// thrown away, nothing more goes to the file, also when it is dropped, and each append and each sync is a
-/// fault. The file stays open, and so locked, until the drop.
+/// A spool over a file, which other programs read and empty too. In a turn it has both locks that mail programs take,
+/// and what it takes waits in a buffer of 65,536 bytes until that is full or until a sync. A turn in which a call
+/// failed is broken: each further append and sync in it is a fault, and as it ends the file is cut back to its length
+/// at the lock. The next lock opens what the path names again, and goes on with what stands there.
 #[derive(Drop)]
-pub struct FileSpool<F: Write + Drop> {
-    sink: Sink<F>,
+pub struct FileSpool<F: MailboxFile + Drop, C: Clock + Drop> {
+    file: F,
+    clock: C,
+    wait: u32,
+    patience: Patience,
+    waiting: Vec<u8>,
+    began: u64,
     tail: Tail,
     failures: u64,
-    held: u64,
+    refusals: u64,
+    in_turn: bool,
+    has_failed: bool,
     is_unsynced: bool,
+    turns: Turns,
 }
 
-#[derive(Drop)]
-enum Sink<F: Write + Drop> {
-    Sound(BufWriter<F>),
-    Broken(F),
-}
-
-impl<F: Write + Drop> Model for FileSpool<F> {
-    ghost use Rattle.mbox_rd.specs.FileSpool.{FileSpool as Held, file_of, waiting_of, is_broken};
+impl<F: MailboxFile + Drop, C: Clock + Drop> Model for FileSpool<F, C> {
+    ghost use Rattle.std.specs.Prelude.{◌≤◌, vec_len, vec_capacity};
+    ghost use Rattle.mbox_rd.specs.FileSpool.{FileSpool as Held, IsInOrder};
 
     ghost Value = { Held F };
 
     ghost view = { λ s. record {
-      file = file_of s.sink;
-      waiting = waiting_of s.sink;
-      is_broken = is_broken s.sink;
+      file = s.file;
+      wait = s.wait;
+      waiting = s.waiting.items;
+      in_turn = s.in_turn;
+      has_failed = s.has_failed;
+      is_unsynced = s.is_unsynced;
+      began = s.began;
       tail = s.tail;
       failures = s.failures;
-      held = s.held;
-      is_unsynced = s.is_unsynced;
+      refusals = s.refusals;
+      log = s.turns.log;
     } };
+
+    ghost invariant = { λ s. (vec_len s.waiting ≤ 65_536)
+        × (65_536 ≤ vec_capacity s.waiting)
+        × IsInOrder F.state (record {
+          file = s.file;
+          wait = s.wait;
+          waiting = s.waiting.items;
+          in_turn = s.in_turn;
+          has_failed = s.has_failed;
+          is_unsynced = s.is_unsynced;
+          began = s.began;
+          tail = s.tail;
+          failures = s.failures;
+          refusals = s.refusals;
+          log = s.turns.log;
+        }) };
 }
 
-impl<F: Read + Write + Seek + OpenFile + FileLock + Drop> FileSpool<F> {
+impl<F: MailboxFile + Drop, C: Clock + Drop> FileSpool<F, C> {
     ghost use Rattle.mbox_rd.specs.FileSpool.{IsOpened};
 
-    /// Opens the file at that path and locks it. Where it is missing it is made, for its owner alone, and
-    /// the folder that holds it is synced, so that it is still there after a crash. Nothing is written: a
-    /// file that was there stays as it was, also where it is refused.
-    pub fn at<R: Files<File = F>>(
-        rt: &R,
-        alloc: Global,
-        path: &str,
-    ) -> Result<FileSpool<F>, OpenFault>
-        ensures { IfOk result IsOpened }
+    /// Over a file with neither lock held. Within a minute locks wait that many seconds for other programs in all,
+    /// 3,600 at most; 0 is one try each. From here on it takes no memory.
+    pub fn new(alloc: Global, file: F, clock: C, wait: u32) -> Result<FileSpool<F, C>, AllocError>
+        ensures opened { IfOk result IsOpened }
+        ensures file { IfOk result (λ spool. spool.file ≡ file) }
+        ensures wait { IfOk result (λ spool. spool.wait ≡ wait) }
     {
-        FileSpool::open(rt, alloc, path).map_err(fault_of)
-    }
-
-    fn open<R: Files<File = F>>(rt: &R, alloc: Global, path: &str) -> io::Result<FileSpool<F>>
-        ensures { IfOk result IsOpened }
-    {
-        let mut file = open_or_make(rt, path, OWNER_ONLY)?;
-        file.try_lock()?;
-        let end = end_of_file(&mut file)?;
-        let writer = BufWriter::with_capacity(alloc, BUFFER_SIZE, file)?;
         Ok(FileSpool {
-            sink: Sink::Sound(writer),
-            tail: end.tail,
+            file,
+            clock,
+            wait,
+            patience: Patience::new(),
+            waiting: Vec::with_capacity(alloc, BUFFER_SIZE)?,
+            began: 0,
+            tail: Tail::Empty,
             failures: 0,
-            held: end.at,
+            refusals: 0,
+            in_turn: false,
+            has_failed: false,
             is_unsynced: false,
+            turns: Turns::none(),
         })
     }
 }
 
-pub(crate) fn fault_of(error: io::Error) -> OpenFault
-    ensures { (result ≡ OpenFault.Memory) ↔ (error_kind error ≡ ErrorKind.OutOfMemory) }
-{
-    match error.kind() {
-        ErrorKind::OutOfMemory => OpenFault::Memory,
-        _ => OpenFault::Open,
-    }
-}
+impl<F: MailboxFile + Drop, C: Clock + Drop> FileSpool<F, C> {
+    ghost use Rattle.mbox_file.specs.MailboxFile.{HasAppended, HasNotAppended};
+    ghost use Rattle.mbox_rd.specs.FileSpool.{HasWritten, HasNotWritten, KeepsAll, HasLost, failed_again};
 
-impl<F: Write + Drop> Sink<F> {
-    ghost use Rattle.mbox_rd.specs.FileSpool.{file_of};
-    ghost use Rattle.mbox_rd.specs.declared.file.Sink.TheVariants.{Broken};
-
-    // Nothing is written: what waits is dropped with the buffer.
-    fn broken(self, _: ()) -> (Sink<F>, ())
-        ensures { result.0 ≡ Broken (file_of self) }
+    // Counts a failure, and throws away what waits.
+    fn fail(&mut self) -> SpoolFault
+        ensures new { self.new ≡ failed_again self.old }
+        ensures counted { Rises self.old.failures self.new.failures }
     {
-        match self {
-            Sink::Sound(writer) => {
-                let (file, _waiting) = writer.into_parts();
-                (Sink::Broken(file), ())
+        self.waiting.clear();
+        self.failures = self.failures.saturating_add(1);
+        self.has_failed = self.has_failed || self.in_turn;
+        SpoolFault
+    }
+
+    // Writes what waits. How the file ends is known again after each write, and not after each piece; nobody knows it
+    // where one failed.
+    fn write_waiting(&mut self) -> io::Result<()>
+        requires turn { self.old.in_turn ≡ true }
+        ensures ok { OnOk result (HasWritten self.old self.new) }
+        ensures written { OnOk result (HasAppended (F.state self.old.file) (F.state self.new.file) self.old.waiting) }
+        ensures err { OnErr result (HasNotWritten self.old self.new) }
+        ensures failed { OnErr result
+            (HasNotAppended (F.state self.old.file) (F.state self.new.file) self.old.waiting) }
+    {
+        let tail = self.tail();
+        match self.file.write(&self.waiting) {
+            Ok(()) => {
+                self.waiting.clear();
+                self.tail = tail;
+                Ok(())
             }
-            Sink::Broken(file) => (Sink::Broken(file), ()),
+            Err(fault) => {
+                self.has_failed = true;
+                Err(fault)
+            }
+        }
+    }
+
+    // The same, and has all of the file kept.
+    fn keep_waiting(&mut self) -> io::Result<()>
+        requires turn { self.old.in_turn ≡ true }
+        ensures ok { OnOk result (HasWritten self.old self.new) }
+        ensures kept { OnOk result (KeepsAll F.state self.old self.new) }
+        ensures err { OnErr result (HasNotWritten self.old self.new) }
+        ensures failed { OnErr result (HasLost F.state self.old self.new) }
+    {
+        let end = self.tail();
+        match write_and_keep(&mut self.file, &self.waiting) {
+            Ok(()) => {
+                self.waiting.clear();
+                self.tail = end;
+                Ok(())
+            }
+            Err(fault) => {
+                self.has_failed = true;
+                Err(fault)
+            }
         }
     }
 }
 
-impl<F: Write + Drop> FileSpool<F> {
-    // Counts a failure, and throws away what waits.
-    fn fail(&mut self) -> SpoolFault
-        ensures new { self.new ≡ record self.old {
-          waiting = [];
-          is_broken = true;
-          failures = min (self.old.failures + 1) (2 ^ 64 - 1);
-        } }
-        ensures counted { Rises self.old.failures self.new.failures }
-    {
-        self.failures = self.failures.saturating_add(1);
-        replace_with(&mut self.sink, (), Sink::broken);
-        SpoolFault
-    }
-}
-
-fn write_and_keep<F: Write + OpenFile + Drop>(writer: &mut BufWriter<F>) -> io::Result<()>
-    ensures same { Keeps (writer_contents F.contents writer.old) (writer_contents F.contents writer.new) }
-    ensures written { OnOk result (writer_buffer writer.new ≡ []) }
+fn write_and_keep<F: MailboxFile>(file: &mut F, bytes: &[u8]) -> io::Result<()>
+    requires held { IsHeld (F.state file.old) }
+    ensures kept { OnOk result (KeepsWritten (F.state file.old) (F.state file.new) bytes.now) }
+    ensures lost { OnErr result (LosesPart (F.state file.old) (F.state file.new) bytes.now) }
 {
-    writer.flush()?;
-    writer.get_ref().sync_data()
+    file.write(bytes)?;
+    file.keep()
 }
 
-impl<F: Write + OpenFile + Drop> Spool for FileSpool<F> {
-    ghost use Rattle.std.specs.Prelude.{None};
-    ghost use Rattle.mbox_record.specs.Sharing.{unshared};
-    ghost use Rattle.mbox_rd.specs.FileSpool.{StaysSound, Breaks, contents_of, failed_again};
+impl<F: MailboxFile + Drop, C: Clock + Drop> FileSpool<F, C> {
+    ghost use Rattle.mbox_file.specs.MailboxFile.{IsEnd};
+    ghost use Rattle.mbox_rd.specs.Turn.{HasBegun, HasMissed};
+    ghost use Rattle.mbox_rd.specs.FileSpool.{StartsTurn, CountsRefusal, KnowsEnd};
 
-    ghost state = { λ s. record {
-      bytes = None;
-      failures = s.failures;
-      limit = None;
-      synced = 0;
-      held = s.held;
-      sharing = unshared s.is_unsynced;
-    } };
-
-    /// Other programs that lock as mail programs do aren't kept out, so that it has to be nobody else's.
-    fn is_shared(&self) -> bool {
-        false
+    // Asks for a turn. After one that broke, what the path names is opened first.
+    fn ask(&mut self) -> Result<FileEnd, InUse>
+        requires free { self.old.in_turn ≡ false }
+        ensures same { self.new ≡ record self.old { file = self.new.file } }
+        ensures ok { IfOk result (HasBegun (F.state self.old.file) (F.state self.new.file)) }
+        ensures anew { self.old.has_failed ≡ true
+            → OnOk result (Rises (F.state self.old.file).openings (F.state self.new.file).openings) }
+        ensures err { OnErr result (HasMissed (F.state self.old.file) (F.state self.new.file)) }
+    {
+        open_anew(&mut self.file, self.has_failed)?;
+        let tries = self.patience.tries(&self.clock, self.wait);
+        wait_for_turn(&mut self.file, &self.clock, &mut self.patience, tries)
     }
 
-    fn lock(&mut self) -> Result<Option<u64>, InUse> {
-        Ok(None)
+    // Begins a turn on a file that ends so.
+    fn start(&mut self, end: FileEnd)
+        requires free { self.old.in_turn ≡ false }
+        requires held { IsHeld (F.state self.old.file) }
+        requires end { IsEnd (F.state self.old.file) end }
+        requires covered { (F.state self.old.file).kept ≤ length (F.state self.old.file).bytes }
+        ensures starts { StartsTurn F.state self.old self.new }
+        ensures file { self.new.file ≡ self.old.file }
+        ensures began { self.new.began ≡ end.at }
+        ensures tail { self.new.tail ≡ end.tail }
+    {
+        self.began = end.at;
+        self.tail = end.tail;
+        self.in_turn = true;
+        self.has_failed = false;
+        self.is_unsynced = false;
+        self.patience.was_missed = false;
+        let begun = Turns::after::<Brand, F>(&self.turns, &self.file, self.failures);
+        self.turns = begun;
     }
 
-    fn unlock(&mut self) {}
+    // Counts a missed turn.
+    fn refuse(&mut self, in_use: InUse) -> Result<u64, InUse>
+        ensures new { CountsRefusal self.old self.new }
+        ensures file { self.new.file ≡ self.old.file }
+        ensures result { result ≡ Err in_use }
+    {
+        self.refusals = self.refusals.saturating_add(1);
+        self.turns.miss();
+        Err(in_use)
+    }
+
+    // Puts what there is room for into the buffer.
+    fn take(&mut self, piece: &[u8]) -> usize
+        requires room { length self.old.waiting < 65_536 }
+        requires some { 0 < length piece.now }
+        requires turn { self.old.in_turn ≡ true }
+        requires sound { self.old.has_failed ≡ false }
+        ensures within { (1 ≤ result) × (result ≤ length piece.now) }
+        ensures new { self.new ≡ record self.old {
+          waiting = self.old.waiting ++ take result piece.now;
+          is_unsynced = true;
+        } }
+        ensures ends { KnowsEnd F.state self.new }
+    {
+        let n = piece.len().min(BUFFER_SIZE - self.waiting.len());
+        let taken = &piece[..n];
+        if self.waiting.extend_from_slice(taken).is_err() {
+            unreachable!();
+        }
+        self.is_unsynced = true;
+        n
+    }
+}
+
+impl<F: MailboxFile + Drop, C: Clock + Drop> Spool for FileSpool<F, C> {
+    ghost use Rattle.mbox_rd.specs.FileSpool.{HasTurn, HasNoTurn, StartsTurn, CountsRefusal, HasEnded, StopsTurn};
+    ghost use Rattle.mbox_rd.specs.FileSpool.{HasTaken, KeepsAll, StaysSound, Breaks, HasLost, failed_again};
+    ghost use Rattle.mbox_rd.specs.FileSpool.{KnowsEnd, state_of};
+
+    ghost state = { λ s. state_of F.state s };
+
+    ghost MayFind = { λ last now. ⊤ };
+
+    ghost MayRefuse = { λ broke refused. ⊤ };
+
+    /// Waits for programs that have the mailbox locked, as far as what may be waited within a minute isn't used up, and
+    /// after a missed turn not at all. After a turn that broke, what the path names is opened again first. In a turn it
+    /// is refused, and the turn goes on.
+    fn lock(&mut self) -> Result<u64, InUse>
+        ensures within { self.old.in_turn ≡ true → (result ≡ Err InUse.Locked) × (self.new.file ≡ self.old.file) }
+        ensures starts { OnOk result (StartsTurn F.state self.old self.new) }
+        ensures had { OnOk result (HasTurn F.state self.old self.new) }
+        ensures anew { self.old.in_turn ≡ false → self.old.has_failed ≡ true
+            → OnOk result (Rises (F.state self.old.file).openings (F.state self.new.file).openings) }
+        ensures count { IfOk result (λ held. held ≡ self.new.began) }
+        ensures refused { OnErr result (CountsRefusal self.old self.new) }
+        ensures not_had { self.old.in_turn ≡ false → OnErr result (HasNoTurn F.state self.old self.new) }
+
+        // what every spool ensures
+        ensures asks { AsksForTurn (⟦<FileSpool<F, C> as Spool>⟧.state self.old)
+            (⟦<FileSpool<F, C> as Spool>⟧.state self.new) result }
+    {
+        if self.in_turn {
+            return self.refuse(InUse::Locked);
+        }
+        match self.ask() {
+            Ok(end) => {
+                self.start(end);
+                Ok(end.at)
+            }
+            Err(in_use) => {
+                self.patience.was_missed = true;
+                self.refuse(in_use)
+            }
+        }
+    }
+
+    /// Gives both locks back. Where a call failed in this turn the file is cut to its length at the lock first. What
+    /// waits is thrown away.
+    fn unlock(&mut self)
+        ensures outside { self.old.in_turn ≡ false → self.new ≡ self.old }
+        ensures stops { self.old.in_turn ≡ true → StopsTurn F.state self.old self.new }
+        ensures ended { self.old.in_turn ≡ true → HasEnded F.state self.old self.new }
+
+        // what every spool ensures
+        ensures none { (⟦<FileSpool<F, C> as Spool>⟧.state self.old).turn.in_turn ≡ false
+            → ⟦<FileSpool<F, C> as Spool>⟧.state self.new ≡ ⟦<FileSpool<F, C> as Spool>⟧.state self.old }
+        ensures over { (⟦<FileSpool<F, C> as Spool>⟧.state self.old).turn.in_turn ≡ true
+            → EndsTurn (⟦<FileSpool<F, C> as Spool>⟧.state self.old)
+            (⟦<FileSpool<F, C> as Spool>⟧.state self.new) }
+    {
+        if !self.in_turn {
+            return;
+        }
+        end_turn(&mut self.file, self.has_failed, self.began);
+        self.waiting.clear();
+        self.in_turn = false;
+        let ended = Turns::after::<Brand, F>(&self.turns, &self.file, self.failures);
+        self.turns = ended;
+    }
 
     /// Fills the buffer, and writes it where it is full.
     fn append(&mut self, piece: &[u8]) -> Result<usize, SpoolFault>
         requires { 0 < length piece.now }
-        ensures taken { IfOk result (λ n. Appends (contents_of F.contents self.old)
-            (contents_of F.contents self.new) (take n piece.now)) }
+        ensures outside_turn { self.old.in_turn ≡ false → IsErr result × (self.new ≡ failed_again self.old) }
+        ensures stays_broken { self.old.has_failed ≡ true → IsErr result × (self.new ≡ failed_again self.old) }
         ensures sound { OnOk result (StaysSound self.old self.new) }
-        ensures held { IfOk result (λ n. self.new.held ≡ counted (self.old.held + n)) }
-        ensures broken { OnErr result (Breaks F.contents self.old self.new) }
-        ensures stays_broken { self.old.is_broken ≡ true → self.new ≡ failed_again self.old }
+        ensures taken { IfOk result (λ n. HasTaken F.state self.old self.new (take n piece.now)) }
+        ensures grows { OnOk result (IsPrefix (F.state self.old.file).bytes (F.state self.new.file).bytes) }
+        ensures ends { OnOk result (KnowsEnd F.state self.new) }
+        ensures breaks { OnErr result (Breaks self.old self.new) }
+        ensures lost { self.old.in_turn ≡ true → self.old.has_failed ≡ false
+            → OnErr result (HasLost F.state self.old self.new) }
 
         // what every spool ensures
         ensures within { IfOk result (λ n. (1 ≤ n) × (n ≤ length piece.now)) }
-        ensures ok { IfOk result (λ n. SpoolTook (⟦<FileSpool<F> as Spool>⟧.state self.old)
-            (⟦<FileSpool<F> as Spool>⟧.state self.new) (take n piece.now)) }
-        ensures err { OnErr result (SpoolFailed (⟦<FileSpool<F> as Spool>⟧.state self.old)
-            (⟦<FileSpool<F> as Spool>⟧.state self.new) piece.now) }
-        ensures unsynced { OnOk result ((⟦<FileSpool<F> as Spool>⟧.state self.new).sharing.is_unsynced ≡ true) }
-        ensures outside { (⟦<FileSpool<F> as Spool>⟧.state self.old).sharing.is_shared ≡ true
-            → (⟦<FileSpool<F> as Spool>⟧.state self.old).sharing.in_turn ≡ false → IsErr result }
+        ensures ok { IfOk result (λ n. SpoolTook (⟦<FileSpool<F, C> as Spool>⟧.state self.old)
+            (⟦<FileSpool<F, C> as Spool>⟧.state self.new) (take n piece.now)) }
+        ensures err { OnErr result (SpoolFailed (⟦<FileSpool<F, C> as Spool>⟧.state self.old)
+            (⟦<FileSpool<F, C> as Spool>⟧.state self.new) piece.now) }
+        ensures unsynced { OnOk result ((⟦<FileSpool<F, C> as Spool>⟧.state self.new).turn.is_unsynced ≡ true) }
+        ensures outside { (⟦<FileSpool<F, C> as Spool>⟧.state self.old).turn.in_turn ≡ false
+            → IsErr result × ((⟦<FileSpool<F, C> as Spool>⟧.state self.new).bytes
+            ≡ (⟦<FileSpool<F, C> as Spool>⟧.state self.old).bytes) }
     {
-        let Sink::Sound(writer) = &mut self.sink else {
+        if self.has_failed || !self.in_turn {
             return Err(self.fail());
-        };
-        match writer.write(piece) {
-            Ok(0) | Err(_) => Err(self.fail()),
-            Ok(n) => {
-                self.held = self.held.saturating_add(n as u64);
-                self.is_unsynced = true;
-                Ok(n)
-            }
         }
+        if self.waiting.len() == BUFFER_SIZE && self.write_waiting().is_err() {
+            return Err(self.fail());
+        }
+        Ok(self.take(piece))
     }
 
     /// Writes what waits, and has the file's bytes kept by the system.
     fn sync(&mut self) -> Result<(), SpoolFault>
-        ensures same { OnOk result (Keeps (contents_of F.contents self.old)
-            (contents_of F.contents self.new)) }
-        ensures written { OnOk result (self.new.waiting ≡ []) }
+        ensures outside_turn { self.old.in_turn ≡ false → IsErr result × (self.new ≡ failed_again self.old) }
+        ensures stays_broken { self.old.has_failed ≡ true → IsErr result × (self.new ≡ failed_again self.old) }
         ensures sound { OnOk result (StaysSound self.old self.new) }
-        ensures held { self.new.held ≡ self.old.held }
-        ensures broken { OnErr result (Breaks F.contents self.old self.new) }
-        ensures stays_broken { self.old.is_broken ≡ true → self.new ≡ failed_again self.old }
+        ensures written { self.new.waiting ≡ [] }
+        ensures kept { OnOk result (KeepsAll F.state self.old self.new) }
+        ensures ends { OnOk result (KnowsEnd F.state self.new) }
+        ensures breaks { OnErr result (Breaks self.old self.new) }
+        ensures lost { self.old.in_turn ≡ true → self.old.has_failed ≡ false
+            → OnErr result (HasLost F.state self.old self.new) }
 
         // what every spool ensures
-        ensures ok { OnOk result (HasSynced (⟦<FileSpool<F> as Spool>⟧.state self.old)
-            (⟦<FileSpool<F> as Spool>⟧.state self.new)) }
-        ensures err { OnErr result (HasNotSynced (⟦<FileSpool<F> as Spool>⟧.state self.old)
-            (⟦<FileSpool<F> as Spool>⟧.state self.new)) }
-        ensures outside { (⟦<FileSpool<F> as Spool>⟧.state self.old).sharing.is_shared ≡ true
-            → (⟦<FileSpool<F> as Spool>⟧.state self.old).sharing.in_turn ≡ false → IsErr result }
+        ensures ok { OnOk result (HasSynced (⟦<FileSpool<F, C> as Spool>⟧.state self.old)
+            (⟦<FileSpool<F, C> as Spool>⟧.state self.new)) }
+        ensures err { OnErr result (HasNotSynced (⟦<FileSpool<F, C> as Spool>⟧.state self.old)
+            (⟦<FileSpool<F, C> as Spool>⟧.state self.new)) }
+        ensures outside { (⟦<FileSpool<F, C> as Spool>⟧.state self.old).turn.in_turn ≡ false → IsErr result }
     {
-        match &mut self.sink {
-            Sink::Broken(_) => Err(self.fail()),
-            Sink::Sound(writer) => match write_and_keep(writer) {
-                Ok(()) => {
-                    self.is_unsynced = false;
-                    Ok(())
-                }
-                Err(_) => Err(self.fail()),
-            },
+        if !self.in_turn || self.has_failed {
+            return Err(self.fail());
         }
+        if self.keep_waiting().is_err() {
+            return Err(self.fail());
+        }
+        self.is_unsynced = false;
+        Ok(())
     }
 
+    /// How the file ends, with the bytes that wait.
     fn tail(&self) -> Tail
-        ensures { result ≡ self.now.tail }
-    {
-        self.tail
-    }
-
-    fn held(&self) -> u64
-        ensures exact { result ≡ self.now.held }
+        ensures exact { ending_of result ≡ ending_from (ending_of self.now.tail) self.now.waiting }
 
         // what every spool ensures
-        ensures counted { result ≡ counted (⟦<FileSpool<F> as Spool>⟧.state self.now).held }
+        ensures known { knows_end (⟦<FileSpool<F, C> as Spool>⟧.state self.now).turn ≡ true
+            → ending_of result ≡ ending (⟦<FileSpool<F, C> as Spool>⟧.state self.now).bytes }
     {
-        self.held
+        tail_after(self.tail, &self.waiting)
     }
 }

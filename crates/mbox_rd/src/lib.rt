@@ -1,19 +1,17 @@
-//! Mailboxes in the mboxrd format (RFC 4155) in files: a spool over a file that one program has alone, and one over a
-//! file that others use too, in turns.
+//! Mailboxes in the mboxrd format (RFC 4155) in files: a spool over a file, which it has in turns, since other programs
+//! use it too.
 //!
-//! The program opens both by their paths, and has the names of the records and of the files below from here too. A
-//! copy of a mailbox takes its locks as a turn does. What a record is, how a file is locked and what the system says of
-//! it is never known here.
+//! The program opens it by its path, and has the names of the records and of the files below from here too. A copy of a
+//! mailbox takes its locks as a turn does. What a record is, how a file is locked and what the system says of it is
+//! never known here.
 #![tactic(auto)]
 
 mod file;
 mod opening;
 mod patience;
-mod shared;
 mod turn;
-mod turns;
 
-pub use file::{FileSpool, OpenFault};
+pub use file::FileSpool;
 pub use mbox_file::{
     FileEnd, FileLock, LockKind, MailboxFile, MailboxSource, MemoryFile, RangeLock, StdMailboxFile,
     remove_open, sync_folder,
@@ -22,5 +20,5 @@ pub use mbox_record::{
     BadMailbox, CountSpool, Envelope, InUse, Letter, MemorySpool, RecordWriter, Spool, SpoolFault,
     Tail, mend, read_mailbox,
 };
-pub use shared::SharedSpool;
+pub use opening::OpenFault;
 pub use turn::{hold_locks, let_go};

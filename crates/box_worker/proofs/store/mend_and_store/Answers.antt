@@ -1,5 +1,5 @@
 use Rattle.mbox_record.proofs.Taken.{OnErr-any, OnOk-map, OnErr-map}
-use Rattle.box_worker.proofs.Turning.{mended_and_kept, mended_and_lost, not_mended}
+use Rattle.box_worker.proofs.Measuring.{mended_and_kept, mended_and_lost, not_mended}
 use Rattle.box_worker.proofs.store.mend_and_store.Goals as goal
 
 pub returns-in_err-mend-clause-err : goal.returns-in_err-mend-clause-err

@@ -7,6 +7,6 @@ use Rattle.box_worker.proofs.store.record_size.Goals as goal
 pub returns-clause-size : goal.returns-clause-size
 returns-clause-size g c =
     record_count civil_at c.args.site.now c.args.envelope.now c.args.hold.now.bytes c.in-Ok.begun c.in-Ok.ensures.new c.held.result c.held-2.result
-    (counted_text _ _ _ c.held.result (ap (λ (s : CountSpool). s.held) c.new-head.ensures) c.in-Ok.ensures.ok c.held.ensures.counted)
-    (counted_text _ _ _ c.held-2.result (ap (λ (s : CountSpool). s.held) c.new-text.ensures) c.in-Ok-append_text.ensures.ok c.held-2.ensures.counted)
+    (counted_text _ _ _ c.held.result (ap (λ (s : CountSpool). s.log.stands.bytes) c.new-head.ensures) c.in-Ok.ensures.ok c.held.ensures.exact)
+    (counted_text _ _ _ c.held-2.result (ap (λ (s : CountSpool). s.log.stands.bytes) c.new-text.ensures) c.in-Ok-append_text.ensures.ok c.held-2.ensures.exact)
     c.checked_add.result c.checked_add.ensures

@@ -4,6 +4,7 @@ use Rattle.mail_post.specs.InTime.{clock_of}
 use Rattle.box_worker.specs.Between.{worker_state}
 use Rattle.box_worker.specs.Limits.{setting_by}
 use Rattle.box_worker.specs.Told.{worker_of}
+use Rattle.box_worker.specs.Turned.{manner_of}
 use Rattle.box_worker.specs.Worked.{idle, IsWorking}
 use Rattle.box_worker.proofs.worker.worker_run.Given as goal
 
@@ -17,6 +18,6 @@ invariant-loop g l = record {
   channel : l.receiver.channel ≡ l.fn.receiver.channel;
   lanes : l.receiver.lanes ≡ l.fn.receiver.lanes;
   capacity : l.receiver.capacity ≡ l.fn.receiver.capacity;
-  working : IsWorking (setting_by l.site l.fn.quota (worker_of l.fn.slips.items)) (taken l.receiver) l.fn.receiver l.receiver
+  working : IsWorking (setting_by l.site l.fn.quota (worker_of l.fn.slips.items)) (manner_of g.S.Spool.MayFind g.S.Spool.MayRefuse) (taken l.receiver) l.fn.receiver l.receiver
       (idle l.fn.slips.items (g.S.Spool.state l.fn.spool)) (worker_state l.worker) l.worker.mailbox.limit;
 }

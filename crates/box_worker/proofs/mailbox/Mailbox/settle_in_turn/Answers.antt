@@ -9,18 +9,18 @@ use Rattle.box_worker.specs.Limits.{IsLetIn}
 use Rattle.box_worker.specs.Stored.{MailboxState, CountedMailbox, mailbox_of}
 use Rattle.box_worker.specs.Turned.{HasKeptMended, HasNotKeptMended}
 use Rattle.box_worker.proofs.Messages.{some_record}
-use Rattle.box_worker.proofs.Turning.{does_count, does_refuse}
+use Rattle.box_worker.proofs.Measuring.{does_count, does_refuse}
 use Rattle.box_worker.proofs.mailbox.Mailbox.settle_in_turn.Goals as goal
 
 pub returns-then-not-fits-clause-does : goal.returns-then-not-fits-clause-does
-returns-then-not-fits-clause-does g c quota start counts starts =
-    does_refuse quota start (record_text civil_at c.args.site.now c.args.envelope.now c.args.hold.now.bytes) c.args.self.now c.lets_in-fits.new.self
+returns-then-not-fits-clause-does g c quota counts =
+    does_refuse quota (record_text civil_at c.args.site.now c.args.envelope.now c.args.hold.now.bytes) c.args.self.now c.lets_in-fits.new.self
     c.refuse.new.self
-    (some_record civil_at c.args.site.now c.args.envelope.now c.args.hold.now.bytes) counts starts c.requires.sound c.if-not-fits.ensures.measured
+    (some_record civil_at c.args.site.now c.args.envelope.now c.args.hold.now.bytes) counts c.requires.sound c.if-not-fits.ensures.measured
     c.refuse.result c.refuse.ensures
 
 pub returns-clause-does : goal.returns-clause-does
-returns-clause-does g c quota start counts starts =
+returns-clause-does g c quota counts =
     let now = c.self.inside in
     let kept = c.mend_and_store-kept in
     let text : List ℕ → List ℕ = record_text civil_at c.args.site.now c.args.envelope.now in
@@ -34,8 +34,8 @@ returns-clause-does g c quota start counts starts =
     let R : Claim → Type 0 = λ h. OnOk kept.result (HasKeptMended (g.S.Spool.state now.spool) after (text h.bytes)) in
     let V : SpoolState → Type 0 = λ s. OnErr kept.result (HasNotKeptMended s after (text c.args.hold.now.bytes)) in
     let W : Claim → Type 0 = λ h. OnErr kept.result (HasNotKeptMended (g.S.Spool.state now.spool) after (text h.bytes)) in
-    does_count quota start (text c.args.hold.now.bytes) c.args.self.now done c.count.new.self
-    (some_record civil_at c.args.site.now c.args.envelope.now c.args.hold.now.bytes) counts starts
+    does_count quota (text c.args.hold.now.bytes) c.args.self.now done c.count.new.self
+    (some_record civil_at c.args.site.now c.args.envelope.now c.args.hold.now.bytes) counts
     (subst P (sym (ap (λ (m : CountedMailbox). m.limit) c.self.view_is)) measured.1)
     (ap (λ (m : CountedMailbox). m.mailbox.faulty) c.self.view_is ∙ ap (λ (m : MailboxState). m.faulty) measured.0 ∙ c.requires.sound)
     kept.result c.count.result

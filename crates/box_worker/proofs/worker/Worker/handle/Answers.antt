@@ -9,8 +9,7 @@ use Rattle.mail_post.specs.Offered.{IsOffered, any_gone}
 use Rattle.mbox_record.specs.Envelope.{Envelope, record_text}
 use Rattle.box_worker.specs.Between.{worker_state}
 use Rattle.box_worker.specs.Limits.{Setting, setting_by}
-use Rattle.box_worker.specs.Stored.{TakesCopy}
-use Rattle.box_worker.specs.Turned.{TurnsCopy}
+use Rattle.box_worker.specs.Turned.{Manner, manner_of, TurnsCopy}
 use Rattle.box_worker.specs.Told.{slip_by}
 use Rattle.box_worker.specs.Worked.{WorkerState, IsWorking}
 use Rattle.box_worker.proofs.Handling.{text_of}
@@ -29,14 +28,14 @@ returns g c quota worker copies old before was timed x =
     let text : record_text civil_at site parts.result.envelope parts.result.hold.bytes ≡ record_of civil_at site c.args.post =
     ap (λ (e : Envelope). record_text civil_at site e parts.result.hold.bytes) parts.ensures.envelope
     ∙ ap (λ (m : List ℕ). record_text civil_at site (envelope_of c.args.post) m) parts.ensures.hold.0 ∙ text_of civil_at site c.args.post in
-    let P : List ℕ → Type 0 = λ t. TakesCopy t took.result self.mailbox took.new.self in
-    let K : List ℕ → Type 0 = λ t. TurnsCopy t took.result self.mailbox took.new.self in
+    let manner : Manner = manner_of g.S.Spool.MayFind g.S.Spool.MayRefuse in
+    let K : List ℕ → Type 0 = λ t. TurnsCopy manner t took.result self.mailbox took.new.self in
     let gone = c.release-released.ensures in
     let moment : ℕ = clock_of now.slips c.args.receiver.now in
     let accepted : Bool = told.ensures.0 in
     let Q : Txn → Type 0 = λ t. IsOffered moment t.lane (slip_by t c.release-released.result.place took.result) accepted now.slips told.new.self in
     let R : ℕ → Type 0 = λ p. IsOffered moment c.args.post.txn.lane (slip_by c.args.post.txn p took.result) accepted now.slips told.new.self in
-    let H : ℕ → Type 0 = λ n. IsWorking at (copies ++ c.args.post ∷ []) before c.args.receiver.now old (record {
+    let H : ℕ → Type 0 = λ n. IsWorking at manner (copies ++ c.args.post ∷ []) before c.args.receiver.now old (record {
       slips = told.new.self;
       mailbox = took.new.self.mailbox;
       in_use = took.new.self.in_use;
@@ -44,6 +43,6 @@ returns g c quota worker copies old before was timed x =
       lost = any_gone told.new.self;
     }) took.new.self.limit in
     subst H (sym c.saturating_add-self.ensures)
-    (working_more at copies before was c.args.receiver.now old now self.mailbox.limit told.new.self c.args.post accepted x timed took.result took.new.self
-    took.ensures.tallied took.ensures.whose (λ e. subst P text (took.ensures.alone e)) took.ensures.never_in_use (λ e. subst K text (took.ensures.shared e))
+    (working_more at manner copies before was c.args.receiver.now old now self.mailbox.limit told.new.self c.args.post accepted x timed took.result took.new.self
+    took.ensures.tallied (subst K text took.ensures.turns)
     (subst R (gone.1 ∙ parts.ensures.names.1) (subst Q (gone.0 ∙ parts.ensures.names.0) told.ensures.1)))

@@ -1,0 +1,8 @@
+use Rattle.mbox_record.specs.TurnLog.{begun_at}
+use Rattle.mbox_rd.specs.FileSpool.{standing_of}
+use Rattle.mbox_rd.proofs.file.FileSpool.start.Given as goal
+
+abbrev pub ghosts-after : goal.ghosts-after
+ghosts-after g a = record {
+  log = begun_at a._old.now.log (standing_of (g.F.MailboxFile.state a._seen.now) a._failures);
+}
