@@ -1,7 +1,7 @@
 -- A rehearsal from its parts: the run of the server, and how the mailboxes were written.
-use Rattle.std.proofs.Common.{◌≡◌, ℕ, cond, ◌<◌, ◌≤◌, ◌+◌, ◌-◌, List, [], ◌∷◌, ◌++◌, length, map, take, drop, replicate, Bool, true, false, Option, Some, inl}
+use Rattle.std.proofs.Common.{◌≡◌, ℕ, cond, get_or, ◌<◌, ◌+◌, ◌-◌, List, [], ◌∷◌, length, map, replicate, Bool, true, false, Option, Some, inl}
 use Rattle.std.proofs.Common.{inr, refl, ap, sym, ◌∙◌, subst, append-nil, arith}
-use Rattle.std.specs.Prelude.{◌==◌, ◌^◌, nat_lt, slice_get}
+use Rattle.std.specs.Prelude.{◌==◌, ◌^◌, slice_get}
 use Rattle.std.specs.List.{AllByRecursion, list_any}
 use Rattle.std.specs.Io.KnownBytes.{Appends, Consumes}
 use Rattle.std.proofs.lemmas.List.{length-map, length-replicate, get_or-map, get_or-replicate}
@@ -16,8 +16,6 @@ use Rattle.mail_world.specs.Site.{Site}
 use Rattle.mail_world.specs.Session.{fresh}
 use Rattle.mail_world.specs.Conversation.{Disposition, Conversation, IsAccount, conversation, inputs, parts, replies}
 use Rattle.mail_world.specs.Lists.{Transaction, VerdictFits, OutcomesIn, of_lane, copies_owed, due, transactions}
-use Rattle.mail_world.specs.Records.{mailbox}
-use Rattle.mail_world.specs.Quotas.{are_kept, kept, outcomes_settled}
 use Rattle.mail_world.specs.Deliveries.{outcomes_told, told_all}
 use Rattle.mail_world.specs.Turns.{left_by}
 use Rattle.mail_world.proofs.Accounts.{account_told}
@@ -54,7 +52,7 @@ use Rattle.mail_world.specs.Runs.{events_of, offers_by}
 use Rattle.mail_runs.specs.Histories.{Threads}
 use Rattle.mail_runs.specs.Ordered.{IsOrderlyRunOf}
 use Rattle.mail_runs.proofs.Rising.{NumbersRise, numbers_rise}
-use Rattle.mbox_record.proofs.Taken.{Appends-then}
+use Rattle.std.proofs.KnownBytes.{Appends-trans}
 use Rattle.lmtpd_rehearse.proofs.InMemory.{IsSame, RefusesAfterFault, ComesToHold, comes_to_hold}
 use Rattle.lmtpd_rehearse.proofs.Keeping.{HoldsAll, all_settled, holds_all}
 use Rattle.lmtpd_rehearse.proofs.Telling.{IsPrefixOfOwed, AreSized, told_as_said, all_told_settled}
@@ -375,7 +373,7 @@ module _ (site : Site) (quota : Option ℕ) (moment : ℕ) {P : Type 0} (state :
             record {
               old = old;
               taken = worked.taken b low ∙ sym (due_is site b c) ∙ ap (copies b) is;
-              told = sym said ∙ sym (told_is site b c) ∙ ap (λ x. outcomes_told site b (x ∷ [])) is;
+              outcomes = sym said ∙ sym (told_is site b c) ∙ ap (λ x. outcomes_told site b (x ∷ [])) is;
               left = ap (λ l. left_by l (h.boxes b).turns) old ∙ came.left ∙ sym (ap (λ (k : MailboxContent). k.bytes) at.is);
               failed = sym at.did.turned.broke ∙ sym (ap (λ (k : MailboxContent). k.failed) at.is);
             };
@@ -442,7 +440,7 @@ rehearsed site quota moment old between left after cut h w =
       run = h.run;
       said = h.said;
       listed = w.listed;
-      output = Appends-then old.written between.written after h.said w.listed h.output w.output;
+      output = Appends-trans old.written between.written after h.said w.listed h.output w.output;
       says = h.says;
       lists = subst L (sym h.holds) w.lists;
       ends = h.ends;

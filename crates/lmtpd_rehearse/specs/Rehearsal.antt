@@ -71,7 +71,7 @@ pub record IsCourseTo (copies : List Note) (told : List Outcome) (mailbox : Mail
     (course : Course) : Type 0 where
   pub old : course.old ≡ []
   pub taken : course.taken ≡ copies
-  pub told : outcomes_in course.turns ≡ told
+  pub outcomes : outcomes_in course.turns ≡ told
   pub left : left_by course.old course.turns ≡ mailbox.bytes
   pub failed : last_broke false course.turns ≡ mailbox.failed
 
