@@ -14,296 +14,225 @@ use Rattle.mail_world.specs.Records.{Calendar, record_of, mailbox}
 use Rattle.mail_world.specs.Endings.{mended}
 use Rattle.mail_world.specs.Quotas.{fits, are_kept_after, are_kept, kept, marked, outcomes_settled}
 use Rattle.mail_world.specs.Deliveries.{IsTorn}
-use Rattle.mail_world.specs.Turns.{Standing, Turn, NotHad, Had, Told, addition, has_room, IsTurn, HaveTurns, left_after, left_by, breaks_last, last_broke}
+use Rattle.mail_world.specs.Turns.{Turn, NotHad, Had, Told, addition, has_room, IsTurn, HaveTurns, left_after, left_by, BeginsAt, AreAlone, breaks_last, last_broke}
 use Rattle.mail_world.proofs.MendedRecords.{mended_record}
 use Rattle.mail_runs.specs.Courses.{outcomes_in}
 use Rattle.mbox_record.specs.Spool.{IsFull}
-use Rattle.box_worker.specs.Turned.{IsFound, AreFound, is_not_had, AreRefused, IsFullWhereBroken}
+use Rattle.box_worker.specs.Turned.{is_not_had, AreRefused, IsFullWhereBroken}
 use Rattle.lmtpd_rehearse.specs.Copies.{HoldsCopies}
-
--- the spool is nobody else's, and a lock is refused where a call failed before
-abbrev pub IsSame : Standing → Standing → Type 0
-IsSame last now = now ≡ last
 
 abbrev pub RefusesAfterFault : Bool → Bool → Type 0
 RefusesAfterFault broke refused = refused ≡ broke
 
--- A mailbox that held these bytes took these copies, of which those with a mark fit: the first were settled, and
--- beside their records there is a prefix of the next one at most.
-record HoldsFrom (calendar : Calendar) (site : Site) (bytes : List ℕ) (marks : List Bool) (notes : List Note) (outcomes : List Outcome)
-    (left : List ℕ) (failed : Bool) : Type 0 where
-  settled : ℕ
-  torn : List ℕ
-  within : settled ≤ length notes
-  told : outcomes ≡ outcomes_settled settled marks
-  held : left ≡ bytes ++ (flat_map (record_of calendar site) (marked (take settled marks) (take settled notes)) ++ torn)
-  tears : IsTorn calendar site (marked (drop settled marks) (drop settled notes)) torn
-  fails : failed ≡ nat_lt settled (length notes)
-  next : failed ≡ true → slice_get marks settled ≡ Some true
-
-later_too : (n m : ℕ) → nat_lt n m ≡ nat_lt (suc n) (suc m)
-later_too n m = grind (arith, nat_tests)
-
-one_kept : (calendar : Calendar) (site : Site) (bytes left : List ℕ) (marks : List Bool) (note : Note) (notes : List Note) (outcomes : List Outcome) (failed : Bool)
-    → HoldsFrom calendar site (bytes ++ record_of calendar site note) marks notes outcomes left failed
-    → HoldsFrom calendar site bytes (true ∷ marks) (note ∷ notes) (Stored ∷ outcomes) left failed
-one_kept calendar site bytes left marks note notes outcomes failed h =
-    let text : List ℕ = record_of calendar site note in
-    let more : List ℕ = flat_map (record_of calendar site) (marked (take h.settled marks) (take h.settled notes)) in
-    let within = h.within in
-    record {
-      settled = suc h.settled;
-      torn = h.torn;
-      within = omega (arith, within);
-      told = ap (λ l. Stored ∷ l) h.told;
-      held = h.held ∙ append_assoc bytes text (more ++ h.torn) ∙ ap (λ l. bytes ++ l) (sym (append_assoc text more h.torn));
-      tears = h.tears;
-      fails = h.fails ∙ later_too h.settled (length notes);
-      next = h.next;
-    }
-
-one_over : (calendar : Calendar) (site : Site) (bytes left : List ℕ) (marks : List Bool) (note : Note) (notes : List Note) (outcomes : List Outcome) (failed : Bool)
-    → HoldsFrom calendar site bytes marks notes outcomes left failed
-    → HoldsFrom calendar site bytes (false ∷ marks) (note ∷ notes) (OverQuota ∷ outcomes) left failed
-one_over calendar site bytes left marks note notes outcomes failed h =
-    let within = h.within in
-    record {
-      settled = suc h.settled;
-      torn = h.torn;
-      within = omega (arith, within);
-      told = ap (λ l. OverQuota ∷ l) h.told;
-      held = h.held;
-      tears = h.tears;
-      fails = h.fails ∙ later_too h.settled (length notes);
-      next = h.next;
-    }
-
-one_broken : (calendar : Calendar) (site : Site) (bytes left prefix : List ℕ) (marks : List Bool) (note : Note) (notes : List Note) (outcomes : List Outcome)
-    → IsPrefix prefix (record_of calendar site note) → left ≡ bytes ++ prefix → outcomes ≡ outcomes_settled 0 marks
-    → HoldsFrom calendar site bytes (true ∷ marks) (note ∷ notes) (Failed ∷ outcomes) left true
-one_broken calendar site bytes left prefix marks note notes outcomes part is missed = record {
-  settled = 0;
-  torn = prefix;
-  within = omega arith;
-  told = ap (λ l. Failed ∷ l) missed;
-  held = is;
-  tears = part;
-  fails = grind (arith, nat_tests);
-  next = λ e. refl;
-}
-
-length-marks : (calendar : Calendar) (site : Site) (quota : Option ℕ) (len : ℕ) (notes : List Note) → length (are_kept_after calendar site quota len notes) ≡ length notes
-length-marks calendar site quota len [] = refl
-length-marks calendar site quota len (x ∷ notes) =
-    let size = length (record_of calendar site x) in
-    ap suc (length-marks calendar site quota (if fits quota len size then len + size else len) notes)
-
--- ---- once a turn broke
-
-record IsMissed (outcome : Outcome) (turn : Turn) : Type 0 where
-  failed : outcome ≡ Failed
-  missed : turn ≡ NotHad
-
-is_missed : (calendar : Calendar) (site : Site) (quota : Option ℕ) (note : Note) (outcome : Outcome) (turn : Turn) → IsTurn calendar site quota note outcome turn
-    → is_not_had turn ≡ true → IsMissed outcome turn
-is_missed calendar site quota note outcome (Had lock unlock) is e = cc
-is_missed calendar site quota note Failed NotHad is e = record { failed = refl; missed = refl }
-is_missed calendar site quota note Stored NotHad is e = absurd is
-is_missed calendar site quota note OverQuota NotHad is e = absurd is
-is_missed calendar site quota note NoRoom NotHad is e = absurd is
-is_missed calendar site quota note TooLarge NotHad is e = absurd is
-
-record AllMissed (last : Standing) (marks : List Bool) (turns : List Told) (now : Standing) : Type 0 where
-  same : now ≡ last
-  told : outcomes_in turns ≡ outcomes_settled 0 marks
-  broke : last_broke true turns ≡ true
-
-all_missed : (calendar : Calendar) (site : Site) (quota : Option ℕ) (last now : Standing) (marks : List Bool) (notes : List Note) (turns : List Told)
-    → length marks ≡ length notes → HaveTurns calendar site quota notes turns → AreFound IsSame last turns now → AreRefused RefusesAfterFault true turns
-    → AllMissed last marks turns now
-all_missed calendar site quota last now [] [] [] size have found refused = record { same = found; told = refl; broke = refl }
-all_missed calendar site quota last now (t ∷ marks) [] turns size have found refused = absurd (omega (arith, size))
-all_missed calendar site quota last now [] (x ∷ notes) turns size have found refused = absurd (omega (arith, size))
-all_missed calendar site quota last now [] [] (told ∷ turns) size have found refused = absurd have
-all_missed calendar site quota last now (t ∷ marks) (x ∷ notes) [] size have found refused = absurd have
-all_missed calendar site quota last now (t ∷ marks) (x ∷ notes) (told ∷ turns) size have found refused =
-    let one = is_missed calendar site quota x told.outcome told.turn have.0 refused.0 in
-    let stays : found.0 ≡ last = subst (λ turn. IsFound IsSame last turn found.0) one.missed found.1 in
-    let broke : breaks_last true told.outcome told.turn ≡ true = ap (breaks_last true told.outcome) one.missed in
-    let more = all_missed calendar site quota found.0 now marks notes turns (omega (arith, size)) have.1 found.2
-    (subst (λ b. AreRefused RefusesAfterFault b turns) broke refused.1) in
-    record {
-      same = more.same ∙ stays;
-      told = ap (λ o. o ∷ outcomes_in turns) one.failed ∙ ap (λ l. Failed ∷ l) more.told;
-      broke = ap (λ b. last_broke b turns) broke ∙ more.broke;
-    }
-
--- ---- and before
+abbrev missed : Told
+missed = record { outcome = Failed; turn = NotHad }
 
 module _ (calendar : Calendar) (site : Site) (quota limit : Option ℕ) where
-  abbrev marks_after : Standing → List Note → List Bool
-  marks_after last notes = are_kept_after calendar site quota (length last.bytes) notes
-
-  -- what the turns of these copies come to, from a mailbox of which nothing is to be mended
-  record ComesTo (last : Standing) (notes : List Note) (turns : List Told) (broke : Bool) (now : Standing) : Type 0 where
-    holds : HoldsFrom calendar site last.bytes (marks_after last notes) notes (outcomes_in turns) now.bytes broke
-    full : broke ≡ true → IsFull limit now.bytes
-
   abbrev text_of : Note → List ℕ
   text_of note = record_of calendar site note
 
-  -- the record's size is measured after the bytes alone
-  measured : (note : Note) (lock last : Standing) (t : Bool) → has_room calendar site quota note lock.bytes ≡ t → lock ≡ last → mended last.bytes ≡ []
-      → fits quota (length last.bytes) (length (text_of note)) ≡ t
-  measured note lock last t room same clean =
-      sym (ap (λ m. fits quota (length (last.bytes ++ m)) (length (text_of note))) clean ∙ ap (λ l. fits quota (length l) (length (text_of note))) (append-nil last.bytes))
-      ∙ ap (λ (s : Standing). has_room calendar site quota note s.bytes) (sym same) ∙ room
+  abbrev marks_of : List ℕ → List Note → List Bool
+  marks_of bytes notes = are_kept_after calendar site quota (length bytes) notes
+
+  -- What copies come to of which those with a mark fit: the first were settled, and after their records there is a
+  -- prefix of the next one at most.
+  record HoldsFrom (bytes : List ℕ) (marks : List Bool) (notes : List Note) (outcomes : List Outcome) (left : List ℕ) (failed : Bool) : Type 0 where
+    settled : ℕ
+    torn : List ℕ
+    within : settled ≤ length notes
+    told : outcomes ≡ outcomes_settled settled marks
+    held : left ≡ bytes ++ (flat_map text_of (marked (take settled marks) (take settled notes)) ++ torn)
+    tears : IsTorn calendar site (marked (drop settled marks) (drop settled notes)) torn
+    fails : failed ≡ nat_lt settled (length notes)
+    next : failed ≡ true → slice_get marks settled ≡ Some true
+    full : failed ≡ true → IsFull limit left
+
+  -- ---- once a turn broke
+
+  length-marks : (len : ℕ) (notes : List Note) → length (are_kept_after calendar site quota len notes) ≡ length notes
+  length-marks len [] = refl
+  length-marks len (x ∷ notes) = let size = length (text_of x) in ap suc (length-marks (if fits quota len size then len + size else len) notes)
+
+  is_missed : (note : Note) (outcome : Outcome) (turn : Turn) → IsTurn calendar site quota note outcome turn → is_not_had turn ≡ true
+      → record { outcome = outcome; turn = turn } ≡ missed
+  is_missed note outcome (Had lock unlock) is e = cc
+  is_missed note Failed NotHad is e = refl
+  is_missed note Stored NotHad is e = absurd is
+  is_missed note OverQuota NotHad is e = absurd is
+  is_missed note NoRoom NotHad is e = absurd is
+  is_missed note TooLarge NotHad is e = absurd is
+
+  record AllMissed (marks : List Bool) (turns : List Told) : Type 0 where
+    told : outcomes_in turns ≡ outcomes_settled 0 marks
+    broke : last_broke true turns ≡ true
+    left : (bytes : List ℕ) → left_by bytes turns ≡ bytes
+
+  all_missed : (marks : List Bool) (notes : List Note) (turns : List Told) → length marks ≡ length notes → HaveTurns calendar site quota notes turns
+      → AreRefused RefusesAfterFault true turns → AllMissed marks turns
+  all_missed [] [] [] size have refused = record { told = refl; broke = refl; left = λ bytes. refl }
+  all_missed (t ∷ marks) [] turns size have refused = absurd (omega (arith, size))
+  all_missed [] (x ∷ notes) turns size have refused = absurd (omega (arith, size))
+  all_missed [] [] (told ∷ turns) size have refused = absurd have
+  all_missed (t ∷ marks) (x ∷ notes) [] size have refused = absurd have
+  all_missed (t ∷ marks) (x ∷ notes) (told ∷ turns) size have refused =
+      let is : told ≡ missed = is_missed x told.outcome told.turn have.0 refused.0 in
+      let more = all_missed marks notes turns (omega (arith, size)) have.1
+      (subst (λ (d : Told). AreRefused RefusesAfterFault (breaks_last true d.outcome d.turn) turns) is refused.1) in
+      record {
+        told = ap (λ (d : Told). d.outcome ∷ outcomes_in turns) is ∙ ap (λ l. Failed ∷ l) more.told;
+        broke = ap (λ (d : Told). last_broke (breaks_last true d.outcome d.turn) turns) is ∙ more.broke;
+        left = λ bytes. ap (λ (d : Told). left_by (left_after bytes d.turn) turns) is ∙ more.left bytes;
+      }
+
+  -- ---- one copy, after bytes of which nothing is to be mended
+
+  -- what is there at the lock is measured alone
+  measured : (note : Note) (lock bytes : List ℕ) (t : Bool) → has_room calendar site quota note lock ≡ t → lock ≡ bytes → mended bytes ≡ []
+      → fits quota (length bytes) (length (text_of note)) ≡ t
+  measured note lock bytes t room at clean =
+      let fits_after : List ℕ → Bool = λ l. fits quota (length l) (length (text_of note)) in
+      sym (ap (λ m. fits_after (bytes ++ m)) clean ∙ ap fits_after (append-nil bytes)) ∙ ap (has_room calendar site quota note) (sym at) ∙ room
+
+  -- and the record is appended alone
+  appends : (note : Note) (lock bytes : List ℕ) → lock ≡ bytes → mended bytes ≡ [] → addition calendar site note lock ≡ text_of note
+  appends note lock bytes at clean = ap (addition calendar site note) at ∙ ap (λ m. m ++ text_of note) clean
 
   abbrev marked_by : Bool → ℕ → Note → List Note → List Bool
   marked_by t len note notes = t ∷ are_kept_after calendar site quota (if t then len + length (text_of note) else len) notes
 
-  -- what is appended is the record alone
-  added : (note : Note) (last lock : Standing) → lock ≡ last → mended last.bytes ≡ [] → addition calendar site note lock.bytes ≡ text_of note
-  added note last lock same clean = ap (λ (s : Standing). addition calendar site note s.bytes) same ∙ ap (λ m. m ++ text_of note) clean
+  abbrev added : Bool → Note → List ℕ
+  added t note = if t then text_of note else []
 
-  abbrev More : List Note → List Told → Standing → Type 0
-  More notes turns now = (last : Standing) → mended last.bytes ≡ [] → AreFound IsSame last turns now → AreRefused RefusesAfterFault false turns
-      → ComesTo last notes turns (last_broke false turns) now
+  length-added : (t : Bool) (bytes : List ℕ) (note : Note)
+      → (if t then length bytes + length (text_of note) else length bytes) ≡ length (bytes ++ added t note)
+  length-added true bytes note = sym (length-append bytes (text_of note))
+  length-added false bytes note = ap length (sym (append-nil bytes))
 
-  one_turn : (note : Note) (notes : List Note) (outcome : Outcome) (turn : Turn) (turns : List Told) (last left now : Standing)
-      → mended last.bytes ≡ [] → IsTurn calendar site quota note outcome turn → HaveTurns calendar site quota notes turns
-      → IsFound IsSame last turn left → AreFound IsSame left turns now
-      → is_not_had turn ≡ false → AreRefused RefusesAfterFault (breaks_last false outcome turn) turns → IsFullWhereBroken limit outcome turn
-      → More notes turns now
-      → ComesTo last (note ∷ notes) (record { outcome = outcome; turn = turn } ∷ turns) (last_broke (breaks_last false outcome turn) turns) now
-  one_turn note notes outcome NotHad turns last left now clean is have found rest e refused full more = cc
-  one_turn note notes NoRoom (Had lock unlock) turns last left now clean is have found rest e refused full more = absurd is
-  one_turn note notes TooLarge (Had lock unlock) turns last left now clean is have found rest e refused full more = absurd is
-  one_turn note notes Stored (Had lock unlock) turns last left now clean is have found rest e refused full more =
-      let at : left.bytes ≡ last.bytes ++ text_of note =
-      ap (λ (s : Standing). s.bytes) found.2 ∙ is.whole ∙ ap (λ (s : Standing). s.bytes ++ addition calendar site note lock.bytes) found.0
-      ∙ ap (λ l. last.bytes ++ l) (added note last lock found.0 clean) in
-      let then' = more left (ap mended at ∙ mended_record calendar site note last.bytes) rest refused in
-      let len : length last.bytes + length (text_of note) ≡ length left.bytes = sym (ap length at ∙ length-append last.bytes (text_of note)) in
-      let marks : marks_after last (note ∷ notes) ≡ true ∷ marks_after left notes =
-      ap (λ t. marked_by t (length last.bytes) note notes) (measured note lock last true is.room found.0 clean)
-      ∙ ap (λ n. true ∷ are_kept_after calendar site quota n notes) len in
-      let H : List ℕ → Type 0 = λ b. HoldsFrom calendar site b (marks_after left notes) notes (outcomes_in turns) now.bytes (last_broke false turns) in
-      let M : List Bool → Type 0 = λ ms. HoldsFrom calendar site last.bytes ms (note ∷ notes) (Stored ∷ outcomes_in turns) now.bytes (last_broke false turns) in
-      record {
-        holds = subst M (sym marks)
-            (one_kept calendar site last.bytes now.bytes (marks_after left notes) note notes (outcomes_in turns) (last_broke false turns) (subst H at then'.holds));
-        full = then'.full;
-      }
-  one_turn note notes OverQuota (Had lock unlock) turns last left now clean is have found rest e refused full more =
-      let at : left.bytes ≡ last.bytes = ap (λ (s : Standing). s.bytes) found.2 ∙ is.same ∙ ap (λ (s : Standing). s.bytes) found.0 in
-      let then' = more left (ap mended at ∙ clean) rest refused in
-      let marks : marks_after last (note ∷ notes) ≡ false ∷ marks_after left notes =
-      ap (λ t. marked_by t (length last.bytes) note notes) (measured note lock last false is.room found.0 clean)
-      ∙ ap (λ (b : List ℕ). false ∷ are_kept_after calendar site quota (length b) notes) (sym at) in
-      let H : List ℕ → Type 0 = λ b. HoldsFrom calendar site b (marks_after left notes) notes (outcomes_in turns) now.bytes (last_broke false turns) in
-      let M : List Bool → Type 0 = λ ms. HoldsFrom calendar site last.bytes ms (note ∷ notes) (OverQuota ∷ outcomes_in turns) now.bytes (last_broke false turns) in
-      record {
-        holds = subst M (sym marks)
-            (one_over calendar site last.bytes now.bytes (marks_after left notes) note notes (outcomes_in turns) (last_broke false turns) (subst H at then'.holds));
-        full = then'.full;
-      }
-  one_turn note notes Failed (Had lock unlock) turns last left now clean is have found rest e refused full more =
-      let len : ℕ = length last.bytes + length (text_of note) in
-      let later : List Bool = are_kept_after calendar site quota len notes in
-      let missed = all_missed calendar site quota left now later notes turns (length-marks calendar site quota len notes) have rest refused in
-      let at : now ≡ unlock = missed.same ∙ found.2 in
-      let stands : now.bytes ≡ last.bytes ++ is.prefix =
-      ap (λ (s : Standing). s.bytes) at ∙ is.left ∙ ap (λ (s : Standing). s.bytes ++ is.prefix) found.0 in
-      let marks : marks_after last (note ∷ notes) ≡ true ∷ later =
-      ap (λ t. marked_by t (length last.bytes) note notes) (measured note lock last true is.room found.0 clean) in
-      let M : List Bool → Type 0 = λ ms. HoldsFrom calendar site last.bytes ms (note ∷ notes) (Failed ∷ outcomes_in turns) now.bytes true in
-      let B : Bool → Type 0 = λ b. ComesTo last (note ∷ notes) (record { outcome = Failed; turn = Had lock unlock } ∷ turns) b now in
-      subst B (sym missed.broke) (record {
-        holds = subst M (sym marks) (one_broken calendar site last.bytes now.bytes is.prefix later note notes (outcomes_in turns)
-            (subst (λ text. IsPrefix is.prefix text) (added note last lock found.0 clean) is.part) stands missed.told);
-        full = λ b. subst (λ (s : Standing). IsFull limit s.bytes) (sym at) full;
+  held_more : (t : Bool) (note : Note) (bytes left torn : List ℕ) (marks : List Bool) (notes : List Note)
+      → left ≡ (bytes ++ added t note) ++ (flat_map text_of (marked marks notes) ++ torn)
+      → left ≡ bytes ++ (flat_map text_of (marked (t ∷ marks) (note ∷ notes)) ++ torn)
+  held_more true note bytes left torn marks notes e =
+      let more : List ℕ = flat_map text_of (marked marks notes) in
+      e ∙ append_assoc bytes (text_of note) (more ++ torn) ∙ ap (λ l. bytes ++ l) (sym (append_assoc (text_of note) more torn))
+  held_more false note bytes left torn marks notes e = e ∙ ap (λ l. l ++ (flat_map text_of (marked marks notes) ++ torn)) (append-nil bytes)
+
+  one_settled : (t : Bool) (note : Note) (notes : List Note) (lock after bytes : List ℕ) (outcomes : List Outcome) (left : List ℕ) (failed : Bool)
+      → has_room calendar site quota note lock ≡ t → lock ≡ bytes → mended bytes ≡ [] → after ≡ bytes ++ added t note
+      → HoldsFrom after (marks_of after notes) notes outcomes left failed
+      → HoldsFrom bytes (marks_of bytes (note ∷ notes)) (note ∷ notes) ((if t then Stored else OverQuota) ∷ outcomes) left failed
+  one_settled t note notes lock after bytes outcomes left failed room at clean is h =
+      let marks : marks_of bytes (note ∷ notes) ≡ t ∷ marks_of after notes =
+      ap (λ b. marked_by b (length bytes) note notes) (measured note lock bytes t room at clean)
+      ∙ ap (λ n. t ∷ are_kept_after calendar site quota n notes) (length-added t bytes note ∙ ap length (sym is)) in
+      let M : List Bool → Type 0 = λ ms. HoldsFrom bytes ms (note ∷ notes) ((if t then Stored else OverQuota) ∷ outcomes) left failed in
+      let within = h.within in
+      let first : List Bool = take h.settled (marks_of after notes) in
+      subst M (sym marks) (record {
+        settled = suc h.settled;
+        torn = h.torn;
+        within = omega (arith, within);
+        told = ap (λ l. (if t then Stored else OverQuota) ∷ l) h.told;
+        held = held_more t note bytes left h.torn first (take h.settled notes)
+            (h.held ∙ ap (λ b. b ++ (flat_map text_of (marked first (take h.settled notes)) ++ h.torn)) is);
+        tears = h.tears;
+        fails = h.fails ∙ later h.settled (length notes);
+        next = h.next;
+        full = h.full;
+      })
+    where
+      later : (n m : ℕ) → nat_lt n m ≡ nat_lt (suc n) (suc m)
+      later n m = grind (arith, nat_tests)
+
+  one_turn : (bytes : List ℕ) (note : Note) (notes : List Note) (outcome : Outcome) (turn : Turn) (turns : List Told) → mended bytes ≡ []
+      → IsTurn calendar site quota note outcome turn → HaveTurns calendar site quota notes turns → BeginsAt bytes turn → is_not_had turn ≡ false
+      → AreRefused RefusesAfterFault (breaks_last false outcome turn) turns → IsFullWhereBroken limit outcome turn
+      → (let after : List ℕ = left_after bytes turn in mended after ≡ [] → AreRefused RefusesAfterFault false turns
+      → HoldsFrom after (marks_of after notes) notes (outcomes_in turns) (left_by after turns) (last_broke false turns))
+      → HoldsFrom bytes (marks_of bytes (note ∷ notes)) (note ∷ notes) (outcome ∷ outcomes_in turns) (left_by (left_after bytes turn) turns)
+          (last_broke (breaks_last false outcome turn) turns)
+  one_turn bytes note notes outcome NotHad turns clean is have at e refused full more = cc
+  one_turn bytes note notes NoRoom (Had lock unlock) turns clean is have at e refused full more = absurd is
+  one_turn bytes note notes TooLarge (Had lock unlock) turns clean is have at e refused full more = absurd is
+  one_turn bytes note notes Stored (Had lock unlock) turns clean is have at e refused full more =
+      let whole : unlock.bytes ≡ bytes ++ text_of note =
+      is.whole ∙ ap (λ b. b ++ addition calendar site note lock.bytes) at ∙ ap (λ l. bytes ++ l) (appends note lock.bytes bytes at clean) in
+      one_settled true note notes lock.bytes unlock.bytes bytes _ _ _ is.room at clean whole (more (ap mended whole ∙ mended_record calendar site note bytes) refused)
+  one_turn bytes note notes OverQuota (Had lock unlock) turns clean is have at e refused full more =
+      let same : unlock.bytes ≡ bytes = is.same ∙ at in
+      one_settled false note notes lock.bytes unlock.bytes bytes _ _ _ is.room at clean (same ∙ sym (append-nil bytes)) (more (ap mended same ∙ clean) refused)
+  one_turn bytes note notes Failed (Had lock unlock) turns clean is have at e refused full more =
+      let later : List Bool = are_kept_after calendar site quota (length bytes + length (text_of note)) notes in
+      let rest = all_missed later notes turns (length-marks (length bytes + length (text_of note)) notes) have refused in
+      let stays : left_by unlock.bytes turns ≡ unlock.bytes = rest.left unlock.bytes in
+      let marks : marks_of bytes (note ∷ notes) ≡ true ∷ later =
+      ap (λ t. marked_by t (length bytes) note notes) (measured note lock.bytes bytes true is.room at clean) in
+      let M : List Bool → Type 0 = λ ms.
+      HoldsFrom bytes ms (note ∷ notes) (Failed ∷ outcomes_in turns) (left_by unlock.bytes turns) (last_broke true turns) in
+      subst M (sym marks) (record {
+        settled = 0;
+        torn = is.prefix;
+        within = omega arith;
+        told = ap (λ l. Failed ∷ l) rest.told;
+        held = stays ∙ is.left ∙ ap (λ b. b ++ is.prefix) at;
+        tears = subst (λ text. IsPrefix is.prefix text) (appends note lock.bytes bytes at clean) is.part;
+        fails = rest.broke ∙ grind (arith, nat_tests);
+        next = λ broke. refl;
+        full = λ broke. subst (λ b. IsFull limit b) (sym stays) full;
       })
 
-  comes_to : (notes : List Note) (turns : List Told) (now : Standing) → HaveTurns calendar site quota notes turns
-      → AllByRecursion (λ (t : Told). IsFullWhereBroken limit t.outcome t.turn) turns → More notes turns now
-  comes_to [] [] now have full last clean found refused = record {
-    holds = record {
-      settled = 0;
-      torn = [];
-      within = omega arith;
-      told = refl;
-      held = ap (λ (s : Standing). s.bytes) found ∙ sym (append-nil last.bytes);
-      tears = refl;
-      fails = grind (arith, nat_tests);
-      next = λ e. cc;
-    };
+  comes_to : (bytes : List ℕ) (notes : List Note) (turns : List Told) → mended bytes ≡ [] → HaveTurns calendar site quota notes turns → AreAlone bytes turns
+      → AreRefused RefusesAfterFault false turns → AllByRecursion (λ (d : Told). IsFullWhereBroken limit d.outcome d.turn) turns
+      → HoldsFrom bytes (marks_of bytes notes) notes (outcomes_in turns) (left_by bytes turns) (last_broke false turns)
+  comes_to bytes [] (told ∷ turns) clean have alone refused full = absurd have
+  comes_to bytes (note ∷ notes) [] clean have alone refused full = absurd have
+  comes_to bytes (note ∷ notes) (told ∷ turns) clean have alone refused full =
+      one_turn bytes note notes told.outcome told.turn turns clean have.0 have.1 alone.0 refused.0 refused.1 full.0
+      (λ again so. comes_to (left_after bytes told.turn) notes turns again have.1 alone.1 so full.1)
+  comes_to bytes [] [] clean have alone refused full = record {
+    settled = 0;
+    torn = [];
+    within = omega arith;
+    told = refl;
+    held = sym (append-nil bytes);
+    tears = refl;
+    fails = grind (arith, nat_tests);
+    next = λ e. cc;
     full = λ e. cc;
   }
-  comes_to [] (told ∷ turns) now have full last clean found refused = absurd have
-  comes_to (note ∷ notes) [] now have full last clean found refused = absurd have
-  comes_to (note ∷ notes) (told ∷ turns) now have full last clean found refused =
-      one_turn note notes told.outcome told.turn turns last found.0 now clean have.0 have.1 found.1 found.2 refused.0 refused.1 full.0
-      (comes_to notes turns now have.1 full.1)
 
--- ---- a mailbox that was empty
+  -- ---- a mailbox that was empty
 
-mailbox_empty : (calendar : Calendar) (site : Site) (notes : List Note) → mailbox calendar site [] notes ≡ flat_map (record_of calendar site) notes
-mailbox_empty calendar site [] = refl
-mailbox_empty calendar site (note ∷ notes) = refl
+  mailbox_empty : (notes : List Note) → mailbox calendar site [] notes ≡ flat_map text_of notes
+  mailbox_empty [] = refl
+  mailbox_empty (note ∷ notes) = refl
 
--- the marks of the first copies are the first marks
-marks_prefix : (calendar : Calendar) (site : Site) (quota : Option ℕ) (n len : ℕ) (notes : List Note)
-    → are_kept_after calendar site quota len (take n notes) ≡ take n (are_kept_after calendar site quota len notes)
-marks_prefix calendar site quota zero len notes = refl
-marks_prefix calendar site quota (suc n) len [] = refl
-marks_prefix calendar site quota (suc n) len (x ∷ notes) =
-    let size = length (record_of calendar site x) in
-    let t = fits quota len size in
-    ap (λ l. t ∷ l) (marks_prefix calendar site quota n (if t then len + size else len) notes)
+  -- the marks of the first copies are the first marks
+  marks_prefix : (n len : ℕ) (notes : List Note) → are_kept_after calendar site quota len (take n notes) ≡ take n (are_kept_after calendar site quota len notes)
+  marks_prefix zero len notes = refl
+  marks_prefix (suc n) len [] = refl
+  marks_prefix (suc n) len (x ∷ notes) =
+      let size = length (text_of x) in let t = fits quota len size in ap (λ l. t ∷ l) (marks_prefix n (if t then len + size else len) notes)
 
-holds_copies : (calendar : Calendar) (site : Site) (quota : Option ℕ) (notes : List Note) (outcomes : List Outcome) (bytes : List ℕ) (failed : Bool)
-    → HoldsFrom calendar site [] (are_kept_after calendar site quota 0 notes) notes outcomes bytes failed
-    → HoldsCopies calendar site quota notes outcomes bytes failed
-unfolding are_kept
-holds_copies calendar site quota notes outcomes bytes failed h = record {
-  settled = h.settled;
-  torn = h.torn;
-  within = h.within;
-  told = h.told;
-  held = h.held ∙ ap (λ l. l ++ h.torn) (sym (
-      mailbox_empty calendar site (kept calendar site quota [] (take h.settled notes))
-      ∙ ap (λ marks. flat_map (record_of calendar site) (marked marks (take h.settled notes))) (marks_prefix calendar site quota h.settled 0 notes)));
-  tears = h.tears;
-  fails = h.fails;
-  next = h.next;
-}
-
--- what a spool in memory comes to that held nothing at first, by the turns that it had
-pub record ComesToHold (calendar : Calendar) (site : Site) (quota limit : Option ℕ) (copies : List Note) (turns : List Told) (bytes : List ℕ) : Type 0 where
-  pub holds : HoldsCopies calendar site quota copies (outcomes_in turns) bytes (last_broke false turns)
-  pub full : last_broke false turns ≡ true → IsFull limit bytes
-  pub left : left_by [] turns ≡ bytes
-
-left_is : (last now : Standing) (turns : List Told) → AreFound IsSame last turns now → left_by last.bytes turns ≡ now.bytes
-left_is last now [] found = sym (ap (λ (s : Standing). s.bytes) found)
-left_is last now (told ∷ turns) found =
-    ap (λ b. left_by b turns) (left_one told.turn found.1) ∙ left_is found.0 now turns found.2
-  where
-    left_one : (turn : Turn) → IsFound IsSame last turn found.0 → left_after last.bytes turn ≡ found.0.bytes
-    left_one NotHad is = sym (ap (λ (s : Standing). s.bytes) is)
-    left_one (Had lock unlock) is = sym (ap (λ (s : Standing). s.bytes) is.2)
-
-pub comes_to_hold : (calendar : Calendar) (site : Site) (quota limit : Option ℕ) (copies : List Note) (turns : List Told) (old new : Standing) → old.bytes ≡ []
-    → HaveTurns calendar site quota copies turns → AreFound IsSame old turns new → AreRefused RefusesAfterFault false turns
-    → AllByRecursion (λ (t : Told). IsFullWhereBroken limit t.outcome t.turn) turns
-    → ComesToHold calendar site quota limit copies turns new.bytes
-comes_to_hold calendar site quota limit copies turns old new empty have found refused full =
-    let came = comes_to calendar site quota limit copies turns new have full old (ap mended empty) found refused in
-    let H : List ℕ → Type 0 =
-    λ b. HoldsFrom calendar site b (are_kept_after calendar site quota (length b) copies) copies (outcomes_in turns) new.bytes (last_broke false turns) in
-    record {
-      holds = holds_copies calendar site quota copies (outcomes_in turns) new.bytes (last_broke false turns) (subst H empty came.holds);
-      full = came.full;
-      left = ap (λ b. left_by b turns) (sym empty) ∙ left_is old new turns found;
-    }
+  -- what a spool in memory comes to that held nothing at first, by its turns
+  pub in_memory : (copies : List Note) (turns : List Told) → HaveTurns calendar site quota copies turns → AreAlone [] turns
+      → AreRefused RefusesAfterFault false turns → AllByRecursion (λ (d : Told). IsFullWhereBroken limit d.outcome d.turn) turns
+      → HoldsCopies calendar site quota copies (outcomes_in turns) (left_by [] turns) (last_broke false turns)
+      × (last_broke false turns ≡ true → IsFull limit (left_by [] turns))
+  unfolding are_kept
+  in_memory copies turns have alone refused full =
+      let h = comes_to [] copies turns refl have alone refused full in
+      let first : List Note = take h.settled copies in
+      let holds : mailbox calendar site [] (kept calendar site quota [] first) ≡ flat_map text_of (marked (take h.settled (marks_of [] copies)) first) =
+      mailbox_empty (kept calendar site quota [] first) ∙ ap (λ ms. flat_map text_of (marked ms first)) (marks_prefix h.settled 0 copies) in (
+        record {
+          settled = h.settled;
+          torn = h.torn;
+          within = h.within;
+          told = h.told;
+          held = h.held ∙ ap (λ l. l ++ h.torn) (sym holds);
+          tears = h.tears;
+          fails = h.fails;
+          next = h.next;
+        },
+        h.full,
+      )

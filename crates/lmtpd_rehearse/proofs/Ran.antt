@@ -17,22 +17,20 @@ use Rattle.mail_world.specs.Session.{fresh}
 use Rattle.mail_world.specs.Conversation.{Disposition, Conversation, IsAccount, conversation, inputs, parts, replies}
 use Rattle.mail_world.specs.Lists.{Transaction, VerdictFits, OutcomesIn, of_lane, copies_owed, due, transactions}
 use Rattle.mail_world.specs.Deliveries.{outcomes_told, told_all}
-use Rattle.mail_world.specs.Turns.{left_by}
+use Rattle.mail_world.specs.Turns.{Standing, left_by, last_broke}
 use Rattle.mail_world.proofs.Accounts.{account_told}
 use Rattle.mail_runs.specs.Courses.{Course, outcomes_in}
 use Rattle.mail_runs.proofs.OneLane.{many}
-use Rattle.box_worker.specs.Turned.{Manner, manner_of}
 use Rattle.box_worker.specs.Told.{owed_to}
 use Rattle.lmtp_text.specs.Calendar.{civil_at}
 use Rattle.mbox_record.specs.MemorySpool.{MemorySpool, state_of}
-use Rattle.mbox_record.specs.Spool.{standing}
 use Rattle.lmtp_talk.specs.declared.ending.EndCause.{EndCause}
 use Rattle.lmtp_talk.specs.declared.ending.EndCause.TheVariants.{WriteFault}
 use Rattle.lmtp_threads.specs.declared.tally.Tally.{Tally}
 use Rattle.lmtp_threads.specs.Works.{share_of, setting_of, IsBoxWork, LaneWork, BoxWork, SpoolsView, spools_view}
 use Rattle.lmtp_house.specs.Handed.{HandedIn, HandedBack}
 use Rattle.lmtp_house.specs.House.{HasRun}
-use Rattle.lmtp_house.specs.RunOfModel.{courses_of, threads_of, IsRunOfModel}
+use Rattle.lmtp_house.specs.RunOfModel.{courses_of, threads_of, IsRunOfModel, IsLeftAlone}
 use Rattle.lmtp_talk.specs.Peer.{PeerState}
 use Rattle.lmtp_talk.specs.Served.{terms, IsWritten, has_quit, transactions_in}
 use Rattle.mail_world.specs.declared.limits.TheConstants.{READ_LIMIT, RECIPIENT_LIMIT}
@@ -53,7 +51,7 @@ use Rattle.mail_runs.specs.Histories.{Threads}
 use Rattle.mail_runs.specs.Ordered.{IsOrderlyRunOf}
 use Rattle.mail_runs.proofs.Rising.{NumbersRise, numbers_rise}
 use Rattle.std.proofs.KnownBytes.{Appends-trans}
-use Rattle.lmtpd_rehearse.proofs.InMemory.{IsSame, RefusesAfterFault, ComesToHold, comes_to_hold}
+use Rattle.lmtpd_rehearse.proofs.InMemory.{RefusesAfterFault, in_memory}
 use Rattle.lmtpd_rehearse.proofs.Keeping.{HoldsAll, all_settled, holds_all}
 use Rattle.lmtpd_rehearse.proofs.Telling.{IsPrefixOfOwed, AreSized, told_as_said, all_told_settled}
 
@@ -161,19 +159,17 @@ held_by site moment old new v never still at h =
       unstopped = is;
     }
 
--- a spool in memory as contracts see every spool
-abbrev in_memory : Manner
-in_memory = manner_of IsSame RefusesAfterFault
-
+-- spools in memory as contracts see all spools
 abbrev in_memory_view : SpoolsView MemorySpool
-in_memory_view = spools_view state_of IsSame RefusesAfterFault
+in_memory_view = spools_view state_of (λ last now. now ≡ last) RefusesAfterFault
 
 -- what a mailbox's worker did
 record BoxAt (site : Site) (quota : Option ℕ) (work : BoxWork) (spools : List MemorySpool) (tallies : List Tally) (b : ℕ) : Type 0 where
   spool : MemorySpool
   tally : Tally
   is : kept_at (kept_all spools tallies) b ≡ record { bytes = spool.bytes; failed = tally.faulty }
-  did : IsBoxWork (setting_of (share_of site quota) b) in_memory work (state_of (empty_spool site)) (state_of spool) tally
+  did : IsBoxWork (setting_of (share_of site quota) b) in_memory_view.manner work (state_of (empty_spool site)) (state_of spool) tally
+  alone : IsLeftAlone work.turns [] spool.bytes
 
 -- what the lane heard, and what each of that many workers did
 record AllWork : Type 0 where
@@ -195,21 +191,23 @@ record HaveWorked (site : Site) (quota : Option ℕ) (ts : List Transaction) (wo
 
 -- what a worker made of its mailbox, and what it told of its copies
 module _ (site : Site) (quota : Option ℕ) (b : ℕ) (work : BoxWork) (spool : MemorySpool) (tally : Tally)
-    (did : IsBoxWork (setting_of (share_of site quota) b) in_memory work (state_of (empty_spool site)) (state_of spool) tally) where
-  abbrev limit : Option ℕ
-  limit = (state_of (empty_spool site)).limit
+    (did : IsBoxWork (setting_of (share_of site quota) b) in_memory_view.manner work (state_of (empty_spool site)) (state_of spool) tally)
+    (alone : IsLeftAlone work.turns [] spool.bytes) where
+  abbrev HoldsSo : List ℕ → Bool → Type 0
+  HoldsSo bytes broke = HoldsCopies civil_at site quota work.taken (outcomes_in work.turns) bytes broke
+      × (broke ≡ true → length bytes ≡ 0 + mailbox_room site.message_limit)
 
-  came : ComesToHold civil_at site quota limit work.taken work.turns spool.bytes
-  came = comes_to_hold civil_at site quota limit work.taken work.turns (standing (state_of (empty_spool site))) (standing (state_of spool)) refl
-      did.turned.are (did.turned.found refl) (did.turned.refused refl) did.turned.full
+  holds_so : HoldsSo spool.bytes tally.faulty
+  holds_so =
+      let came = in_memory civil_at site quota (state_of (empty_spool site)).limit work.taken work.turns did.turned.are alone.between (did.turned.refused refl)
+      did.turned.full in
+      subst (HoldsSo spool.bytes) (sym did.turned.broke) (subst (λ b. HoldsSo b (last_broke false work.turns)) (sym alone.left) came)
 
   as_many : length (outcomes_in work.turns) ≡ length work.taken
   as_many = many (model_of site quota) work.taken work.turns did.turned.are
 
   holds : HoldsCopies civil_at site quota work.taken (outcomes_in work.turns) spool.bytes tally.faulty
-  holds =
-      let P : Bool → Type 0 = λ broke. HoldsCopies civil_at site quota work.taken (outcomes_in work.turns) spool.bytes broke in
-      subst P (sym did.turned.broke) came.holds
+  holds = holds_so.0
 
   tells_settled : tally.faulty ≡ false → AllByRecursion (IsSettledOutcome quota) (outcomes_in work.turns)
   tells_settled sound =
@@ -219,7 +217,7 @@ module _ (site : Site) (quota : Option ℕ) (b : ℕ) (work : BoxWork) (spool : 
       subst S (sym all.told) (all_settled civil_at site quota work.taken)
 
   fills : tally.faulty ≡ true → length spool.bytes ≡ mailbox_room site.message_limit
-  fills e = let full : length spool.bytes ≡ 0 + mailbox_room site.message_limit = came.full (sym did.turned.broke ∙ e) in omega (arith, full)
+  fills e = let full = holds_so.1 e in omega (arith, full)
 
 -- what was told of a mailbox's copies is what its worker said
 said_of_box : (site : Site) (quota : Option ℕ) (c : Conversation) (work : AllWork) (spools : List MemorySpool) (tallies : List Tally)
@@ -230,7 +228,7 @@ said_of_box site quota c work spools tallies h b low =
     let told : ℕ → List Outcome = λ k. outcomes_in (work.boxes k).turns in
     let some : 0 < 1 = omega arith in
     let sized : AreSized told ts work.count = λ k below.
-    let at = h.each k below in as_many site quota k (work.boxes k) at.spool at.tally at.did ∙ ap length (h.taken k below) in
+    let at = h.each k below in as_many site quota k (work.boxes k) at.spool at.tally at.did at.alone ∙ ap length (h.taken k below) in
     told_as_said work.heard told work.count 1 ts some (rising site c) h.answered h.known h.begun sized b low
 
 delivered : (site : Site) (quota : Option ℕ) (c : Conversation) (work : AllWork) (spools : List MemorySpool) (tallies : List Tally) (faulty : Bool)
@@ -257,7 +255,7 @@ delivered site quota c work spools tallies faulty is accounted h size faulty_is 
     let T : List Outcome → Type 0 = λ os. HoldsCopies civil_at site quota (due site 0 box (c ∷ [])) os at.spool.bytes at.tally.faulty in
     let K : MailboxContent → Type 0 = λ k. H c box k.bytes k.failed in
     let C : Conversation → Type 0 = λ x. H x box (kept_at ks box).bytes (kept_at ks box).failed in
-    let first : P (copies_owed 0 box ts) = subst P (h.taken box low) (holds site quota box (work.boxes box) at.spool at.tally at.did) in
+    let first : P (copies_owed 0 box ts) = subst P (h.taken box low) (holds site quota box (work.boxes box) at.spool at.tally at.did at.alone) in
     let told_so : Q (told_all box ts) = subst Q (sym (said_of_box site quota c work spools tallies h box low)) first in
     subst C is (subst K (sym at.is) (subst T (sym (told_is site box c)) (subst D (sym (due_is site box c)) told_so))) in
     let whole : faulty ≡ false → (box : ℕ) → box < length site.boxes
@@ -273,13 +271,13 @@ delivered site quota c work spools tallies faulty is accounted h size faulty_is 
           let low : box < work.count = omega (arith, size, within) in
           let at = h.each box low in
           ap (λ (k : MailboxContent). length k.bytes) at.is
-          ∙ fills site quota box (work.boxes box) at.spool at.tally at.did (sym (ap (λ (k : MailboxContent). k.failed) at.is) ∙ failed);
+          ∙ fills site quota box (work.boxes box) at.spool at.tally at.did at.alone (sym (ap (λ (k : MailboxContent). k.failed) at.is) ∙ failed);
       sound = (calm, λ quiet. faulty_is ∙ all_calm spools tallies as_many quiet);
       settled = λ f.
           let S : List Disposition → Type 0 = λ ds. AllByRecursion (IsAllSettled quota) ds in
           subst S told_it (all_told_settled work.heard quota told work.count ts h.answered h.known h.begun (λ b low.
           let at = h.each b low in
-          tells_settled site quota b (work.boxes b) at.spool at.tally at.did
+          tells_settled site quota b (work.boxes b) at.spool at.tally at.did at.alone
           (sym (ap (λ (k : MailboxContent). k.failed) at.is) ∙ calm f b (omega (arith, many, low)))));
       told = λ f box within. (whole f box within).told;
       held = λ f box within. (whole f box within).held;
@@ -339,6 +337,8 @@ module _ (site : Site) (quota : Option ℕ) (moment : ℕ) {P : Type 0} (state :
               tally = tally.0;
               is = kept_is back.spools back.tallies b spool.0 tally.0 spool.1 tally.1;
               did = h.stored b (empty_spool site) spool.0 tally.0 (get_same count b (empty_spool site) low) spool.1 tally.1;
+              alone = h.alone b (empty_spool site) spool.0 (get_same count b (empty_spool site) low) spool.1
+                  (record { free = refl; same = λ last now e. ap (λ (s : Standing). s.bytes) e });
             };
         as_many = (h.as_many_boxes.0 ∙ many, h.as_many_boxes.1 ∙ many);
       }
@@ -368,13 +368,12 @@ module _ (site : Site) (quota : Option ℕ) (moment : ℕ) {P : Type 0} (state :
             let low : b < count = omega (arith, within, size) in
             let at = worked.each b low in
             let old : (courses b).old ≡ [] = nothing_at count b (empty_spool site) low refl in
-            let came = came site quota b (h.boxes b) at.spool at.tally at.did in
             let said = said_of_box site quota c (all_work (h.lanes 0).heard h.boxes count) back.spools back.tallies worked b low in
             record {
               old = old;
               taken = worked.taken b low ∙ sym (due_is site b c) ∙ ap (copies b) is;
               outcomes = sym said ∙ sym (told_is site b c) ∙ ap (λ x. outcomes_told site b (x ∷ [])) is;
-              left = ap (λ l. left_by l (h.boxes b).turns) old ∙ came.left ∙ sym (ap (λ (k : MailboxContent). k.bytes) at.is);
+              left = ap (λ l. left_by l (h.boxes b).turns) old ∙ sym at.alone.left ∙ sym (ap (λ (k : MailboxContent). k.bytes) at.is);
               failed = sym at.did.turned.broke ∙ sym (ap (λ (k : MailboxContent). k.failed) at.is);
             };
       }
