@@ -2,6 +2,7 @@
 
 import os
 import pathlib
+import re
 import shutil
 import signal
 import subprocess
@@ -34,7 +35,12 @@ class Cut(NamedTuple):
     @property
     def told(self):
         """The letters that were told 250 by then."""
-        return [text_of(self.before)] if self.before else []
+        return [text_of(record) for record in re.split(rb"(?<=\n\n)(?=From )", self.before) if record]
+
+    @property
+    def found(self):
+        """What stands there now, or nothing where there is no file."""
+        return self.path.read_bytes() if self.path.exists() else b""
 
 
 class Reader(NamedTuple):
@@ -102,7 +108,7 @@ def deliver_after(folder, cuts):
     boxes = [cut.path.stem for cut in cuts]
     with Server(folder, boxes, 1, "--lanes", 1) as server, Client(server.address).greet() as client:
         # the start alone changes nothing
-        equal([cut.place for cut in cuts if cut.path.read_bytes() != cut.torn], [])
+        equal([cut.place for cut in cuts if cut.found != cut.torn], [])
         equal(client.deliver_at_once(boxes, *THEN)[1], [stored(box) for box in boxes])
         client.quit()
         equal(vars(server.end()), {"status": 0, "said": [f"{box} stored 1" for box in boxes], "errors": []})

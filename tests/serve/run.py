@@ -7,6 +7,7 @@ import changed  # noqa: F401
 import closed  # noqa: F401
 import conversations  # noqa: F401
 import copies  # noqa: F401
+import crash_states  # noqa: F401
 import deliveries  # noqa: F401
 import ends  # noqa: F401
 import failing  # noqa: F401
