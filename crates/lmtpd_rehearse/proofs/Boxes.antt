@@ -7,12 +7,7 @@ use Rattle.mbox_record.specs.MemorySpool.{MemorySpool}
 use Rattle.lmtp_threads.specs.declared.tally.Tally.{Tally}
 use Rattle.lmtpd_rehearse.specs.Mailboxes.{MailboxContent, kept_all, kept_at, bytes_of_all, IsCalm}
 
--- lists of one length
-pub get_some : {A : Type 0} (xs : List A) (n : ℕ) → n < length xs → (x : A) × (slice_get xs n ≡ Some x)
-get_some [] n h = absurd (omega arith)
-get_some (x ∷ xs) zero h = (x, refl)
-get_some (x ∷ xs) (suc n) h = get_some xs n (omega arith)
-
+-- a list of one element alone
 pub get_same : {A : Type 0} (k n : ℕ) (x : A) → n < k → slice_get (replicate k x) n ≡ Some x
 get_same zero n x h = absurd (omega arith)
 get_same (suc k) zero x h = refl

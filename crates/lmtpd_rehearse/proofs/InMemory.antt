@@ -49,10 +49,6 @@ module _ (calendar : Calendar) (site : Site) (quota limit : Option ℕ) where
 
   -- ---- once a turn broke
 
-  length-marks : (len : ℕ) (notes : List Note) → length (are_kept_after calendar site quota len notes) ≡ length notes
-  length-marks len [] = refl
-  length-marks len (x ∷ notes) = let size = length (text_of x) in ap suc (length-marks (if fits quota len size then len + size else len) notes)
-
   is_missed : (note : Note) (outcome : Outcome) (turn : Turn) → IsTurn calendar site quota note outcome turn → is_not_had turn ≡ true
       → record { outcome = outcome; turn = turn } ≡ missed
   is_missed note outcome (Had lock unlock) is e = cc
@@ -62,21 +58,20 @@ module _ (calendar : Calendar) (site : Site) (quota limit : Option ℕ) where
   is_missed note NoRoom NotHad is e = absurd is
   is_missed note TooLarge NotHad is e = absurd is
 
-  record AllMissed (marks : List Bool) (turns : List Told) : Type 0 where
-    told : outcomes_in turns ≡ outcomes_settled 0 marks
+  record AllMissed (len : ℕ) (notes : List Note) (turns : List Told) : Type 0 where
+    told : outcomes_in turns ≡ outcomes_settled 0 (are_kept_after calendar site quota len notes)
     broke : last_broke true turns ≡ true
     left : (bytes : List ℕ) → left_by bytes turns ≡ bytes
 
-  all_missed : (marks : List Bool) (notes : List Note) (turns : List Told) → length marks ≡ length notes → HaveTurns calendar site quota notes turns
-      → AreRefused RefusesAfterFault true turns → AllMissed marks turns
-  all_missed [] [] [] size have refused = record { told = refl; broke = refl; left = λ bytes. refl }
-  all_missed (t ∷ marks) [] turns size have refused = absurd (omega (arith, size))
-  all_missed [] (x ∷ notes) turns size have refused = absurd (omega (arith, size))
-  all_missed [] [] (told ∷ turns) size have refused = absurd have
-  all_missed (t ∷ marks) (x ∷ notes) [] size have refused = absurd have
-  all_missed (t ∷ marks) (x ∷ notes) (told ∷ turns) size have refused =
+  all_missed : (len : ℕ) (notes : List Note) (turns : List Told) → HaveTurns calendar site quota notes turns → AreRefused RefusesAfterFault true turns
+      → AllMissed len notes turns
+  all_missed len [] [] have refused = record { told = refl; broke = refl; left = λ bytes. refl }
+  all_missed len [] (told ∷ turns) have refused = absurd have
+  all_missed len (x ∷ notes) [] have refused = absurd have
+  all_missed len (x ∷ notes) (told ∷ turns) have refused =
+      let size = length (text_of x) in
       let is : told ≡ missed = is_missed x told.outcome told.turn have.0 refused.0 in
-      let more = all_missed marks notes turns (omega (arith, size)) have.1
+      let more = all_missed (if fits quota len size then len + size else len) notes turns have.1
       (subst (λ (d : Told). AreRefused RefusesAfterFault (breaks_last true d.outcome d.turn) turns) is refused.1) in
       record {
         told = ap (λ (d : Told). d.outcome ∷ outcomes_in turns) is ∙ ap (λ l. Failed ∷ l) more.told;
@@ -161,10 +156,10 @@ module _ (calendar : Calendar) (site : Site) (quota limit : Option ℕ) where
       let same : unlock.bytes ≡ bytes = is.same ∙ at in
       one_settled false note notes lock.bytes unlock.bytes bytes _ _ _ is.room at clean (same ∙ sym (append-nil bytes)) (more (ap mended same ∙ clean) refused)
   one_turn bytes note notes Failed (Had lock unlock) turns clean is have at e refused full more =
-      let later : List Bool = are_kept_after calendar site quota (length bytes + length (text_of note)) notes in
-      let rest = all_missed later notes turns (length-marks (length bytes + length (text_of note)) notes) have refused in
+      let len : ℕ = length bytes + length (text_of note) in
+      let rest = all_missed len notes turns have refused in
       let stays : left_by unlock.bytes turns ≡ unlock.bytes = rest.left unlock.bytes in
-      let marks : marks_of bytes (note ∷ notes) ≡ true ∷ later =
+      let marks : marks_of bytes (note ∷ notes) ≡ true ∷ are_kept_after calendar site quota len notes =
       ap (λ t. marked_by t (length bytes) note notes) (measured note lock.bytes bytes true is.room at clean) in
       let M : List Bool → Type 0 = λ ms.
       HoldsFrom bytes ms (note ∷ notes) (Failed ∷ outcomes_in turns) (left_by unlock.bytes turns) (last_broke true turns) in

@@ -1,10 +1,10 @@
 -- A rehearsal from its parts: the run of the server, and how the mailboxes were written.
-use Rattle.std.proofs.Common.{◌≡◌, ℕ, cond, get_or, ◌<◌, ◌+◌, ◌-◌, List, [], ◌∷◌, length, map, replicate, Bool, true, false, Option, Some, inl}
-use Rattle.std.proofs.Common.{inr, refl, ap, sym, ◌∙◌, subst, append-nil, arith}
+use Rattle.std.proofs.Common.{◌≡◌, ℕ, zero, suc, cond, get_or, ◌<◌, ◌+◌, ◌-◌, List, [], ◌∷◌, length, map, replicate, Bool, true, false, Option, Some, inl}
+use Rattle.std.proofs.Common.{inr, refl, ap, sym, ◌∙◌, subst, append-nil, zero-add, arith}
 use Rattle.std.specs.Prelude.{◌==◌, ◌^◌, slice_get}
 use Rattle.std.specs.List.{AllByRecursion, list_any}
 use Rattle.std.specs.Io.KnownBytes.{Appends, Consumes}
-use Rattle.std.proofs.lemmas.List.{length-map, length-replicate, get_or-map, get_or-replicate}
+use Rattle.std.proofs.lemmas.List.{length-map, length-replicate}
 use Rattle.std.proofs.lemmas.Bool.Decides.{nat_tests}
 use Rattle.mail_world.specs.declared.Note.{Note}
 use Rattle.mail_world.specs.declared.Outcome.{Outcome}
@@ -28,6 +28,7 @@ use Rattle.lmtp_talk.specs.declared.ending.EndCause.{EndCause}
 use Rattle.lmtp_talk.specs.declared.ending.EndCause.TheVariants.{WriteFault}
 use Rattle.lmtp_threads.specs.declared.tally.Tally.{Tally}
 use Rattle.lmtp_threads.specs.Works.{share_of, setting_of, IsBoxWork, LaneWork, BoxWork, SpoolsView, spools_view}
+use Rattle.lmtp_threads.proofs.ChannelRows.{at as element}
 use Rattle.lmtp_house.specs.Handed.{HandedIn, HandedBack}
 use Rattle.lmtp_house.specs.House.{HasRun}
 use Rattle.lmtp_house.specs.RunOfModel.{courses_of, threads_of, IsRunOfModel, IsLeftAlone}
@@ -45,7 +46,7 @@ use Rattle.lmtpd_rehearse.specs.Mailboxes.{MailboxContent, kept_all, kept_at, by
 use Rattle.lmtpd_rehearse.specs.Rehearsal.{AreMailboxes, copies_due, told_of_box, model_of, IsRunOfRehearsal, RehearsalEndsFor, HeldState, IsHeld, IsRehearsed}
 use Rattle.lmtpd_words.specs.Output.{IsListed}
 use Rattle.lmtpd_rehearse.specs.Rehearsal.{Streams}
-use Rattle.lmtpd_rehearse.proofs.Boxes.{get_some, get_same, kept_is, length-kept, bytes_are, none_failed, all_calm}
+use Rattle.lmtpd_rehearse.proofs.Boxes.{get_same, kept_is, length-kept, bytes_are, none_failed, all_calm}
 use Rattle.mail_world.specs.Runs.{events_of, offers_by}
 use Rattle.mail_runs.specs.Histories.{Threads}
 use Rattle.mail_runs.specs.Ordered.{IsOrderlyRunOf}
@@ -206,18 +207,12 @@ module _ (site : Site) (quota : Option ℕ) (b : ℕ) (work : BoxWork) (spool : 
   as_many : length (outcomes_in work.turns) ≡ length work.taken
   as_many = many (model_of site quota) work.taken work.turns did.turned.are
 
-  holds : HoldsCopies civil_at site quota work.taken (outcomes_in work.turns) spool.bytes tally.faulty
-  holds = holds_so.0
-
   tells_settled : tally.faulty ≡ false → AllByRecursion (IsSettledOutcome quota) (outcomes_in work.turns)
   tells_settled sound =
       let P : Bool → Type 0 = λ broke. HoldsCopies civil_at site quota work.taken (outcomes_in work.turns) spool.bytes broke in
-      let all = holds_all civil_at site quota work.taken (outcomes_in work.turns) spool.bytes (subst P sound holds) in
+      let all = holds_all civil_at site quota work.taken (outcomes_in work.turns) spool.bytes (subst P sound holds_so.0) in
       let S : List Outcome → Type 0 = λ os. AllByRecursion (IsSettledOutcome quota) os in
       subst S (sym all.told) (all_settled civil_at site quota work.taken)
-
-  fills : tally.faulty ≡ true → length spool.bytes ≡ mailbox_room site.message_limit
-  fills e = let full = holds_so.1 e in omega (arith, full)
 
 -- what was told of a mailbox's copies is what its worker said
 said_of_box : (site : Site) (quota : Option ℕ) (c : Conversation) (work : AllWork) (spools : List MemorySpool) (tallies : List Tally)
@@ -255,7 +250,7 @@ delivered site quota c work spools tallies faulty is accounted h size faulty_is 
     let T : List Outcome → Type 0 = λ os. HoldsCopies civil_at site quota (due site 0 box (c ∷ [])) os at.spool.bytes at.tally.faulty in
     let K : MailboxContent → Type 0 = λ k. H c box k.bytes k.failed in
     let C : Conversation → Type 0 = λ x. H x box (kept_at ks box).bytes (kept_at ks box).failed in
-    let first : P (copies_owed 0 box ts) = subst P (h.taken box low) (holds site quota box (work.boxes box) at.spool at.tally at.did at.alone) in
+    let first : P (copies_owed 0 box ts) = subst P (h.taken box low) (holds_so site quota box (work.boxes box) at.spool at.tally at.did at.alone).0 in
     let told_so : Q (told_all box ts) = subst Q (sym (said_of_box site quota c work spools tallies h box low)) first in
     subst C is (subst K (sym at.is) (subst T (sym (told_is site box c)) (subst D (sym (due_is site box c)) told_so))) in
     let whole : faulty ≡ false → (box : ℕ) → box < length site.boxes
@@ -271,7 +266,8 @@ delivered site quota c work spools tallies faulty is accounted h size faulty_is 
           let low : box < work.count = omega (arith, size, within) in
           let at = h.each box low in
           ap (λ (k : MailboxContent). length k.bytes) at.is
-          ∙ fills site quota box (work.boxes box) at.spool at.tally at.did at.alone (sym (ap (λ (k : MailboxContent). k.failed) at.is) ∙ failed);
+          ∙ (holds_so site quota box (work.boxes box) at.spool at.tally at.did at.alone).1 (sym (ap (λ (k : MailboxContent). k.failed) at.is) ∙ failed)
+          ∙ zero-add (mailbox_room site.message_limit);
       sound = (calm, λ quiet. faulty_is ∙ all_calm spools tallies as_many quiet);
       settled = λ f.
           let S : List Disposition → Type 0 = λ ds. AllByRecursion (IsAllSettled quota) ds in
@@ -284,11 +280,10 @@ delivered site quota c work spools tallies faulty is accounted h size faulty_is 
     }
 
 -- a new spool holds nothing
-nothing_at : (count b : ℕ) (spool : MemorySpool) → b < count → spool.bytes ≡ [] → get_or (map (λ (s : MemorySpool). (state_of s).bytes) (replicate count spool)) b [] ≡ []
-nothing_at count b spool low empty =
-    let many : length (replicate count spool) ≡ count = length-replicate count spool in
-    get_or-map (λ (s : MemorySpool). (state_of s).bytes) (replicate count spool) b spool [] (omega (arith, low, many))
-    ∙ ap (λ (s : MemorySpool). s.bytes) (get_or-replicate count b spool spool low) ∙ empty
+nothing_at : (count b : ℕ) (spool : MemorySpool) → spool.bytes ≡ [] → get_or (map (λ (s : MemorySpool). (state_of s).bytes) (replicate count spool)) b [] ≡ []
+nothing_at zero b spool empty = refl
+nothing_at (suc count) zero spool empty = empty
+nothing_at (suc count) (suc b) spool empty = nothing_at count b spool empty
 
 -- the run of a server whose only lane has one client, and whose spools are new
 abbrev pub HasRunAlone : (site : Site) (quota : Option ℕ) (moment : ℕ) {P : Type 0} (state : P → PeerState) (peer : P) (count : ℕ)
@@ -330,14 +325,14 @@ module _ (site : Site) (quota : Option ℕ) (moment : ℕ) {P : Type 0} (state :
             subst B (taken b low) (record { rest = []; whole = sym (h.told 0 b one (low_in b low)) ∙ sym (append-nil (of_worker b heard)) });
         taken = taken;
         each = λ b low.
-            let spool = get_some back.spools b (omega (arith, many, low, h.as_many_boxes.0)) in
-            let tally = get_some back.tallies b (omega (arith, many, low, h.as_many_boxes.1)) in
+            let spool = element back.spools b (omega (arith, many, low, h.as_many_boxes.0)) in
+            let tally = element back.tallies b (omega (arith, many, low, h.as_many_boxes.1)) in
             record {
-              spool = spool.0;
-              tally = tally.0;
-              is = kept_is back.spools back.tallies b spool.0 tally.0 spool.1 tally.1;
-              did = h.stored b (empty_spool site) spool.0 tally.0 (get_same count b (empty_spool site) low) spool.1 tally.1;
-              alone = h.alone b (empty_spool site) spool.0 (get_same count b (empty_spool site) low) spool.1
+              spool = spool.value;
+              tally = tally.value;
+              is = kept_is back.spools back.tallies b spool.value tally.value spool.is tally.is;
+              did = h.stored b (empty_spool site) spool.value tally.value (get_same count b (empty_spool site) low) spool.is tally.is;
+              alone = h.alone b (empty_spool site) spool.value (get_same count b (empty_spool site) low) spool.is
                   (record { free = refl; same = λ last now e. ap (λ (s : Standing). s.bytes) e });
             };
         as_many = (h.as_many_boxes.0 ∙ many, h.as_many_boxes.1 ∙ many);
@@ -367,7 +362,7 @@ module _ (site : Site) (quota : Option ℕ) (moment : ℕ) {P : Type 0} (state :
         each = λ b within.
             let low : b < count = omega (arith, within, size) in
             let at = worked.each b low in
-            let old : (courses b).old ≡ [] = nothing_at count b (empty_spool site) low refl in
+            let old : (courses b).old ≡ [] = nothing_at count b (empty_spool site) refl in
             let said = said_of_box site quota c (all_work (h.lanes 0).heard h.boxes count) back.spools back.tallies worked b low in
             record {
               old = old;
