@@ -370,6 +370,7 @@ module _ (site : Site) (quota : Option ℕ) (moment : ℕ) {P : Type 0} (state :
               outcomes = sym said ∙ sym (told_is site b c) ∙ ap (λ x. outcomes_told site b (x ∷ [])) is;
               left = ap (λ l. left_by l (h.boxes b).turns) old ∙ sym at.alone.left ∙ sym (ap (λ (k : MailboxContent). k.bytes) at.is);
               failed = sym at.did.turned.broke ∙ sym (ap (λ (k : MailboxContent). k.failed) at.is);
+              refused = at.did.turned.refused refl;
             };
       }
 

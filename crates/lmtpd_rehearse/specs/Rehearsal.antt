@@ -17,6 +17,7 @@ use Rattle.mail_world.specs.Turns.{left_by, last_broke}
 use Rattle.mail_runs.specs.Courses.{Server, Course, outcomes_in}
 use Rattle.mail_runs.specs.Histories.{Threads}
 use Rattle.mail_runs.specs.Ordered.{IsOrderlyRunOf}
+use Rattle.box_worker.specs.Turned.{AreRefused}
 use Rattle.lmtp_text.specs.Calendar.{civil_at}
 use Rattle.lmtp_talk.specs.declared.ending.EndCause.{EndCause}
 use Rattle.lmtp_talk.specs.declared.ending.EndCause.TheVariants.{Quit, EndOfInput, WriteFault, Stopped, ReadBound}
@@ -66,7 +67,8 @@ pub record AreMailboxes (site : Site) (quota : Option ℕ) (read : List ℕ) (ac
       (kept civil_at site quota [] (copies_due site read account box))
 
 -- A mailbox of the model came to what this one did: it was empty at first, took these copies, told this of each in its
--- turn, is left with these bytes, and failed where this one did.
+-- turn, is left with these bytes, and failed where this one did. From the first turn that broke on all were missed, and
+-- none before it.
 pub record IsCourseTo (copies : List Note) (told : List Outcome) (mailbox : MailboxContent)
     (course : Course) : Type 0 where
   pub old : course.old ≡ []
@@ -74,6 +76,7 @@ pub record IsCourseTo (copies : List Note) (told : List Outcome) (mailbox : Mail
   pub outcomes : outcomes_in course.turns ≡ told
   pub left : left_by course.old course.turns ≡ mailbox.bytes
   pub failed : last_broke false course.turns ≡ mailbox.failed
+  pub refused : AreRefused (λ broke refused. refused ≡ broke) false course.turns
 
 -- the model's server: this site, its calendar, this quota, one lane
 abbrev pub model_of : Site → Option ℕ → Server
