@@ -144,7 +144,7 @@ module _ (calendar : Calendar) (site : Site) (quota limit : Option ℕ) where
       → (let after : List ℕ = left_after bytes turn in mended after ≡ [] → AreRefused RefusesAfterFault false turns
       → HoldsFrom after (marks_of after notes) notes (outcomes_in turns) (left_by after turns) (last_broke false turns))
       → HoldsFrom bytes (marks_of bytes (note ∷ notes)) (note ∷ notes) (outcome ∷ outcomes_in turns) (left_by (left_after bytes turn) turns)
-          (last_broke (breaks_last false outcome turn) turns)
+      (last_broke (breaks_last false outcome turn) turns)
   one_turn bytes note notes outcome NotHad turns clean is have at e refused full more = cc
   one_turn bytes note notes NoRoom (Had lock unlock) turns clean is have at e refused full more = absurd is
   one_turn bytes note notes TooLarge (Had lock unlock) turns clean is have at e refused full more = absurd is
