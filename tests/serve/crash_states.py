@@ -9,6 +9,7 @@ it named before, or nothing. A lock file may be there or not."""
 import contextlib
 import re
 import shutil
+import socket
 import subprocess
 from typing import NamedTuple
 
@@ -22,7 +23,7 @@ from written import until_it_looks
 CALLS = "openat,write,ftruncate,fdatasync,fsync,link,linkat,unlink,unlinkat,rename,renameat"
 LINE = re.compile(r"(\w+)\((.*)\)\s+= (-?\d+)(?:<.*>)?(?: E.*| \(INJECTED\))?")
 AT_ONCE = 250  # mailboxes of one server
-LOCK = b"%d"  # a lock file names its process
+LOCK = b"%d:" + socket.gethostname().encode()  # a lock file names its process and host
 
 
 class Call(NamedTuple):
