@@ -1,7 +1,7 @@
 -- What a run of the program comes to: the words say what is asked for, and then come what was done, the lines on
 -- standard error and the status.
 use Rattle.std.specs.Prelude.{◌≡◌, ◌⊎◌, ◌*◌, ◌-◌, ◌^◌, min, ℕ, Bool, true, false, List, [], ◌++◌, length, map, Option}
-use Rattle.std.specs.Prelude.{Some, None, Contains, ⊤}
+use Rattle.std.specs.Prelude.{Some, None, Contains}
 use Rattle.std.specs.Arc.{arc_value}
 use Rattle.std.specs.declared.sync.Arc.{Arc}
 use Rattle.std.specs.declared.alloc.Global.{Global}
@@ -10,7 +10,7 @@ use Rattle.clap.specs.Words.{Text, kind_of, subcommand_of, takes}
 use Rattle.clap.specs.declared.error.Error.{Error}
 use Rattle.clap.specs.declared.error.kind.ErrorKind.TheVariants.{OutOfMemory}
 use Rattle.lmtp_text.specs.Sites.{texts}
-use Rattle.mbox_record.specs.Spool.{SpoolState}
+use Rattle.lmtp_threads.specs.Works.{SpoolsView}
 use Rattle.lmtp_talk.specs.Entries.{Entry}
 use Rattle.lmtp_house.specs.House.{IsSize}
 use Rattle.lmtp_house.specs.declared.house.sizes.Sizes.{Sizes}
@@ -45,7 +45,6 @@ use Rattle.lmtpd_check.specs.Checked.{IsChecked, unlocked_lines}
 use Rattle.lmtpd_check.specs.declared.checked.Checked.{Checked as CheckedFiles}
 use Rattle.lmtpd_rehearse.specs.Rehearsal.{IsBlockCount, IsRehearsed, Streams}
 use Rattle.lmtpd_rehearse.specs.declared.ending.Ending.{Ending}
-use Rattle.lmtp_threads.specs.Works.{SpoolsView, spools_view}
 use Rattle.lmtpd_serve.specs.Served.{IsServerRun, Serving, trouble_lines}
 use Rattle.lmtpd_serve.specs.declared.served.Served.{Served as ServedRun}
 use Rattle.lmtpd.specs.Lacking.{check_fault, check_status, rehearsal_fault, server_fault}
@@ -134,16 +133,12 @@ IsSizeAsked words =
     IsSize (named_site words.site) (sizes_asked words) words.lanes (length words.site.boxes.items)
     (length words.site.boxes.items)
 
--- mailboxes of which others may leave anything between two turns, and whose turns may be refused
-abbrev pub anybodys : {S : Type 0} → (S → SpoolState) → SpoolsView S
-anybodys state = spools_view state (λ last now. ⊤) (λ broke refused. ⊤)
-
 -- A server that its words asked for ran: where they say, at the site that they name, with their sizes, for as many
 -- conversations within their bounds, until the end that they say, with addresses in its lines just where they say so,
 -- and over a spool for each mailbox, which is had as they say (`held` is how one is). `before` and `after` are what
 -- standard output held.
 pub record IsServedAsAsked (C : Type 0) {G S : Type 0} (told : G → Option (List Entry)) (shows : G → Bool)
-    (state : S → SpoolState) (held : S → Held) (words : ServeWords) (before after : Option (List ℕ))
+    (view : SpoolsView S) (held : S → Held) (words : ServeWords) (before after : Option (List ℕ))
     (served : ServedRun) : Type 0 where
   pub serves : words.check_words ≡ false
   pub opened : Opened
@@ -155,8 +150,8 @@ pub record IsServedAsAsked (C : Type 0) {G S : Type 0} (told : G → Option (Lis
   pub spools : List S
   pub each_box : length spools ≡ length words.site.boxes.items
   pub mailboxes : map held spools ≡ mailboxes_asked words
-  pub ran : IsServerRun C (named_site words.site) (anybodys state) told shows
-      (serving_asked words opened.socket curfew) spools before after served
+  pub ran : IsServerRun C (named_site words.site) view told shows (serving_asked words opened.socket curfew) spools
+      before after served
 
 -- why none ran though its site is sound: a mailbox's file, or only their folder where it is to start anyway, what it
 -- listens on, or the server; a port that none may have is seen only now where the socket was passed
