@@ -42,13 +42,12 @@ threads_of site lanes courses = record {
   courses = courses;
 }
 
--- There is an orderly run of the model, from a start at which nothing has happened, in which each lane offers each
--- mailbox just the copies that its conversations owe, and at whose end each mailbox and each lane has what this
--- server's has: a mailbox holds at first what this server's spool held, and has the turns that its worker had there.
--- Its mailboxes' channels have this server's capacity, and a lane's channel has room for the slips of a
--- message to as many recipients as there may be: no copy is offered and no slip given to a full channel, and a lane
--- begins a message once each copy of its last one is answered. The run has a depot that is large enough: of slots and
--- blocks it says nothing.
+-- There is an orderly run of the model, from a start at which nothing has happened but that each mailbox holds what
+-- this server's spool held, in which each lane offers each mailbox just the copies that its conversations owe, and at
+-- whose end each mailbox and each lane has what this server's has, a mailbox the turns that its worker had. Its
+-- mailboxes' channels have this server's capacity, and a lane's channel has room for the slips of a message to as many
+-- recipients as there may be: no copy is offered and no slip given to a full channel, and a lane begins a message once
+-- each copy of its last one is answered. The run has a depot that is large enough: of slots and blocks it says nothing.
 pub record IsRunOfModel {V S : Type 0} (site : Site) (state : S → SpoolState) (lanes : ℕ → LaneWork)
     (boxes : ℕ → BoxWork) (old : HandedIn V S) : Type 0 where
   pub is : IsOrderlyRunOf RECIPIENT_LIMIT old.capacity (server_of site old)

@@ -15,24 +15,8 @@ use std::os::unix::fs::{OpenOptionsExt, PermissionsExt};
 /// The permission bits of a file that is made: its owner reads and writes it, and nobody else.
 pub const OWNER_ONLY: u32 = 0o600;
 
-/// Opens the file at that path, or makes it with these permission bits, and has the folder that holds it synced.
-pub fn open_or_make<R: Files>(rt: &R, path: &str, mode: u32) -> io::Result<R::File> {
-    let opened = open_or_new(rt, path, mode)?;
-    if opened.is_new {
-        sync_folder(rt, path)?;
-    }
-    Ok(opened.file)
-}
-
-/// A file, and whether it was made.
-#[derive(Drop)]
-pub(crate) struct Opened<F: Drop> {
-    pub file: F,
-    pub is_new: bool,
-}
-
 /// Opens the file at that path, or makes it with these permission bits.
-pub(crate) fn open_or_new<R: Files>(rt: &R, path: &str, mode: u32) -> io::Result<Opened<R::File>> {
+pub(crate) fn open_or_make<R: Files>(rt: &R, path: &str, mode: u32) -> io::Result<R::File> {
     let made = OpenOptions::new()
         .read(true)
         .append(true)
@@ -45,12 +29,11 @@ pub(crate) fn open_or_new<R: Files>(rt: &R, path: &str, mode: u32) -> io::Result
                 // what the process's mask took away
                 file.set_permissions(Permissions::from_mode(mode))?;
             }
-            Ok(Opened { file, is_new: true })
+            Ok(file)
         }
-        Err(error) if error.kind() == ErrorKind::AlreadyExists => Ok(Opened {
-            file: OpenOptions::new().read(true).append(true).open(rt, path)?,
-            is_new: false,
-        }),
+        Err(error) if error.kind() == ErrorKind::AlreadyExists => {
+            OpenOptions::new().read(true).append(true).open(rt, path)
+        }
         Err(error) => Err(error),
     }
 }
@@ -75,16 +58,8 @@ pub struct FileEnd {
     pub tail: Tail,
 }
 
-/// Where a file ends, and how: its last two bytes tell, and where the last of them is no LF, the last TAIL_SIZE.
-pub fn end_of_file<F: Read + Seek>(file: &mut F) -> io::Result<FileEnd>
-    ensures empty { IfOk result (λ end. end.at ≡ 0 → ending_of end.tail ≡ Empty) }
-{
-    let mut few = [0; 2];
-    let mut many = [0; TAIL_SIZE];
-    Ok(read_end(file, &mut few, &mut many)?.0)
-}
-
-/// Where a file ends, and how, and its last bytes by which that is known.
+/// Where a file ends, and how, and its last bytes by which that is known: its last two bytes tell, and where the last of
+/// them is no LF, the last TAIL_SIZE.
 pub(crate) fn read_end<'a, F: Read + Seek>(
     file: &mut F,
     few: &'a mut [u8; 2],

@@ -18,7 +18,7 @@ mod std_file;
 mod system_file;
 mod told;
 
-pub use file::{FileEnd, OWNER_ONLY, end_of_file, open_or_make, sync_folder};
+pub use file::{FileEnd, OWNER_ONLY, sync_folder};
 pub use file_lock::FileLock;
 pub use mailbox_file::MailboxFile;
 pub use mailbox_source::MailboxSource;

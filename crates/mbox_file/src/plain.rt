@@ -1,6 +1,6 @@
 //! Which files a mailbox may be: plain ones, so that nobody who may write the folder has letters appended to a file
 //! that a link leads to.
-use crate::file::open_or_new;
+use crate::file::open_or_make;
 use mbox_record::InUse;
 use std::fs::{Files, Metadata, OpenFile, OpenOptions};
 use std::io::ErrorKind;
@@ -53,7 +53,7 @@ impl Taken {
 
     fn open<R: Files>(self, rt: &R, path: &str) -> io::Result<R::File> {
         match self {
-            Taken::Own(mode) => Ok(open_or_new(rt, path, mode)?.file),
+            Taken::Own(mode) => open_or_make(rt, path, mode),
             Taken::Anybodys => OpenOptions::new().read(true).append(true).open(rt, path),
         }
     }
