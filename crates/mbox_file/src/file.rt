@@ -58,8 +58,8 @@ pub struct FileEnd {
     pub tail: Tail,
 }
 
-/// Where a file ends, and how, and its last bytes by which that is known: its last two bytes tell, and where the last of
-/// them is no LF, the last TAIL_SIZE.
+/// Where a file ends, and how, and its last bytes by which that is known: the last two tell, and where the last of them
+/// is no LF, the last TAIL_SIZE.
 pub(crate) fn read_end<'a, F: Read + Seek>(
     file: &mut F,
     few: &'a mut [u8; 2],

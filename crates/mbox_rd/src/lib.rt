@@ -17,8 +17,8 @@ pub use mbox_file::{
     remove_open, sync_folder,
 };
 pub use mbox_record::{
-    BadMailbox, Envelope, InUse, Letter, MemorySpool, RecordWriter, Spool, SpoolFault,
-    Tail, mend, read_mailbox,
+    BadMailbox, Envelope, InUse, Letter, MemorySpool, RecordWriter, Spool, SpoolFault, Tail, mend,
+    read_mailbox,
 };
 pub use opening::OpenFault;
 pub use turn::{hold_locks, let_go};
