@@ -1,5 +1,5 @@
 -- One copy more that a worker handled.
-use Rattle.std.proofs.Common.{◌≡◌, ℕ, ◌+◌, ◌-◌, ◌≤◌, ◌^◌, min, List, [], ◌∷◌, ◌++◌, length, Bool, true, false, Option, Some, None, IsSome, refl, ap}
+use Rattle.std.proofs.Common.{◌≡◌, ℕ, ◌+◌, ◌-◌, ◌≤◌, ◌^◌, min, List, [], ◌∷◌, ◌++◌, length, Bool, false, Option, Some, None, IsSome, refl, ap}
 use Rattle.std.proofs.Common.{sym, ◌∙◌, subst, arith, length-append}
 use Rattle.std.specs.List.{count_by}
 use Rattle.std.proofs.lemmas.Bool.{or_parts}
@@ -96,7 +96,7 @@ module _ (at : Setting) (manner : Manner) (copies : List Note) (old now : Worker
       ap (λ (w : ℕ). let s : Slip = record { txn = note.txn; place = note.place; worker = w; outcome = outcome } in s) mine in
       let take = turns at.quota x.counts.0 x.counts.1 in
       let one : IsToldOnce at manner note outcome (turned now.mailbox.state now.mailbox.faulty now.in_use)
-          (turned after.mailbox.state after.mailbox.faulty after.in_use) =
+      (turned after.mailbox.state after.mailbox.faulty after.in_use) =
       told_once at manner note _ _ (is_counted now.in_use _ h.each.missed) outcome take.0 in
       let told : Told = record { outcome = outcome; turn = one.turn } in
       let outs = outcomes_in h.turns in
@@ -132,7 +132,7 @@ pub counting_none : (at : Setting) (manner : Manner) (slips : List (Sender Slip)
     × (outcomes_in y.handled.turns ≡ [])
 counting_none at manner slips old new mine left none begins =
     let P : MailboxState → ℕ → Type 0 = λ m n. (y : IsCounting at manner [] (idle slips old)
-        (record { slips = slips; mailbox = m; in_use = n; taken = 0; lost = any_gone slips }) new.limit) × (outcomes_in y.handled.turns ≡ []) in
+    (record { slips = slips; mailbox = m; in_use = n; taken = 0; lost = any_gone slips }) new.limit) × (outcomes_in y.handled.turns ≡ []) in
     subst (λ m. P m new.in_use) (sym left) (subst (P (mailbox_of old 0 0 false)) (sym none) (
       record {
         handled = record {

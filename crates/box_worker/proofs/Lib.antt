@@ -1,5 +1,6 @@
 pub mod Messages
 pub mod Counting
+pub mod Counted
 pub mod Telling
 pub mod Measuring
 pub mod OneTurn

@@ -1,5 +1,5 @@
 -- What a worker counts in a turn, and what it does there by its count.
-use Rattle.std.proofs.Common.{◌≡◌, ℕ, ◌+◌, ◌≤◌, List, ◌++◌, length, Bool, true, false, Option, Some, None, Result, Ok, Err, refl, ap}
+use Rattle.std.proofs.Common.{◌≡◌, ℕ, ◌+◌, ◌≤◌, List, length, true, false, Option, Some, None, Result, Ok, Err, refl, ap}
 use Rattle.std.proofs.Common.{sym, ◌∙◌, subst}
 use Rattle.std.specs.Result.{OnOk, OnErr}
 use Rattle.mail_world.specs.declared.Outcome.{Outcome}
@@ -15,7 +15,7 @@ use Rattle.mbox_record.proofs.Taken.{Appends-then, SpoolFailed-first, SpoolFaile
 use Rattle.box_worker.specs.declared.limit.Limit.{Limit}
 use Rattle.box_worker.specs.Limits.{CountsTo, start_of, missing, IsLetIn, IsKeptOut}
 use Rattle.box_worker.specs.Stored.{MailboxState, CountedMailbox, HasKept}
-use Rattle.box_worker.specs.Turned.{HasKeptMended, HasNotKeptMended, Measures, StoresInTurn, KeepsOutOfTurn, BreaksTurn}
+use Rattle.box_worker.specs.Turned.{HasKeptMended, HasNotKeptMended}
 use Rattle.box_worker.specs.Turned.{MeasuresAgain, DoesInTurn, EndsInTurn}
 use Rattle.box_worker.proofs.Counting.{starts_at, let_in, kept_out}
 

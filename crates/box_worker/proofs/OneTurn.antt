@@ -1,5 +1,5 @@
 -- One copy's turn at a spool, and what the spool lists of it.
-use Rattle.std.proofs.Common.{◌≡◌, ◌||◌, ℕ, ◌+◌, ◌≤◌, List, [], ◌∷◌, ◌++◌, length, Bool, true, false, Option, Some, None, inl, inr, refl, ap}
+use Rattle.std.proofs.Common.{◌≡◌, ◌||◌, ℕ, ◌+◌, List, [], ◌∷◌, ◌++◌, length, Bool, true, false, Option, Some, inl, inr, refl, ap}
 use Rattle.std.proofs.Common.{sym, ◌∙◌, subst, arith, append_assoc, append-nil}
 use Rattle.std.proofs.lemmas.List.{append_cancel_left}
 use Rattle.std.specs.Prelude.{count_by}
@@ -11,7 +11,7 @@ use Rattle.mail_world.specs.Failures.{Rises}
 use Rattle.mail_world.specs.Records.{record_of}
 use Rattle.mail_world.specs.Endings.{mended}
 use Rattle.mail_world.specs.Prefixes.{IsPrefix}
-use Rattle.mail_world.specs.Turns.{Standing, Turn, NotHad, Had, Told, IsTurn, KeepsInTurn, breaks_last}
+use Rattle.mail_world.specs.Turns.{Standing, Turn, NotHad, Had, IsTurn, KeepsInTurn, breaks_last}
 use Rattle.mbox_record.specs.TurnState.{TurnState, knows_end, had}
 use Rattle.mbox_record.specs.Spool.{SpoolState, IsWithin, IsFull, LeavesPart, KeepsSince, standing, BeginsTurn, EndsTurn}
 use Rattle.box_worker.specs.Limits.{Setting}

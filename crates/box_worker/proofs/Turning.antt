@@ -1,11 +1,11 @@
 -- One copy more that had its turn.
-use Rattle.std.proofs.Common.{◌≡◌, ℕ, ◌+◌, List, [], ◌∷◌, ◌++◌, Bool, true, false, refl, ap, sym, ◌∙◌, subst, arith, append_assoc, append-nil}
+use Rattle.std.proofs.Common.{◌≡◌, ℕ, ◌+◌, List, [], ◌∷◌, ◌++◌, Bool, refl, ap, sym, ◌∙◌, subst, arith, append_assoc, append-nil}
 use Rattle.std.proofs.lemmas.List.{map-append}
 use Rattle.std.specs.Prelude.{count_by, map}
 use Rattle.std.specs.List.{AllByRecursion}
 use Rattle.mail_world.specs.declared.Note.{Note}
 use Rattle.mail_world.specs.Counts.{counted}
-use Rattle.mail_world.specs.Turns.{Standing, Turn, NotHad, Had, Told, IsTurn, HaveTurns, KeepsInTurn, AllKeep, breaks_last, last_broke}
+use Rattle.mail_world.specs.Turns.{Standing, Turn, Told, IsTurn, HaveTurns, KeepsInTurn, breaks_last, last_broke}
 use Rattle.mail_world.proofs.GivenAway.{count-append}
 use Rattle.mbox_record.specs.Spool.{standing}
 use Rattle.box_worker.specs.Limits.{Setting}

@@ -1,3 +1,4 @@
+pub mod CountSpool
 pub mod Limits
 pub mod Stored
 pub mod Told

@@ -6,6 +6,7 @@
 //! another mailbox.
 #![tactic(auto)]
 
+mod count;
 mod gate;
 mod limit;
 mod mailbox;

@@ -9,9 +9,10 @@ ghost use Rattle.mbox_record.specs.Writing.{bytes_owed, WritesPiece, FailsPiece}
 ghost use Rattle.box_worker.specs.Stored.{HasKept};
 ghost use Rattle.box_worker.specs.Turned.{HasKeptMended, HasNotKeptMended};
 
+use crate::count::CountSpool;
 use lmtp_text::Site;
 use mail_world::limits::WORKER_BUFFER_SIZE;
-use mbox_record::{CountSpool, Envelope, RecordWriter, Spool, SpoolFault, mend};
+use mbox_record::{Envelope, RecordWriter, Spool, SpoolFault, mend};
 use msg_depot::{Depot, DepotName, Hold};
 use std::sync::Wait;
 

@@ -11,7 +11,7 @@ use Rattle.mail_world.specs.Slips.{slips_from}
 use Rattle.mail_world.specs.Lists.{copies, copies_owed}
 use Rattle.mail_world.proofs.OtherSteps.{there_is}
 use Rattle.mail_runs.specs.Deeds.{Deed, slips_to, turns_of}
-use Rattle.mail_runs.specs.Courses.{Server}
+use Rattle.mail_runs.specs.Courses.{Server, outcomes_in}
 use Rattle.mail_runs.specs.Histories.{Threads}
 use Rattle.mail_runs.specs.Timed.{TimedDeed, whats, times, those, gives_to, tells_to, RisesTo}
 use Rattle.mail_runs.specs.Known.{ComeOut, Moments, HavePassed, times_of, is_heard, is_taken, AreLaneDeeds, AreWorkerDeeds, Known, AreKnown}
@@ -72,11 +72,11 @@ pub record IsSettledAs {M : Type 0} (lane : M → ℕ) (n capacity : ℕ) (sent 
   pub got_is : taken inbox ≡ got
   pub took_at_is : inbox.took_at ≡ took_at
 
--- the same, where what was sent and taken is said otherwise
-pub said_otherwise : {M : Type 0} (lane : M → ℕ) (n capacity : ℕ) (sent sent' : ℕ → List M) (sent_at : ℕ → List ℕ) (got got' : List M) (took_at : List ℕ)
-    → ((k : ℕ) → k < n → sent k ≡ sent' k) → got ≡ got' → IsSettledAs lane n capacity sent sent_at got took_at
-    → IsSettledAs lane n capacity sent' sent_at got' took_at
-said_otherwise lane n capacity sent sent' sent_at got got' took_at same same_got c = record {
+-- the same, where what was sent is said otherwise
+pub said_otherwise : {M : Type 0} (lane : M → ℕ) (n capacity : ℕ) (sent sent' : ℕ → List M) (sent_at : ℕ → List ℕ) (got : List M) (took_at : List ℕ)
+    → ((k : ℕ) → k < n → sent k ≡ sent' k) → IsSettledAs lane n capacity sent sent_at got took_at
+    → IsSettledAs lane n capacity sent' sent_at got took_at
+said_otherwise lane n capacity sent sent' sent_at got took_at same c = record {
   inbox = c.inbox;
   closed = c.closed;
   passed = c.passed;
@@ -84,7 +84,7 @@ said_otherwise lane n capacity sent sent' sent_at got got' took_at same same_got
   count = c.count;
   sent_is = λ k low. c.sent_is k low ∙ (λ i. Some (same k low i));
   sent_at_is = c.sent_at_is;
-  got_is = c.got_is ∙ same_got;
+  got_is = c.got_is;
   took_at_is = c.took_at_is;
 }
 
@@ -179,13 +179,13 @@ pub record AreJoined (room capacity : ℕ) (s : Server) (t : Threads) : Type 0 w
   pub lane_deeds : ℕ → List TimedDeed
   pub worker_deeds : ℕ → List TimedDeed
   pub lanes : (k : ℕ) → k < s.lanes → AreLaneDeeds (flat_map (copies k) (t.transactions k)) (t.heard k) (lane_deeds k)
-  pub workers : (b : ℕ) → b < s.boxes → AreWorkerDeeds (turns_of b (t.courses b).taken (t.courses b).outcomes) (worker_deeds b)
+  pub workers : (b : ℕ) → b < s.boxes → AreWorkerDeeds (turns_of b (t.courses b).taken (outcomes_in (t.courses b).turns)) (worker_deeds b)
   pub exchanges : (k : ℕ) → k < s.lanes → AreExchanges room k (t.transactions k) (whats (lane_deeds k))
   pub mail : (b : ℕ) → b < s.boxes → IsSettledAs (λ note. note.txn.lane) s.lanes capacity (λ k. copies_owed k b (t.transactions k))
       (λ k. times (those (gives_to b) (lane_deeds k))) (t.courses b).taken (times (those is_taken (worker_deeds b)))
   pub slip_room : ℕ → ℕ
   pub slips : (k : ℕ) → k < s.lanes → IsSettledAs (λ slip. slip.worker) s.boxes (slip_room k)
-      (λ b. slips_to k (slips_from b (t.courses b).outcomes (t.courses b).taken))
+      (λ b. slips_to k (slips_from b (outcomes_in (t.courses b).turns) (t.courses b).taken))
       (λ b. times (those (tells_to k) (worker_deeds b))) (t.heard k) (times (those is_heard (lane_deeds k)))
 
 module _ (room capacity : ℕ) (s : Server) (t : Threads) (j : AreJoined room capacity s t) where
@@ -210,7 +210,7 @@ module _ (room capacity : ℕ) (s : Server) (t : Threads) (j : AreJoined room ca
   slip_moments k low =
       let c = j.slips k low in (
         _,
-        has_moments (λ slip. slip.worker) s.boxes (j.slip_room k) (λ b. slips_to k (slips_from b (t.courses b).outcomes (t.courses b).taken))
+        has_moments (λ slip. slip.worker) s.boxes (j.slip_room k) (λ b. slips_to k (slips_from b (outcomes_in (t.courses b).turns) (t.courses b).taken))
             (λ b. times (those (tells_to k) (j.worker_deeds b))) (t.heard k) (times (those is_heard (j.lane_deeds k))) c (λ b box. j.came_out.heard k b low box)
             (heard_many (t.heard k) (j.lane_deeds k) (j.lanes k low).heard),
       )

@@ -19,6 +19,7 @@ use Rattle.mail_world.specs.Site.{Site}
 use Rattle.mail_world.specs.Slips.{of_worker, names, times_named, answer, txn_of, slip_of}
 use Rattle.mail_world.proofs.GivenAway.{count-append, count-cons}
 use Rattle.box_worker.specs.Told.{owed_to}
+use Rattle.mail_runs.specs.Courses.{outcomes_in}
 use Rattle.lmtp_threads.specs.Works.{BoxWork}
 use Rattle.mail_world.proofs.Merged.{own_named}
 use Rattle.lmtp_house.proofs.AnsweredAll.{found_counts}
@@ -119,16 +120,16 @@ counts_itself slip = ap {B = ℕ} (λ t. cond t 1 0) (own_named slip)
 
 module _ (site : Site) (k boxes : ℕ) (cs : List Conversation) (heard : List Slip) (works : ℕ → BoxWork)
     (only : AllByRecursion (λ slip. slip.worker < boxes) heard)
-    (each : (b : ℕ) → b < boxes → IsPrefix (of_worker b heard) (owed_to b (works b).outcomes k (works b).taken))
+    (each : (b : ℕ) → b < boxes → IsPrefix (of_worker b heard) (owed_to b (outcomes_in (works b).turns) k (works b).taken))
     (owed : (b : ℕ) → b < boxes → of_lane k (works b).taken ≡ due site k b cs)
     (answered : OutcomesAreAnswers site k heard cs) where
   abbrev owed_by : ℕ → List Slip
-  owed_by b = owed_to b (works b).outcomes k (works b).taken
+  owed_by b = owed_to b (outcomes_in (works b).turns) k (works b).taken
 
   module _ (b : ℕ) (low : b < boxes) (slip : Slip) (rest : List Slip) (whole : owed_by b ≡ of_worker b heard ++ slip ∷ rest) where
     is_of : slip.worker ≡ b
     is_of = after_prefix (λ s. s.worker ≡ b) (of_worker b heard) slip rest
-        (subst (λ l. AllByRecursion (λ s. s.worker ≡ b) l) whole (owed_of b k (works b).outcomes (works b).taken))
+        (subst (λ l. AllByRecursion (λ s. s.worker ≡ b) l) whole (owed_of b k (outcomes_in (works b).turns) (works b).taken))
 
     -- had it been heard too, the lane would still have heard a prefix of what each worker owes it
     prefix_by : (c : ℕ) (t : Bool) → (slip.worker == c) ≡ t → c < boxes → IsPrefix (of_worker c heard ++ cond t (slip ∷ []) []) (owed_by c)
@@ -164,7 +165,7 @@ module _ (site : Site) (k boxes : ℕ) (cs : List Conversation) (heard : List Sl
         omega (
           arith,
           some,
-          slips_copy slip.txn slip.place b k (works b).outcomes (works b).taken,
+          slips_copy slip.txn slip.place b k (outcomes_in (works b).turns) (works b).taken,
           ap (count_by Q) (owed b low),
           due_counts site k b cs Q,
           fewer Q (λ note. note.mailbox == b) notes,

@@ -7,11 +7,11 @@ use Rattle.mail_world.specs.declared.Note.{Note}
 use Rattle.mail_world.specs.declared.Slip.{Slip}
 use Rattle.mail_world.specs.Site.{Site}
 use Rattle.mail_world.specs.Lists.{due}
-use Rattle.mbox_record.specs.Spool.{SpoolState}
+use Rattle.mail_runs.specs.Courses.{outcomes_in}
 use Rattle.mail_post.specs.Channel.{Channel, Sender, Inbox, Sent}
 use Rattle.box_worker.specs.Told.{owed_to}
 use Rattle.lmtp_lane.specs.Visits.{conversations_of}
-use Rattle.lmtp_threads.specs.Works.{VisitsView}
+use Rattle.lmtp_threads.specs.Works.{VisitsView, SpoolsView}
 use Rattle.lmtp_house.specs.Handed.{HandedIn}
 use Rattle.lmtp_house.specs.House.{HasRun}
 use Rattle.lmtp_threads.specs.Channels.{Shape, channels_of, AreRows, AreClosedWith, HaveTimes, MayClose, CanSettle, IsSettled}
@@ -32,18 +32,18 @@ pub served_as : {V C : Type 0} (May : C → ℕ → Type 0) (view : VisitsView V
 served_as May view tasks lanes back opened served = subst (HaveServedAll May view tasks) (sym opened) served
 
 -- the workers' columns, opened; workers that run are those that were planned
-pub worked_as : {S : Type 0} (state : S → SpoolState) (working tasks : List (BoxTask S)) (boxes back : WorkerColumns S) → boxes ≡ back → working ≡ tasks
-    → (back.gone ≡ false → HaveWorkedAll state working back) → boxes.gone ≡ false → HaveWorkedAll state tasks boxes
-worked_as state working tasks boxes back opened same worked none =
-    let Worked : WorkerColumns _ → Type 0 = λ e. e.gone ≡ false → HaveWorkedAll state working e in
-    subst (λ l. HaveWorkedAll state l boxes) same (subst Worked (sym opened) worked none)
+pub worked_as : {S : Type 0} (spools : SpoolsView S) (working tasks : List (BoxTask S)) (boxes back : WorkerColumns S) → boxes ≡ back → working ≡ tasks
+    → (back.gone ≡ false → HaveWorkedAll spools working back) → boxes.gone ≡ false → HaveWorkedAll spools tasks boxes
+worked_as spools working tasks boxes back opened same worked none =
+    let Worked : WorkerColumns _ → Type 0 = λ e. e.gone ≡ false → HaveWorkedAll spools working e in
+    subst (λ l. HaveWorkedAll spools l boxes) same (subst Worked (sym opened) worked none)
 
 -- closing gives this
 abbrev pub Closes : {M : Type 0} → Shape → List (List (Sender M)) → List (Sent M) → Type 0
 Closes {M} shape rows closed =
     (channels : List (Channel M)) (sent : ℕ → ℕ → List M) → AreRows shape.lanes channels sent rows → AreClosedWith shape.lanes channels sent closed
 
-module _ {V S C : Type 0} (May : C → ℕ → Type 0) (view : VisitsView V) (state : S → SpoolState) (plan : PlanState V S C)
+module _ {V S C : Type 0} (May : C → ℕ → Type 0) (view : VisitsView V) (spools : SpoolsView S) (plan : PlanState V S C)
     (site : Site) (clock : C) (handed : HandedIn V S) (p : IsPlanned site clock handed plan)
     (lanes : LaneColumns V) (served : HaveServedAll May view plan.lanes lanes) where
   abbrev lanes_given : LanesGiven V
@@ -63,15 +63,15 @@ module _ {V S C : Type 0} (May : C → ℕ → Type 0) (view : VisitsView V) (st
       may_close (length handed.visits) (length handed.spools) plan.mail p.mail_rows p.mail owed_by lanes.rows p.mail_new p.mail_closes p.some_lanes
       lanes_ran.rows_are
 
-  module _ (boxes : WorkerColumns S) (worked : HaveWorkedAll state plan.workers boxes) (mail_closed : List (Sent Note))
+  module _ (boxes : WorkerColumns S) (worked : HaveWorkedAll spools plan.workers boxes) (mail_closed : List (Sent Note))
       (closes : Closes plan.mail lanes.rows mail_closed) where
-    boxes_ran : HaveWorked site state (channels_of p.slips) boxes_given boxes
+    boxes_ran : HaveWorked site spools (channels_of p.slips) boxes_given boxes
     boxes_ran =
         worked site (channels_of p.slips) boxes_given p.workers_are p.mail_new.counts
         (omega (arith, length-map p.slips (λ (i : Inbox Slip). i.channel), p.slips_new.counts, p.some_lanes)) p.slips_new.rows_are
 
     abbrev owed_slips : ℕ → ℕ → List Slip
-    owed_slips b k = owed_to b (boxes_ran.works b).outcomes k (boxes_ran.works b).taken
+    owed_slips b k = owed_to b (outcomes_in (boxes_ran.works b).turns) k (boxes_ran.works b).taken
 
     mail_shut : AreClosedWith (length handed.visits) (channels_of p.mail) owed_by mail_closed
     mail_shut =
@@ -105,7 +105,7 @@ module _ {V S C : Type 0} (May : C → ℕ → Type 0) (view : VisitsView V) (st
       pub run_is : (blocks slots : ℕ) → HaveTimes lanes.rows mail_closed → HaveTimes boxes.rows slips_closed
           → AllZip (IsSettled (λ (n : Note). n.txn.lane)) boxes.inboxes mail_closed
           → AllZip (IsSettled (λ (s : Slip). s.worker)) lanes.inboxes slips_closed
-          → HasRun site (May clock) view state handed
+          → HasRun site (May clock) view spools handed
           (record {
             visits = lanes.lent;
             spools = boxes.lent;
@@ -115,5 +115,5 @@ module _ {V S C : Type 0} (May : C → ℕ → Type 0) (view : VisitsView V) (st
             slots = slots;
           })
       run_is blocks slots mail_times slips_times mail_settled slips_settled =
-          has_run site (May clock) view state lanes_given lanes boxes_given boxes mail_closed slips_closed p.mail_new p.slips_new lanes_ran boxes_ran
+          has_run site (May clock) view spools lanes_given lanes boxes_given boxes mail_closed slips_closed p.mail_new p.slips_new lanes_ran boxes_ran
           mail_shut slips_shut mail_times slips_times mail_settled slips_settled p.each_box p.some_boxes blocks slots

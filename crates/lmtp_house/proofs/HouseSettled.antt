@@ -14,10 +14,10 @@ use Rattle.mail_world.specs.Slips.{of_worker}
 use Rattle.mail_world.specs.Lists.{of_lane, due, OutcomesAreAnswers}
 use Rattle.mail_post.specs.Channel.{Channel, Sender, Inbox, Sent, taken, TookSome, TookAll}
 use Rattle.mail_post.specs.Parcels.{of}
-use Rattle.mbox_record.specs.Spool.{SpoolState}
+use Rattle.mail_runs.specs.Courses.{outcomes_in}
 use Rattle.box_worker.specs.Told.{owed_to}
 use Rattle.lmtp_lane.specs.Visits.{conversations_of}
-use Rattle.lmtp_threads.specs.Works.{VisitsView}
+use Rattle.lmtp_threads.specs.Works.{VisitsView, SpoolsView}
 use Rattle.lmtp_house.specs.Handed.{HandedIn, HandedBack, handed_in}
 use Rattle.lmtp_house.specs.House.{HasRun}
 use Rattle.lmtp_threads.specs.Channels.{channels_of, AreNewChannels, IsClosedWith, AreClosedWith, HaveTimes, CanSettle, IsSettled}
@@ -26,7 +26,7 @@ use Rattle.lmtp_threads.specs.Tasks.{LanesGiven, WorkersGiven, HaveServed, HaveW
 use Rattle.lmtp_house.proofs.AnsweredAll.{outcomes_are_answers}
 use Rattle.lmtp_house.proofs.HeardAll.{heard_all}
 use Rattle.lmtp_house.proofs.NamedOnce.{named_once}
-use Rattle.lmtp_house.proofs.RunOfModel.{HaveExchanged}
+use Rattle.lmtp_house.proofs.RunOfModel.{HaveExchanged, is_left_alone}
 use Rattle.lmtp_house.proofs.ManyLanes.{HaveDeeds, all_lanes_run}
 use Rattle.lmtp_house.proofs.HouseTimes.{have_deeds}
 use Rattle.lmtp_threads.proofs.ChannelRows.{at, at_map, zip_at, at_zip}
@@ -92,16 +92,16 @@ module _ {M : Type 0} where
         lanes = w.count ∙ sym (s.1 ∙ ap (λ (i : Inbox M). i.lanes) fresh);
       })
 
-module _ {V S : Type 0} {capacity room : ℕ} (site : Site) (May : ℕ → Type 0) (view : VisitsView V) (state : S → SpoolState)
+module _ {V S : Type 0} {capacity room : ℕ} (site : Site) (May : ℕ → Type 0) (view : VisitsView V) (spools : SpoolsView S)
     (old_lanes : LanesGiven V) (new_lanes : LaneColumns V) (old_boxes : WorkersGiven S) (new_boxes : WorkerColumns S)
     (mail_closed : List (Sent Note)) (slips_closed : List (Sent Slip))
     (mail_new : AreNewChannels capacity (length old_lanes.visits) (length old_boxes.spools) old_lanes.rows old_boxes.inboxes)
     (slips_new : AreNewChannels room (length old_boxes.spools) (length old_lanes.visits) old_boxes.rows old_lanes.inboxes)
     (lanes : HaveServed site May view (channels_of old_boxes.inboxes) old_lanes new_lanes)
-    (boxes : HaveWorked site state (channels_of old_lanes.inboxes) old_boxes new_boxes)
+    (boxes : HaveWorked site spools (channels_of old_lanes.inboxes) old_boxes new_boxes)
     (mail_shut : AreClosedWith (length old_lanes.visits) (channels_of old_boxes.inboxes) (λ k b. due site k b (conversations_of (lanes.works k).visits))
     mail_closed)
-    (slips_shut : AreClosedWith (length old_boxes.spools) (channels_of old_lanes.inboxes) (λ b k. owed_to b (boxes.works b).outcomes k (boxes.works b).taken)
+    (slips_shut : AreClosedWith (length old_boxes.spools) (channels_of old_lanes.inboxes) (λ b k. owed_to b (outcomes_in (boxes.works b).turns) k (boxes.works b).taken)
     slips_closed)
     (mail_times : HaveTimes new_lanes.rows mail_closed) (slips_times : HaveTimes new_boxes.rows slips_closed)
     (mail_settled : AllZip (IsSettled (λ (n : Note). n.txn.lane)) new_boxes.inboxes mail_closed)
@@ -111,7 +111,7 @@ module _ {V S : Type 0} {capacity room : ℕ} (site : Site) (May : ℕ → Type 
   owed_by k b = due site k b (conversations_of (lanes.works k).visits)
 
   abbrev owed_slips : ℕ → ℕ → List Slip
-  owed_slips b k = owed_to b (boxes.works b).outcomes k (boxes.works b).taken
+  owed_slips b k = owed_to b (outcomes_in (boxes.works b).turns) k (boxes.works b).taken
 
   -- what is known of mailbox b
   record BoxKnown (b : ℕ) : Type 0 where
@@ -178,7 +178,7 @@ module _ {V S : Type 0} {capacity room : ℕ} (site : Site) (May : ℕ → Type 
     slots = slots;
   }
 
-  exchanged : HaveExchanged site state lanes.works boxes.works handed back
+  exchanged : HaveExchanged site spools lanes.works boxes.works handed back
   exchanged = record {
     as_many = (boxes.as_many.0, boxes.as_many.1);
     stored = boxes.stored;
@@ -193,10 +193,10 @@ module _ {V S : Type 0} {capacity room : ℕ} (site : Site) (May : ℕ → Type 
 
   deeds_told : HaveDeeds site (length old_lanes.visits) (length old_boxes.spools) capacity lanes.works boxes.works
   deeds_told =
-      have_deeds site May view state old_lanes new_lanes old_boxes new_boxes mail_closed slips_closed mail_new slips_new lanes boxes
+      have_deeds site May view spools old_lanes new_lanes old_boxes new_boxes mail_closed slips_closed mail_new slips_new lanes boxes
       mail_shut slips_shut mail_times slips_times mail_settled slips_settled
 
-  pub has_run : HasRun site May view state handed back
+  pub has_run : HasRun site May view spools handed back
   has_run = record {
     lanes = lanes.works;
     boxes = boxes.works;
@@ -217,5 +217,6 @@ module _ {V S : Type 0} {capacity room : ℕ} (site : Site) (May : ℕ → Type 
     owed_only = exchanged.owed_only;
     told = exchanged.told;
     told_only = exchanged.told_only;
-    is_run = λ modelled. all_lanes_run site state lanes.works boxes.works handed back exchanged modelled each_box some_boxes deeds_told;
+    is_run = all_lanes_run site spools lanes.works boxes.works handed back exchanged each_box some_boxes deeds_told;
+    alone = is_left_alone site spools lanes.works boxes.works handed back exchanged;
   }

@@ -11,12 +11,12 @@ use Rattle.mail_world.specs.Lists.{due}
 use Rattle.mail_runs.specs.Timed.{TimedDeed}
 use Rattle.mail_post.specs.Channel.{Sender, Inbox, Sent, taken}
 use Rattle.mail_post.specs.InTime.{Sorts}
-use Rattle.mbox_record.specs.Spool.{SpoolState}
+use Rattle.mail_runs.specs.Courses.{outcomes_in}
 use Rattle.box_worker.specs.Told.{owed_to}
 use Rattle.box_worker.specs.TurnTimes.{worker_sorts}
 use Rattle.lmtp_lane.specs.LaneExchange.{lane_sorts}
 use Rattle.lmtp_lane.specs.Visits.{conversations_of}
-use Rattle.lmtp_threads.specs.Works.{VisitsView}
+use Rattle.lmtp_threads.specs.Works.{VisitsView, SpoolsView}
 use Rattle.lmtp_threads.specs.Channels.{channels_of, AreNewChannels, AreClosedWith, HaveTimes, IsSettled}
 use Rattle.lmtp_threads.proofs.ChannelRows.{at_map, same_at}
 use Rattle.lmtp_threads.specs.Reports.{LaneColumns, WorkerColumns}
@@ -37,16 +37,16 @@ module _ {A B : Type 0} {capacity room : ℕ} (n m count : ℕ) (rows rows' : Li
       } in
       has_ended sorts deeds d.old d.new fresh d.are
 
-module _ {V S : Type 0} {capacity room : ℕ} (site : Site) (May : ℕ → Type 0) (view : VisitsView V) (state : S → SpoolState)
+module _ {V S : Type 0} {capacity room : ℕ} (site : Site) (May : ℕ → Type 0) (view : VisitsView V) (spools : SpoolsView S)
     (old_lanes : LanesGiven V) (new_lanes : LaneColumns V) (old_boxes : WorkersGiven S) (new_boxes : WorkerColumns S)
     (mail_closed : List (Sent Note)) (slips_closed : List (Sent Slip))
     (mail_new : AreNewChannels capacity (length old_lanes.visits) (length old_boxes.spools) old_lanes.rows old_boxes.inboxes)
     (slips_new : AreNewChannels room (length old_boxes.spools) (length old_lanes.visits) old_boxes.rows old_lanes.inboxes)
     (lanes : HaveServed site May view (channels_of old_boxes.inboxes) old_lanes new_lanes)
-    (boxes : HaveWorked site state (channels_of old_lanes.inboxes) old_boxes new_boxes)
+    (boxes : HaveWorked site spools (channels_of old_lanes.inboxes) old_boxes new_boxes)
     (mail_shut : AreClosedWith (length old_lanes.visits) (channels_of old_boxes.inboxes) (λ k b. due site k b (conversations_of (lanes.works k).visits))
     mail_closed)
-    (slips_shut : AreClosedWith (length old_boxes.spools) (channels_of old_lanes.inboxes) (λ b k. owed_to b (boxes.works b).outcomes k (boxes.works b).taken)
+    (slips_shut : AreClosedWith (length old_boxes.spools) (channels_of old_lanes.inboxes) (λ b k. owed_to b (outcomes_in (boxes.works b).turns) k (boxes.works b).taken)
     slips_closed)
     (mail_times : HaveTimes new_lanes.rows mail_closed) (slips_times : HaveTimes new_boxes.rows slips_closed)
     (mail_settled : AllZip (IsSettled (λ (n : Note). n.txn.lane)) new_boxes.inboxes mail_closed)

@@ -5,9 +5,6 @@ pub mod HeardAll
 pub mod SlipRoom
 pub mod HouseSettled
 pub mod HouseEnd
-pub mod Copying
-pub mod Turns
-pub mod Courses
 pub mod RunOfModel
 pub mod Bridge
 pub mod BridgeRows

@@ -1,16 +1,14 @@
 -- A server with any number of lanes: what its threads did, at times that rise, is an orderly run of the model.
-use Rattle.std.proofs.Common.{◌≡◌, ℕ, ◌<◌, List, length, refl, sym, ap, ◌∙◌, subst, arith}
+use Rattle.std.proofs.Common.{◌≡◌, ℕ, ◌<◌, List, length, refl, sym, ◌∙◌, subst, arith}
 use Rattle.std.specs.Prelude.{flat_map}
 use Rattle.std.specs.List.{AllByRecursion}
 use Rattle.mail_world.specs.declared.Note.{Note}
-use Rattle.mail_world.specs.declared.Slip.{Slip}
 use Rattle.mail_world.specs.declared.limits.TheConstants.{RECIPIENT_LIMIT}
 use Rattle.mail_world.specs.Site.{Site}
 use Rattle.mail_world.specs.Conversation.{Conversation}
-use Rattle.mail_world.specs.Slips.{slips_from}
-use Rattle.mail_world.specs.Lists.{of_lane, copies, copies_owed, due, transactions}
-use Rattle.mail_runs.specs.Deeds.{slips_to, turns_of}
-use Rattle.mail_runs.specs.Courses.{Server, Course}
+use Rattle.mail_world.specs.Lists.{copies, copies_owed, due, transactions}
+use Rattle.mail_runs.specs.Deeds.{turns_of}
+use Rattle.mail_runs.specs.Courses.{Server, outcomes_in}
 use Rattle.mail_runs.specs.Histories.{Threads}
 use Rattle.mail_runs.specs.Timed.{TimedDeed, whats, times, those, gives_to, tells_to}
 use Rattle.mail_runs.specs.Known.{ComeOut, is_heard, is_taken, AreLaneDeeds, AreWorkerDeeds}
@@ -18,13 +16,12 @@ use Rattle.mail_runs.specs.Ordered.{AreExchanges}
 use Rattle.mail_runs.proofs.Played.{an_orderly_history_plays}
 use Rattle.mail_runs.proofs.Rising.{lane_rises}
 use Rattle.mail_runs.proofs.Recipients.{lane_known}
-use Rattle.mbox_record.specs.Spool.{SpoolState}
 use Rattle.box_worker.specs.Told.{owed_to}
 use Rattle.lmtp_lane.specs.Visits.{conversations_of}
-use Rattle.lmtp_threads.specs.Works.{LaneWork, BoxWork}
+use Rattle.lmtp_threads.specs.Works.{SpoolsView, LaneWork, BoxWork}
 use Rattle.lmtp_house.specs.Handed.{HandedIn, HandedBack}
-use Rattle.lmtp_house.specs.RunOfModel.{AreModelled, server_of, threads_of, IsRunOfModel}
-use Rattle.lmtp_house.proofs.RunOfModel.{HaveExchanged, KnownOfBox, courses, known, run_of}
+use Rattle.lmtp_house.specs.RunOfModel.{courses_of, server_of, threads_of, IsRunOfModel}
+use Rattle.lmtp_house.proofs.RunOfModel.{HaveExchanged, is_course}
 use Rattle.lmtp_house.proofs.Bridge.{IsSettledAs, said_otherwise, AreJoined, joined_in_order}
 use Rattle.lmtp_house.proofs.BridgeRows.{AreSettledAs, settled_as}
 
@@ -38,75 +35,51 @@ pub record HaveDeeds (site : Site) (n_lanes n_boxes capacity : ℕ) (lanes : ℕ
   pub worker_deeds : ℕ → List TimedDeed
   pub of_lanes : (k : ℕ) → k < n_lanes
       → AreLaneDeeds (flat_map (copies k) (transactions site 0 (conversations_of (lanes k).visits))) (lanes k).heard (lane_deeds k)
-  pub of_workers : (b : ℕ) → b < n_boxes → AreWorkerDeeds (turns_of b (boxes b).taken (boxes b).outcomes) (worker_deeds b)
+  pub of_workers : (b : ℕ) → b < n_boxes → AreWorkerDeeds (turns_of b (boxes b).taken (outcomes_in (boxes b).turns)) (worker_deeds b)
   pub exchanges : (k : ℕ) → k < n_lanes
       → AreExchanges RECIPIENT_LIMIT k (transactions site 0 (conversations_of (lanes k).visits)) (whats (lane_deeds k))
   pub mail : AreSettledAs (λ note. note.txn.lane) n_lanes n_boxes (λ b. capacity) (λ k b. due site k b (conversations_of (lanes k).visits))
       (λ k b. times (those (gives_to b) (lane_deeds k))) (λ b. (boxes b).taken) (λ b. times (those is_taken (worker_deeds b)))
   pub slip_room : ℕ → ℕ
-  pub slips : AreSettledAs (λ slip. slip.worker) n_boxes n_lanes slip_room (λ b k. owed_to b (boxes b).outcomes k (boxes b).taken)
+  pub slips : AreSettledAs (λ slip. slip.worker) n_boxes n_lanes slip_room (λ b k. owed_to b (outcomes_in (boxes b).turns) k (boxes b).taken)
       (λ b k. times (those (tells_to k) (worker_deeds b))) (λ k. (lanes k).heard) (λ k. times (those is_heard (lane_deeds k)))
 
-module _ {V S : Type 0} (site : Site) (state : S → SpoolState) (lanes : ℕ → LaneWork) (boxes : ℕ → BoxWork)
-    (old : HandedIn V S) (new : HandedBack V S) (h : HaveExchanged site state lanes boxes old new) (modelled : AreModelled state boxes old)
+module _ {V S : Type 0} (site : Site) (spools : SpoolsView S) (lanes : ℕ → LaneWork) (boxes : ℕ → BoxWork)
+    (old : HandedIn V S) (new : HandedBack V S) (h : HaveExchanged site spools lanes boxes old new)
     (each_box : length old.spools ≡ length site.boxes) (some_boxes : 0 < length old.spools)
     (d : HaveDeeds site (length old.visits) (length old.spools) old.capacity lanes boxes) where
   abbrev server : Server
   server = server_of site old
 
-  abbrev ran : ℕ → Course
-  ran b = courses site state lanes boxes old new h modelled b
-
   abbrev threads : Threads
-  threads = threads_of site lanes ran
-
-  known_at : (b : ℕ) → b < length old.spools → KnownOfBox site state lanes boxes old new h modelled b
-  known_at b below = known site state lanes boxes old new h modelled b below
+  threads = threads_of site lanes (courses_of spools.state boxes old)
 
   abbrev held_by : ℕ → List Conversation
   held_by k = conversations_of (lanes k).visits
 
-  -- the slips that a worker owes are those of its course
-  owed_same : (b k : ℕ) → b < length old.spools
-      → owed_to b (boxes b).outcomes k (boxes b).taken ≡ slips_to k (slips_from b (ran b).outcomes (ran b).taken)
-  owed_same b k below = let w = known_at b below in sym (λ i. slips_to k (slips_from b (w.outcomes i) (w.taken i)))
-
   came_out : ComeOut server threads
   came_out = record {
     rise = λ k low. lane_rises site (held_by k);
-    courses = λ b below. (known_at b below).is;
+    courses = is_course site spools lanes boxes old new h;
     for_boxes = λ k low.
         let P : ℕ → Type 0 = λ n. AllByRecursion (λ (note : Note). note.mailbox < n) (flat_map (copies k) (transactions site 0 (held_by k))) in
         subst P (sym each_box) (lane_known site (omega (arith, each_box, some_boxes)) k (held_by k));
-    taken = λ k b low below. ap (of_lane k) (known_at b below).taken ∙ h.owed k b low below ∙ due_is site k b (held_by k);
-    taken_only = λ b below.
-        subst (λ l. AllByRecursion (λ (note : Note). note.txn.lane < length old.visits) l) (sym (known_at b below).taken) (h.owed_only b below);
-    heard = λ k b low below. h.told k b low below ∙ owed_same b k below;
+    taken = λ k b low below. h.owed k b low below ∙ due_is site k b (held_by k);
+    taken_only = h.owed_only;
+    heard = h.told;
     heard_only = h.told_only;
   }
 
   mail_at : (b : ℕ) → b < length old.spools → IsSettledAs (λ note. note.txn.lane) (length old.visits) old.capacity
       (λ k. copies_owed k b (transactions site 0 (held_by k)))
-      (λ k. times (those (gives_to b) (d.lane_deeds k))) (ran b).taken (times (those is_taken (d.worker_deeds b)))
+      (λ k. times (those (gives_to b) (d.lane_deeds k))) (boxes b).taken (times (those is_taken (d.worker_deeds b)))
   mail_at b below =
       said_otherwise (λ note. note.txn.lane) (length old.visits) old.capacity (λ k. due site k b (held_by k))
       (λ k. copies_owed k b (transactions site 0 (held_by k)))
-      (λ k. times (those (gives_to b) (d.lane_deeds k))) (boxes b).taken (ran b).taken (times (those is_taken (d.worker_deeds b)))
-      (λ k low. due_is site k b (held_by k)) (sym (known_at b below).taken)
+      (λ k. times (those (gives_to b) (d.lane_deeds k))) (boxes b).taken (times (those is_taken (d.worker_deeds b)))
+      (λ k low. due_is site k b (held_by k))
       (settled_as (λ note. note.txn.lane) (length old.visits) (length old.spools) (λ c. old.capacity) (λ k c. due site k c (held_by k))
       (λ k c. times (those (gives_to c) (d.lane_deeds k))) (λ c. (boxes c).taken) (λ c. times (those is_taken (d.worker_deeds c))) d.mail b below)
-
-  abbrev course_slips : ℕ → ℕ → List Slip
-  course_slips k b = slips_to k (slips_from b (ran b).outcomes (ran b).taken)
-
-  slips_at : (k : ℕ) → k < length old.visits → IsSettledAs (λ slip. slip.worker) (length old.spools) (d.slip_room k) (course_slips k)
-      (λ b. times (those (tells_to k) (d.worker_deeds b))) (lanes k).heard (times (those is_heard (d.lane_deeds k)))
-  slips_at k low =
-      said_otherwise (λ slip. slip.worker) (length old.spools) (d.slip_room k) (λ b. owed_to b (boxes b).outcomes k (boxes b).taken) (course_slips k)
-      (λ b. times (those (tells_to k) (d.worker_deeds b))) (lanes k).heard (lanes k).heard (times (those is_heard (d.lane_deeds k)))
-      (λ b below. owed_same b k below) refl
-      (settled_as (λ slip. slip.worker) (length old.spools) (length old.visits) d.slip_room (λ b j. owed_to b (boxes b).outcomes j (boxes b).taken)
-      (λ b j. times (those (tells_to j) (d.worker_deeds b))) (λ j. (lanes j).heard) (λ j. times (those is_heard (d.lane_deeds j))) d.slips k low)
 
   joined : AreJoined RECIPIENT_LIMIT old.capacity server threads
   joined = record {
@@ -114,16 +87,17 @@ module _ {V S : Type 0} (site : Site) (state : S → SpoolState) (lanes : ℕ �
     lane_deeds = d.lane_deeds;
     worker_deeds = d.worker_deeds;
     lanes = d.of_lanes;
-    workers = λ b below.
-        let w = known_at b below in
-        subst (λ l. AreWorkerDeeds l (d.worker_deeds b)) (sym (λ i. turns_of b (w.taken i) (w.outcomes i))) (d.of_workers b below);
+    workers = d.of_workers;
     exchanges = d.exchanges;
     mail = mail_at;
     slip_room = d.slip_room;
-    slips = slips_at;
+    slips = settled_as (λ slip. slip.worker) (length old.spools) (length old.visits) d.slip_room
+        (λ b j. owed_to b (outcomes_in (boxes b).turns) j (boxes b).taken)
+        (λ b j. times (those (tells_to j) (d.worker_deeds b))) (λ j. (lanes j).heard) (λ j. times (those is_heard (d.lane_deeds j))) d.slips;
   }
 
-  pub all_lanes_run : IsRunOfModel site state lanes boxes old new
+  pub all_lanes_run : IsRunOfModel site spools.state lanes boxes old
   all_lanes_run =
       let order = joined_in_order RECIPIENT_LIMIT old.capacity server threads joined in
-      run_of site state lanes boxes old new h modelled (an_orderly_history_plays RECIPIENT_LIMIT old.capacity server threads order.0 order.1)
+      let run = an_orderly_history_plays RECIPIENT_LIMIT old.capacity server threads order.0 order.1 in
+      record { is = run; offered = λ k b low below. run.is.offered k b below ∙ h.owed k b low below }

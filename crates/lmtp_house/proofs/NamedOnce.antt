@@ -25,6 +25,7 @@ use Rattle.mail_world.specs.Lists.{Transaction, is_content, accepted_after, tran
 use Rattle.mail_world.proofs.GivenAway.{count-append, count-cons}
 use Rattle.mail_world.proofs.Owed.{accepted_after_part, same_after_data}
 use Rattle.box_worker.specs.Told.{owed_to}
+use Rattle.mail_runs.specs.Courses.{outcomes_in}
 use Rattle.lmtp_threads.specs.Works.{BoxWork}
 
 module _ {X : Type 0} (f : X → Bool) where
@@ -303,7 +304,7 @@ due_counts site k b cs f = refl
 
 pub named_once : (site : Site) (k boxes : ℕ) (cs : List Conversation) (heard : List Slip) (works : ℕ → BoxWork)
     → AllByRecursion (λ slip. slip.worker < boxes) heard
-    → ((b : ℕ) → b < boxes → IsPrefix (of_worker b heard) (owed_to b (works b).outcomes k (works b).taken))
+    → ((b : ℕ) → b < boxes → IsPrefix (of_worker b heard) (owed_to b (outcomes_in (works b).turns) k (works b).taken))
     → ((b : ℕ) → b < boxes → of_lane k (works b).taken ≡ due site k b cs)
     → (txn : Txn) (place : ℕ) → times_named txn place heard ≤ 1
 named_once site k boxes cs heard works only each owed txn place =
@@ -316,7 +317,7 @@ named_once site k boxes cs heard works only each owed txn place =
       arith,
       count-append (names txn place) (of_worker b heard) prefix.rest,
       ap (count_by (names txn place)) prefix.whole,
-      slips_copy txn place b k (works b).outcomes (works b).taken,
+      slips_copy txn place b k (outcomes_in (works b).turns) (works b).taken,
       ap (count_by (is_copy txn place)) (owed b low),
       due_counts site k b cs (is_copy txn place),
     ) in

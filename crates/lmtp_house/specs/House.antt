@@ -6,17 +6,17 @@ use Rattle.mail_world.specs.declared.limits.TheConstants.{READ_LIMIT}
 use Rattle.mail_world.specs.Site.{Site}
 use Rattle.mail_world.specs.Slips.{of_worker}
 use Rattle.mail_world.specs.Lists.{of_lane, due, transactions, VerdictsFit, OutcomesAreAnswers}
-use Rattle.mbox_record.specs.Spool.{SpoolState}
+use Rattle.mail_runs.specs.Courses.{outcomes_in}
 use Rattle.box_worker.specs.Told.{owed_to}
 use Rattle.lmtp_house.specs.declared.house.sizes.Sizes.{Sizes}
 use Rattle.lmtp_house.specs.Handed.{HandedIn, HandedBack}
-use Rattle.lmtp_house.specs.RunOfModel.{AreModelled, IsRunOfModel}
+use Rattle.lmtp_house.specs.RunOfModel.{IsRunOfModel, IsNobodyElses, IsLeftAlone}
 use Rattle.mail_world.specs.Counts.{counted}
 use Rattle.lmtp_talk.specs.Peer.{PeerState}
 use Rattle.lmtp_talk.specs.Served.{terms}
 use Rattle.lmtp_lane.specs.Visits.{HasVisited, conversations_of}
 use Rattle.lmtp_threads.specs.Works.{VisitsView, LaneWork, BoxWork, LaneTold, lane_told, share_of, setting_of}
-use Rattle.lmtp_threads.specs.Works.{IsBoxWork}
+use Rattle.lmtp_threads.specs.Works.{SpoolsView, IsBoxWork}
 use Rattle.lmtp_threads.specs.declared.tally.Tally.{Tally}
 
 -- the sizes that a server may have
@@ -42,7 +42,7 @@ pub record IsLaneWork (site : Site) (May : ℕ → Type 0) (MayCome : PeerState 
 -- However lanes and workers interleaved: each worker took of each lane just the copies that the lane's conversations
 -- owe its mailbox, in their order, and nothing else; and each lane heard of its copies every slip that their workers
 -- gave, and nothing else, so that its channel is empty when it is closed.
-pub record HasRun {V S : Type 0} (site : Site) (May : ℕ → Type 0) (view : VisitsView V) (state : S → SpoolState)
+pub record HasRun {V S : Type 0} (site : Site) (May : ℕ → Type 0) (view : VisitsView V) (spools : SpoolsView S)
     (old : HandedIn V S) (new : HandedBack V S) : Type 0 where
   pub lanes : ℕ → LaneWork
   pub boxes : ℕ → BoxWork
@@ -53,14 +53,19 @@ pub record HasRun {V S : Type 0} (site : Site) (May : ℕ → Type 0) (view : Vi
       → IsLaneWork site May (view.MayGive before) k (lanes k) (lane_told view before after count)
   pub stored : (b : ℕ) (before after : S) (tally : Tally) → slice_get old.spools b ≡ Some before
       → slice_get new.spools b ≡ Some after → slice_get new.tallies b ≡ Some tally
-      → IsBoxWork (setting_of (share_of site old.quota) b) (boxes b) (state before) (state after) tally
+      → IsBoxWork (setting_of (share_of site old.quota) b) spools.manner (boxes b) (spools.state before)
+      (spools.state after) tally
   pub owed : (k b : ℕ) → k < length old.visits → b < length old.spools
       → of_lane k (boxes b).taken ≡ due site k b (conversations_of (lanes k).visits)
   pub owed_only : (b : ℕ) → b < length old.spools
       → AllByRecursion (λ note. note.txn.lane < length old.visits) (boxes b).taken
   pub told : (k b : ℕ) → k < length old.visits → b < length old.spools
-      → of_worker b (lanes k).heard ≡ owed_to b (boxes b).outcomes k (boxes b).taken
+      → of_worker b (lanes k).heard ≡ owed_to b (outcomes_in (boxes b).turns) k (boxes b).taken
   pub told_only : (k : ℕ) → k < length old.visits
       → AllByRecursion (λ slip. slip.worker < length old.spools) (lanes k).heard
   -- what lanes and workers did is an orderly run of the model, over channels of the server's capacity
-  pub is_run : AreModelled state boxes old → IsRunOfModel site state lanes boxes old new
+  pub is_run : IsRunOfModel site spools.state lanes boxes old
+  -- and a spool that is nobody else's holds at the end what the model's mailbox does
+  pub alone : (b : ℕ) (before after : S) → slice_get old.spools b ≡ Some before → slice_get new.spools b ≡ Some after
+      → IsNobodyElses spools.manner (spools.state before)
+      → IsLeftAlone (boxes b).turns (spools.state before).bytes (spools.state after).bytes

@@ -4,10 +4,9 @@ use Rattle.std.specs.List.{AllByRecursion}
 use Rattle.mail_world.specs.declared.Note.{Note}
 use Rattle.mail_world.specs.declared.Slip.{Slip}
 use Rattle.mail_world.specs.Site.{Site}
-use Rattle.mbox_record.specs.Spool.{SpoolState}
 use Rattle.mail_post.specs.Channel.{Sender, Inbox}
 use Rattle.mail_post.specs.declared.kinds.TheConstants.{SLIP_CAPACITY}
-use Rattle.lmtp_threads.specs.Works.{VisitsView, share_of}
+use Rattle.lmtp_threads.specs.Works.{VisitsView, SpoolsView, share_of}
 use Rattle.lmtp_house.specs.Handed.{HandedIn, HandedBack}
 use Rattle.lmtp_house.specs.House.{HasRun}
 use Rattle.lmtp_threads.specs.Channels.{Shape, AreNewChannels}
@@ -51,8 +50,8 @@ pub record MayRun {V S C : Type 0} (out : V → Bool) (plan : PlanState V S C) :
   pub none_out : AllByRecursion (λ v. out v ≡ false) handed.visits
 
 -- whatever was planned has been run
-abbrev pub HasRunAll : {V S C : Type 0} → (C → ℕ → Type 0) → VisitsView V → (S → SpoolState) → PlanState V S C
+abbrev pub HasRunAll : {V S C : Type 0} → (C → ℕ → Type 0) → VisitsView V → SpoolsView S → PlanState V S C
     → HandedBack V S → Type 0
-HasRunAll {V} {S} {C} May view state plan back =
+HasRunAll {V} {S} {C} May view spools plan back =
     (site : Site) (clock : C) (handed : HandedIn V S) → IsPlanned site clock handed plan
-    → HasRun site (May clock) view state handed back
+    → HasRun site (May clock) view spools handed back

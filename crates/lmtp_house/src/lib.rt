@@ -1,7 +1,7 @@
 //! An LMTP server (RFC 2033): its lanes and its workers, each in a thread.
 //!
-//! The programs use `run_house`: where it returns Ok, each mailbox got of each lane what its conversations owe it, and,
-//! where `AreModelled` holds, what the threads did is a run of the model. The names of `lmtp_talk` and `lmtp_lane` that
+//! The programs use `run_house`: where it returns Ok, each mailbox got of each lane what its conversations owe it, and
+//! what the threads did is a run of the model. The names of `lmtp_talk` and `lmtp_lane` that
 //! they need are handed on here. It never knows what clients, spools, gates and clock really are: they are handed in.
 #![tactic(auto)]
 

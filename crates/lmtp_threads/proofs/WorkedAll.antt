@@ -7,6 +7,7 @@ use Rattle.mail_world.specs.declared.Note.{Note}
 use Rattle.mail_world.specs.declared.Slip.{Slip}
 use Rattle.mail_world.specs.Site.{Site}
 use Rattle.mbox_record.specs.Spool.{SpoolState}
+use Rattle.mail_runs.specs.Courses.{outcomes_in}
 use Rattle.mail_runs.specs.Deeds.{turns_of}
 use Rattle.mail_runs.specs.Timed.{TimedDeed, whats}
 use Rattle.mail_post.specs.InTime.{AreInTime}
@@ -17,7 +18,7 @@ use Rattle.box_worker.specs.Worked.{WorkerBack, idle, HasWorked}
 use Rattle.box_worker.proofs.Handling.{was_closed, none_came_back}
 use Rattle.mail_post.proofs.Offered.{none_gone}
 use Rattle.lmtp_threads.specs.declared.tally.Tally.{Tally}
-use Rattle.lmtp_threads.specs.Works.{WorkerShare, share_of, setting_of, BoxWork, IsBoxWork}
+use Rattle.lmtp_threads.specs.Works.{SpoolsView, WorkerShare, share_of, setting_of, BoxWork, IsBoxWork}
 use Rattle.lmtp_threads.specs.Channels.{AreRows, none, lane_at, HasLane, HasGiven}
 use Rattle.lmtp_threads.specs.Columns.{ReportParts, HoldReports}
 use Rattle.lmtp_threads.specs.Reports.{WorkerColumns, worker_parts, tally_of}
@@ -75,17 +76,17 @@ pub record BoxDone : Type 0 where
   pub deeds : List TimedDeed
 
 abbrev none_done : BoxDone
-none_done = record { work = record { taken = []; outcomes = [] }; deeds = [] }
+none_done = record { work = record { taken = []; turns = [] }; deeds = [] }
 
-module _ {S G : Type 0} (state : S → SpoolState) where
+module _ {S G : Type 0} (view : SpoolsView S) where
   abbrev pub BoxOk : BoxTask S → WorkerBack G → Type 0
-  BoxOk j r = HasWorked (setting_of j.share (worker_of j.slips)) j.receiver r.receiver (idle j.slips (state j.spool)) r.worker
+  BoxOk j r = HasWorked (setting_of j.share (worker_of j.slips)) view.manner j.receiver r.receiver (idle j.slips (view.state j.spool)) r.worker
 
   abbrev parts : ReportParts (WorkerBack G) (Sender Slip) (Inbox Note) S Tally
-  parts = worker_parts state
+  parts = worker_parts view.state
 
   abbrev box_done : (j : BoxTask S) (r : WorkerBack G) → BoxOk j r → BoxDone
-  box_done j r h = record { work = record { taken = taken r.receiver; outcomes = h.handled.outcomes }; deeds = h.turns.deeds }
+  box_done j r h = record { work = record { taken = taken r.receiver; turns = h.handled.turns }; deeds = h.turns.deeds }
 
   module _ (site : Site) (channels : List (Channel Slip)) (given : WorkersGiven S) (reports : List (WorkerBack G))
       (columns : WorkerColumns S) (of : HoldReports parts reports columns)
@@ -123,10 +124,10 @@ module _ {S G : Type 0} (state : S → SpoolState) where
       row_is : slice_get given.rows k ≡ Some row
       spool_is : slice_get given.spools k ≡ Some spool
       report_is : slice_get reports k ≡ Some report
-      stored : IsBoxWork (setting_of share k) (works k) (state spool) report.worker.mailbox.state (tally_of report.worker)
-      given_out : HasGiven (λ j. owed_to k (works k).outcomes j (works k).taken) row report.worker.slips
+      stored : IsBoxWork (setting_of share k) view.manner (works k) (view.state spool) report.worker.mailbox.state (tally_of report.worker)
+      given_out : HasGiven (λ j. owed_to k (outcomes_in (works k).turns) j (works k).taken) row report.worker.slips
       took : TookAllNotes (works k).taken inbox report.receiver
-      did : whats (deeds_of k) ≡ turns_of k (works k).taken (works k).outcomes
+      did : whats (deeds_of k) ≡ turns_of k (works k).taken (outcomes_in (works k).turns)
       in_time : AreInTime worker_sorts (deeds_of k) (record { senders = row; inbox = inbox })
           (record { senders = report.worker.slips; inbox = report.receiver })
 
@@ -139,21 +140,19 @@ module _ {S G : Type 0} (state : S → SpoolState) where
         let first = at channels 0 some in
         let worker_is : worker_of t.row ≡ k = numbered k first.value t.row (are.cells k 0 t.row first.value t.row_is first.is) in
         let Stored : WorkerShare → ℕ → S → BoxWork → Type 0 =
-        λ by b spool w. IsBoxWork (setting_of by b) w (state spool) p.right.worker.mailbox.state (tally_of p.right.worker) in
-        let Given : ℕ → List (Sender Slip) → BoxWork → Type 0 = λ b row w. HasGiven (λ j. owed_to b w.outcomes j w.taken) row p.right.worker.slips in
+        λ by b spool w. IsBoxWork (setting_of by b) view.manner w (view.state spool) p.right.worker.mailbox.state (tally_of p.right.worker) in
+        let Given : ℕ → List (Sender Slip) → BoxWork → Type 0 = λ b row w. HasGiven (λ j. owed_to b (outcomes_in w.turns) j w.taken) row p.right.worker.slips in
         let Took : Inbox Note → BoxWork → Type 0 = λ inbox w. TookAllNotes w.taken inbox p.right.receiver in
-        let Did : ℕ → BoxDone → Type 0 = λ b d. whats d.deeds ≡ turns_of b d.work.taken d.work.outcomes in
+        let Did : ℕ → BoxDone → Type 0 = λ b d. whats d.deeds ≡ turns_of b d.work.taken (outcomes_in d.work.turns) in
         let InTime : BoxTask S → BoxDone → Type 0 =
         λ j d. AreInTime worker_sorts d.deeds (record { senders = j.slips; inbox = j.receiver })
         (record { senders = p.right.worker.slips; inbox = p.right.receiver }) in
         let handled = h.handled in
         let stored : Stored p.left.share (worker_of p.left.slips) p.left.spool (box_done p.left p.right h).work = record {
-          each = handled.each;
           taken_count = handled.taken_count;
           stored_count = handled.stored_count;
           over_count = handled.over_count;
-          alone = handled.alone;
-          shared = handled.shared;
+          turned = handled.each;
         } in
         let stored_at : Stored share (worker_of t.row) t.spool (works k) =
         subst (λ (j : BoxTask S). Stored j.share (worker_of j.slips) j.spool (works k)) t.is
@@ -162,7 +161,7 @@ module _ {S G : Type 0} (state : S → SpoolState) where
           as_many = h.handled.told.as_many;
           each = λ j before after e f.
               let o = h.handled.told.each j before after e f in
-              let kept : after.gone ≡ false = none_gone p.right.worker.slips j after (none_came_back _ _ _ _ _ h no) f in
+              let kept : after.gone ≡ false = none_gone p.right.worker.slips j after (none_came_back _ _ _ _ _ _ h no) f in
               (o.sent.channel, o.sent.number, o.sent.sent ∙ ap (λ l. before.sent ++ l) (o.all kept), kept);
         } in
         let took : Took p.left.receiver (box_done p.left p.right h).work = record {
@@ -170,14 +169,14 @@ module _ {S G : Type 0} (state : S → SpoolState) where
           capacity = h.capacity;
           lanes = h.lanes;
           took = refl;
-          closed = was_closed _ _ _ _ _ h no;
+          closed = was_closed _ _ _ _ _ _ h no;
         } in
         let given_at : Given (worker_of t.row) t.row (works k) =
         subst (λ (j : BoxTask S). Given (worker_of j.slips) j.slips (works k)) t.is
         (subst (λ d. Given (worker_of p.left.slips) p.left.slips d.work) (sym p.picked) given_out) in
         let did_at : Did (worker_of t.row) (dones k) =
         subst (λ (j : BoxTask S). Did (worker_of j.slips) (dones k)) t.is
-        (subst (λ d. Did (worker_of p.left.slips) d) (sym p.picked) (h.turns.all (none_came_back _ _ _ _ _ h no))) in record {
+        (subst (λ d. Did (worker_of p.left.slips) d) (sym p.picked) (h.turns.all (none_came_back _ _ _ _ _ _ h no))) in record {
           inbox = t.inbox;
           row = t.row;
           spool = t.spool;
@@ -193,7 +192,7 @@ module _ {S G : Type 0} (state : S → SpoolState) where
           in_time = subst (λ (j : BoxTask S). InTime j (dones k)) t.is (subst (λ d. InTime p.left d) (sym p.picked) h.turns.in_time);
         }
 
-    pub have_worked : HaveWorked site state channels given columns
+    pub have_worked : HaveWorked site view channels given columns
     have_worked = record {
       works = works;
       as_many = (
@@ -207,8 +206,8 @@ module _ {S G : Type 0} (state : S → SpoolState) where
           let old_is : l.spool ≡ old = same_at given.spools k l.spool old l.spool_is a in
           let tally_is : tally_of l.report.worker ≡ tally =
           same_at columns.tallies k (tally_of l.report.worker) tally (at_column parts.tally reports columns.tallies of.tallies k l.report l.report_is) c in
-          let Stored : S → SpoolState → Tally → Type 0 = λ x after n. IsBoxWork (setting_of share k) (works k) (state x) after n in
-          subst (λ n. Stored old (state new) n) tally_is
+          let Stored : S → SpoolState → Tally → Type 0 = λ x after n. IsBoxWork (setting_of share k) view.manner (works k) (view.state x) after n in
+          subst (λ n. Stored old (view.state new) n) tally_is
           (subst (λ after. Stored old after (tally_of l.report.worker)) tells
           (subst (λ x. Stored x l.report.worker.mailbox.state (tally_of l.report.worker)) old_is l.stored));
       deeds = deeds_of;
@@ -224,14 +223,14 @@ module _ {S G : Type 0} (state : S → SpoolState) where
             inbox_is = at_column parts.inbox reports columns.inboxes of.inboxes k l.report l.report_is;
             are = l.in_time;
           };
-      rows_are = rows_given (length given.spools) channels (λ b k. owed_to b (works b).outcomes k (works b).taken) given.rows columns.rows are
+      rows_are = rows_given (length given.spools) channels (λ b k. owed_to b (outcomes_in (works b).turns) k (works b).taken) given.rows columns.rows are
           (column_count parts.row reports columns.rows of.rows ∙ reports_count)
           (λ k row row' a b.
           let l = box_is k (omega (arith, are.count, slice_get_within given.rows k row a)) in
           let new_is : l.report.worker.slips ≡ row' =
           same_at columns.rows k l.report.worker.slips row' (at_column parts.row reports columns.rows of.rows k l.report l.report_is) b in
           let old_is : l.row ≡ row = same_at given.rows k l.row row l.row_is a in
-          let Given : List (Sender Slip) → List (Sender Slip) → Type 0 = λ x y. HasGiven (λ j. owed_to k (works k).outcomes j (works k).taken) x y in
+          let Given : List (Sender Slip) → List (Sender Slip) → Type 0 = λ x y. HasGiven (λ j. owed_to k (outcomes_in (works k).turns) j (works k).taken) x y in
           subst (λ x. Given row x) new_is (subst (λ x. Given x l.report.worker.slips) old_is l.given_out));
       took = λ k old new a b.
           let l = box_is k (omega (arith, inboxes_count, slice_get_within given.inboxes k old a)) in

@@ -7,12 +7,12 @@ use Rattle.mail_world.specs.declared.Slip.{Slip}
 use Rattle.mail_world.specs.declared.limits.TheConstants.{READ_LIMIT, RECIPIENT_LIMIT}
 use Rattle.mail_world.specs.Site.{Site}
 use Rattle.mail_world.specs.Lists.{due, copies, transactions, VerdictsFit}
+use Rattle.mail_runs.specs.Courses.{outcomes_in}
 use Rattle.mail_runs.specs.Deeds.{given_in, heard_in, turns_of}
 use Rattle.mail_runs.specs.Timed.{TimedDeed, whats}
 use Rattle.mail_runs.specs.Known.{is_of_lanes}
 use Rattle.mail_runs.specs.Ordered.{AreExchanges}
 use Rattle.mail_post.specs.InTime.{Ends, Sorts, AreInTime}
-use Rattle.mbox_record.specs.Spool.{SpoolState}
 use Rattle.mail_post.specs.Channel.{Channel, Sender, Inbox, taken}
 use Rattle.mail_post.specs.Offered.{HaveNumber}
 use Rattle.mail_post.specs.declared.channel.Gone.TheVariants.{Closed}
@@ -28,7 +28,7 @@ use Rattle.lmtp_lane.specs.LaneRun.{LaneState}
 use Rattle.lmtp_lane.specs.Visits.{HasVisited, conversations_of}
 use Rattle.lmtp_threads.specs.Channels.{AreRows, none}
 use Rattle.lmtp_threads.specs.Works.{VisitsView, LaneWork, LaneTold, lane_told, WorkerShare, share_of, setting_of}
-use Rattle.lmtp_threads.specs.Works.{BoxWork, IsBoxWork}
+use Rattle.lmtp_threads.specs.Works.{SpoolsView, BoxWork, IsBoxWork}
 use Rattle.lmtp_threads.specs.Reports.{LaneColumns, WorkerColumns}
 
 -- what a lane is given
@@ -180,20 +180,23 @@ pub record HaveServed {V : Type 0} (site : Site) (May : ℕ → Type 0) (view : 
       → IsInTime lane_sorts k old.rows new.rows old.inboxes new.inboxes (deeds k)
 
 -- All workers have ended, and none found a channel gone.
-pub record HaveWorked {S : Type 0} (site : Site) (state : S → SpoolState) (channels : List (Channel Slip))
+pub record HaveWorked {S : Type 0} (site : Site) (view : SpoolsView S) (channels : List (Channel Slip))
     (old : WorkersGiven S) (new : WorkerColumns S) : Type 0 where
   pub works : ℕ → BoxWork
   pub as_many : (length new.lent ≡ length old.spools) × (length new.tallies ≡ length old.spools)
       × (length new.inboxes ≡ length old.spools)
   pub stored : (b : ℕ) (before after : S) (tally : Tally) → slice_get old.spools b ≡ Some before
       → slice_get new.lent b ≡ Some after → slice_get new.tallies b ≡ Some tally
-      → IsBoxWork (setting_of (share_of site old.quota) b) (works b) (state before) (state after) tally
-  pub rows_are : AreRows (length old.spools) channels (λ b k. owed_to b (works b).outcomes k (works b).taken) new.rows
+      → IsBoxWork (setting_of (share_of site old.quota) b) view.manner (works b) (view.state before)
+      (view.state after) tally
+  pub rows_are : AreRows (length old.spools) channels
+      (λ b k. owed_to b (outcomes_in (works b).turns) k (works b).taken) new.rows
   pub took : (b : ℕ) (before after : Inbox Note) → slice_get old.inboxes b ≡ Some before
       → slice_get new.inboxes b ≡ Some after → TookAllNotes (works b).taken before after
   -- its deeds, a turn for each copy, and that their times rise and are those that its ends were told
   pub deeds : ℕ → List TimedDeed
-  pub did : (b : ℕ) → b < length old.spools → whats (deeds b) ≡ turns_of b (works b).taken (works b).outcomes
+  pub did : (b : ℕ) → b < length old.spools
+      → whats (deeds b) ≡ turns_of b (works b).taken (outcomes_in (works b).turns)
   pub in_time : (b : ℕ) → b < length old.spools
       → IsInTime worker_sorts b old.rows new.rows old.inboxes new.inboxes (deeds b)
 
@@ -206,9 +209,9 @@ HaveServedAll {V} {C} May view tasks new =
     → AreRows (length old.visits) channels none old.rows → HaveServed site (May clock) view channels old new
 
 -- whatever these tasks were made of, all workers have ended
-abbrev pub HaveWorkedAll : {S : Type 0} → (S → SpoolState) → List (BoxTask S) → WorkerColumns S → Type 0
-HaveWorkedAll {S} state tasks new =
+abbrev pub HaveWorkedAll : {S : Type 0} → SpoolsView S → List (BoxTask S) → WorkerColumns S → Type 0
+HaveWorkedAll {S} view tasks new =
     (site : Site) (channels : List (Channel Slip)) (old : WorkersGiven S)
     → tasks ≡ box_tasks (share_of site old.quota) old.inboxes old.rows old.spools
     → length old.inboxes ≡ length old.spools
-    → 0 < length channels → AreRows (length old.spools) channels none old.rows → HaveWorked site state channels old new
+    → 0 < length channels → AreRows (length old.spools) channels none old.rows → HaveWorked site view channels old new

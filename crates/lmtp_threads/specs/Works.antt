@@ -1,18 +1,17 @@
 -- What one lane and one worker did, and what is told of it.
-use Rattle.std.specs.Prelude.{◌≡◌, ℕ, Bool, true, false, List, length, Option}
+use Rattle.std.specs.Prelude.{◌≡◌, ℕ, Bool, false, List, length, Option}
 use Rattle.std.specs.List.{count_by}
 use Rattle.mail_world.specs.declared.Note.{Note}
-use Rattle.mail_world.specs.declared.Outcome.{Outcome}
 use Rattle.mail_world.specs.declared.Slip.{Slip}
 use Rattle.mail_world.specs.Site.{Site}
 use Rattle.mail_world.specs.Counts.{counted}
+use Rattle.mail_world.specs.Turns.{Standing, Told}
+use Rattle.mail_runs.specs.Courses.{outcomes_in}
 use Rattle.lmtp_text.specs.Calendar.{civil_at}
 use Rattle.mbox_record.specs.Spool.{SpoolState}
 use Rattle.box_worker.specs.Limits.{Setting}
-use Rattle.box_worker.specs.Stored.{mailbox_of}
 use Rattle.box_worker.specs.Told.{is_stored, says_over_quota}
-use Rattle.box_worker.specs.Turned.{shared_of, HasTurned}
-use Rattle.box_worker.specs.Worked.{IsAlone}
+use Rattle.box_worker.specs.Turned.{Manner, manner_of, turned, HasTurned}
 use Rattle.lmtp_talk.specs.Peer.{PeerState}
 use Rattle.lmtp_lane.specs.Visits.{VisitsTold, Visit}
 use Rattle.lmtp_threads.specs.declared.tally.Tally.{Tally}
@@ -27,6 +26,16 @@ pub record VisitsView (V : Type 0) : Type 1 where
 -- the same, part by part
 abbrev pub visits_view : {V : Type 0} → (V → PeerState → Type 0) → (V → VisitsTold) → (V → Bool) → VisitsView V
 visits_view MayGive finished over = record { MayGive = MayGive; finished = finished; over = over }
+
+-- what contracts see of one kind of spools: how each stands, and how they change between two turns
+pub record SpoolsView (S : Type 0) : Type 1 where
+  pub state : S → SpoolState
+  pub manner : Manner
+
+-- the same, part by part
+abbrev pub spools_view : {S : Type 0} → (S → SpoolState) → (Standing → Standing → Type 0) → (Bool → Bool → Type 0)
+    → SpoolsView S
+spools_view state MayFind MayRefuse = record { state = state; manner = manner_of MayFind MayRefuse }
 
 -- what a lane did: the clients that it served, and the slips that it heard
 pub record LaneWork : Type 0 where
@@ -45,10 +54,10 @@ share_of site quota = record { site = site; quota = quota }
 abbrev pub setting_of : WorkerShare → ℕ → Setting
 setting_of share b = record { calendar = civil_at; site = share.site; quota = share.quota; worker = b }
 
--- what a worker did: the copies that it took, and what it told of each
+-- what a worker did: the copies that it took, and their turns, with what it told of each
 pub record BoxWork : Type 0 where
   pub taken : List Note
-  pub outcomes : List Outcome
+  pub turns : List Told
 
 -- what is told of a lane's run: the conversations that had ended before it and after it, whether no client was left,
 -- and how many it held
@@ -66,14 +75,11 @@ lane_told view before after count = record {
   count = count;
 }
 
--- A mailbox's worker took these copies, and told an outcome of each. A private spool holds the records of those that it
--- stored: each that is kept under the quota, unless the spool failed. A shared one had a turn for each.
-pub record IsBoxWork (at : Setting) (work : BoxWork) (old new : SpoolState) (tally : Tally) : Type 0 where
-  pub each : length work.outcomes ≡ length work.taken
+-- A mailbox's worker took these copies, and each had its turn at the mailbox, in their order.
+pub record IsBoxWork (at : Setting) (manner : Manner) (work : BoxWork) (old new : SpoolState) (tally : Tally)
+    : Type 0 where
   pub taken_count : tally.taken ≡ counted (length work.taken)
-  pub stored_count : tally.stored ≡ counted (count_by is_stored work.outcomes)
-  pub over_count : tally.over ≡ counted (count_by says_over_quota work.outcomes)
-  pub alone : old.sharing.is_shared ≡ false → IsAlone at work.taken work.outcomes old
-      (mailbox_of new tally.stored tally.over tally.faulty) tally.in_use
-  pub shared : old.sharing.is_shared ≡ true → HasTurned at work.taken work.outcomes (shared_of old false 0)
-      (shared_of new tally.faulty tally.in_use)
+  pub stored_count : tally.stored ≡ counted (count_by is_stored (outcomes_in work.turns))
+  pub over_count : tally.over ≡ counted (count_by says_over_quota (outcomes_in work.turns))
+  pub turned : HasTurned at manner work.taken work.turns (turned old false 0)
+      (turned new tally.faulty tally.in_use)

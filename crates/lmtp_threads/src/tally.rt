@@ -9,8 +9,8 @@ pub struct Tally {
     pub stored: u64,
     /// Those that were over the quota.
     pub over: u64,
-    /// Those whose turn at a mailbox that other programs use too was missed.
+    /// Those whose turn at the mailbox was missed.
     pub in_use: u64,
-    /// Whether its spool failed: a shared one in the last turn that was had.
+    /// Whether the last turn that was had broke.
     pub faulty: bool,
 }

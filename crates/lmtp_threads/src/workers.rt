@@ -6,7 +6,8 @@ ghost use Rattle.std.specs.List.{AllByRecursion};
 ghost use Rattle.std.specs.Arc.{arc_value};
 ghost use Rattle.box_worker.specs.Told.{worker_of};
 ghost use Rattle.box_worker.specs.Worked.{idle, HasWorked};
-ghost use Rattle.lmtp_threads.specs.Works.{share_of, setting_of};
+ghost use Rattle.box_worker.specs.Turned.{manner_of};
+ghost use Rattle.lmtp_threads.specs.Works.{share_of, setting_of, spools_view};
 ghost use Rattle.lmtp_threads.specs.Grid.{lists, IsRoom};
 ghost use Rattle.lmtp_threads.specs.Columns.{no_columns, TakesReport, HoldReports};
 ghost use Rattle.lmtp_threads.specs.Reports.{worker_parts};
@@ -81,8 +82,8 @@ where
 
     ghost ready = { λ job. IsBoxReady job };
 
-    ghost done = { λ job r. HasWorked (setting_of job.share (worker_of job.slips)) job.receiver r.receiver
-        (idle job.slips (S.state job.spool)) r.worker };
+    ghost done = { λ job r. HasWorked (setting_of job.share (worker_of job.slips))
+        (manner_of S.MayFind S.MayRefuse) job.receiver r.receiver (idle job.slips (S.state job.spool)) r.worker };
 
     fn run<R: Wait>(self, rt: &R) -> WorkerReport<N, S, G> {
         let WorkerJob {
@@ -330,7 +331,8 @@ where
 {
     /// Waits for each worker. Their channels are closed, or their senders are gone.
     pub fn finish<R: Threads>(self, rt: &R) -> WorkerReports<N, S, G>
-        ensures { result.columns.gone ≡ false → HaveWorkedAll S.state self result.columns }
+        ensures { result.columns.gone ≡ false
+            → HaveWorkedAll (spools_view S.state S.MayFind S.MayRefuse) self result.columns }
     {
         let Working {
             crew,

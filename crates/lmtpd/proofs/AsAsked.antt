@@ -6,7 +6,7 @@ use Rattle.std.specs.declared.sync.Arc.{Arc}
 use Rattle.std.specs.Prelude.{Err, Ok, Result}
 use Rattle.mail_world.specs.Site.{Site}
 use Rattle.lmtp_talk.specs.Entries.{Entry}
-use Rattle.mbox_record.specs.Spool.{SpoolState}
+use Rattle.lmtp_threads.specs.Works.{SpoolsView}
 use Rattle.lmtp_house.specs.House.{IsSize}
 use Rattle.lmtp_house.specs.declared.house.sizes.Sizes.{Sizes}
 use Rattle.lmtpd_serve.specs.declared.served.Served.{Served}
@@ -81,7 +81,7 @@ serving_is words socket curfew sizes count bounds addresses a b c d =
     ∙ ap (λ (each : Bounds). serving_with words socket curfew (sizes_asked words) (connections_asked words) each addresses) c
     ∙ ap (λ (t : Bool). serving_with words socket curfew (sizes_asked words) (connections_asked words) (bounds_asked words) t) d
 
-pub served_as_asked : (C : Type 0) {G S : Type 0} (told : G → Option (List Entry)) (shows : G → Bool) (state : S → SpoolState) (held : S → Held)
+pub served_as_asked : (C : Type 0) {G S : Type 0} (told : G → Option (List Entry)) (shows : G → Bool) (view : SpoolsView S) (held : S → Held)
     (words : ServeWords) (before after : Option (List ℕ)) (served : Served) (site : Site) (serving : Serving ServerSocket (ServerCurfew C)) (opened : Opened)
     (curfew : Arc (ServerCurfew C) Global) (spools : List S)
     → words.check_words ≡ false
@@ -90,9 +90,9 @@ pub served_as_asked : (C : Type 0) {G S : Type 0} (told : G → Option (List Ent
     → (length spools ≡ length words.site.boxes.items) × (map held spools ≡ mailboxes_asked words)
     → IsCurfewOf (ends_asked words) (arc_value curfew)
     → (◌≡◌ {A = Result Served HouseFault} (Ok served) (Err house.Size)) ⊎ IsSize site serving.sizes words.lanes (length spools) (length spools)
-    → IsServerRun C site state told shows serving spools before after served
-    → IsServedAsAsked C told shows state held words before after served
-served_as_asked C told shows state held words before after served site serving opened curfew spools serves listens made asked boxes ends good ran = record {
+    → IsServerRun C site view told shows serving spools before after served
+    → IsServedAsAsked C told shows view held words before after served
+served_as_asked C told shows view held words before after served site serving opened curfew spools serves listens made asked boxes ends good ran = record {
   serves = serves;
   opened = opened;
   listens = listens;
@@ -105,7 +105,7 @@ served_as_asked C told shows state held words before after served site serving o
   each_box = boxes.0;
   mailboxes = boxes.1;
   ran =
-      let R : Site → Serving ServerSocket (ServerCurfew C) → Type 0 = λ s z. IsServerRun C s state told shows z spools before after served in
+      let R : Site → Serving ServerSocket (ServerCurfew C) → Type 0 = λ s z. IsServerRun C s view told shows z spools before after served in
       subst (λ z. R (named_site words.site) z) asked (subst (λ s. R s serving) made.0 ran);
 }
 

@@ -10,7 +10,7 @@ use Rattle.clap.specs.Words.{Text, kind_of, subcommand_of, takes}
 use Rattle.clap.specs.declared.error.Error.{Error}
 use Rattle.clap.specs.declared.error.kind.ErrorKind.TheVariants.{OutOfMemory}
 use Rattle.lmtp_text.specs.Sites.{texts}
-use Rattle.mbox_record.specs.Spool.{SpoolState}
+use Rattle.lmtp_threads.specs.Works.{SpoolsView}
 use Rattle.lmtp_talk.specs.Entries.{Entry}
 use Rattle.lmtp_house.specs.House.{IsSize}
 use Rattle.lmtp_house.specs.declared.house.sizes.Sizes.{Sizes}
@@ -138,7 +138,7 @@ IsSizeAsked words =
 -- and over a spool for each mailbox, which is had as they say (`held` is how one is). `before` and `after` are what
 -- standard output held.
 pub record IsServedAsAsked (C : Type 0) {G S : Type 0} (told : G → Option (List Entry)) (shows : G → Bool)
-    (state : S → SpoolState) (held : S → Held) (words : ServeWords) (before after : Option (List ℕ))
+    (view : SpoolsView S) (held : S → Held) (words : ServeWords) (before after : Option (List ℕ))
     (served : ServedRun) : Type 0 where
   pub serves : words.check_words ≡ false
   pub opened : Opened
@@ -150,7 +150,7 @@ pub record IsServedAsAsked (C : Type 0) {G S : Type 0} (told : G → Option (Lis
   pub spools : List S
   pub each_box : length spools ≡ length words.site.boxes.items
   pub mailboxes : map held spools ≡ mailboxes_asked words
-  pub ran : IsServerRun C (named_site words.site) state told shows (serving_asked words opened.socket curfew) spools
+  pub ran : IsServerRun C (named_site words.site) view told shows (serving_asked words opened.socket curfew) spools
       before after served
 
 -- why none ran though its site is sound: a mailbox's file, or only their folder where it is to start anyway, what it

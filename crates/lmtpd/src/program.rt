@@ -1,6 +1,7 @@
 //! What the program does with its words, the lines that it says on standard error, and its status.
 
 ghost use Rattle.std.specs.Prelude.{◌≡◌};
+ghost use Rattle.lmtp_threads.specs.Works.{spools_view};
 ghost use Rattle.lmtpd_words.specs.Words.{as_texts};
 ghost use Rattle.lmtpd_setup.specs.Boxes.{IsFilled};
 ghost use Rattle.lmtpd_setup.specs.Mailboxes.{held_as};
@@ -77,7 +78,10 @@ where
     E: Write,
     ensures done { IsDoneAsAsked (streams_of R.remaining W.contents) (IsFilled P.File.remaining)
         (λ asked after. IsServedAsAsked H (⟦<LineLog<ServerLog<H>, H> as LaneLog>⟧.told)
-        (⟦<LineLog<ServerLog<H>, H> as LaneLog>⟧.addresses) (⟦<ServedMailbox<H, ServerLog<H>> as Spool>⟧.state)
+        (⟦<LineLog<ServerLog<H>, H> as LaneLog>⟧.addresses)
+        (spools_view (⟦<ServedMailbox<H, ServerLog<H>> as Spool>⟧.state)
+        (⟦<ServedMailbox<H, ServerLog<H>> as Spool>⟧.MayFind)
+        (⟦<ServedMailbox<H, ServerLog<H>> as Spool>⟧.MayRefuse))
         held_as asked (W.contents writer) (W.contents after))
         (IsCheckedAsAsked P.File.remaining W.contents (W.contents writer))
         (IsCopiedAsAsked (⟦<StdMailboxFile<H> as MailboxFile>⟧.state) (⟦<StdMailboxFile<H> as MailboxSource>⟧.unread)
@@ -116,7 +120,10 @@ where
     W: Write + Drop + Send + 'static,
     ensures { IsDoneAsAsked (streams_of R.remaining W.contents) (IsFilled P.File.remaining)
         (λ asked after. IsServedAsAsked H (⟦<LineLog<ServerLog<H>, H> as LaneLog>⟧.told)
-        (⟦<LineLog<ServerLog<H>, H> as LaneLog>⟧.addresses) (⟦<ServedMailbox<H, ServerLog<H>> as Spool>⟧.state)
+        (⟦<LineLog<ServerLog<H>, H> as LaneLog>⟧.addresses)
+        (spools_view (⟦<ServedMailbox<H, ServerLog<H>> as Spool>⟧.state)
+        (⟦<ServedMailbox<H, ServerLog<H>> as Spool>⟧.MayFind)
+        (⟦<ServedMailbox<H, ServerLog<H>> as Spool>⟧.MayRefuse))
         held_as asked (W.contents writer) (W.contents after))
         (IsCheckedAsAsked P.File.remaining W.contents (W.contents writer))
         (IsCopiedAsAsked (⟦<StdMailboxFile<H> as MailboxFile>⟧.state) (⟦<StdMailboxFile<H> as MailboxSource>⟧.unread)

@@ -1,4 +1,5 @@
 pub mod Listed
+pub mod InMemory
 pub mod Keeping
 pub mod Naming
 pub mod Telling

@@ -1,10 +1,10 @@
 -- A rehearsal from its parts: the run of the server, and how the mailboxes were written.
-use Rattle.std.proofs.Common.{◌≡◌, ℕ, cond, ◌<◌, ◌≤◌, ◌+◌, ◌-◌, List, [], ◌∷◌, ◌++◌, length, map, take, drop, replicate, Bool, true, false, Option, Some, inl}
-use Rattle.std.proofs.Common.{inr, refl, ap, sym, ◌∙◌, subst, append-nil, arith}
-use Rattle.std.specs.Prelude.{◌==◌, ◌^◌, nat_lt, slice_get}
+use Rattle.std.proofs.Common.{◌≡◌, ℕ, zero, suc, cond, get_or, ◌<◌, ◌+◌, ◌-◌, List, [], ◌∷◌, length, map, replicate, Bool, true, false, Option, Some, inl}
+use Rattle.std.proofs.Common.{inr, refl, ap, sym, ◌∙◌, subst, append-nil, zero-add, arith}
+use Rattle.std.specs.Prelude.{◌==◌, ◌^◌, slice_get}
 use Rattle.std.specs.List.{AllByRecursion, list_any}
 use Rattle.std.specs.Io.KnownBytes.{Appends, Consumes}
-use Rattle.std.proofs.lemmas.List.{length-map, length-replicate, take_all, drop_all}
+use Rattle.std.proofs.lemmas.List.{length-map, length-replicate}
 use Rattle.std.proofs.lemmas.Bool.Decides.{nat_tests}
 use Rattle.mail_world.specs.declared.Note.{Note}
 use Rattle.mail_world.specs.declared.Outcome.{Outcome}
@@ -16,23 +16,22 @@ use Rattle.mail_world.specs.Site.{Site}
 use Rattle.mail_world.specs.Session.{fresh}
 use Rattle.mail_world.specs.Conversation.{Disposition, Conversation, IsAccount, conversation, inputs, parts, replies}
 use Rattle.mail_world.specs.Lists.{Transaction, VerdictFits, OutcomesIn, of_lane, copies_owed, due, transactions}
-use Rattle.mail_world.specs.Records.{mailbox}
-use Rattle.mail_world.specs.Quotas.{are_kept_after, are_kept, kept, marked, outcomes_settled}
-use Rattle.mail_world.specs.Deliveries.{IsTorn, outcomes_told, told_all}
+use Rattle.mail_world.specs.Deliveries.{outcomes_told, told_all}
+use Rattle.mail_world.specs.Turns.{Standing, left_by, last_broke}
 use Rattle.mail_world.proofs.Accounts.{account_told}
-use Rattle.mail_world.proofs.Settled.{length-outcomes, length-kept_after}
-use Rattle.box_worker.specs.Stored.{mailbox_of}
+use Rattle.mail_runs.specs.Courses.{Course, outcomes_in}
+use Rattle.mail_runs.proofs.OneLane.{many}
 use Rattle.box_worker.specs.Told.{owed_to}
-use Rattle.box_worker.specs.Worked.{IsAccounted}
 use Rattle.lmtp_text.specs.Calendar.{civil_at}
-use Rattle.mbox_record.specs.MemorySpool.{MemorySpool}
+use Rattle.mbox_record.specs.MemorySpool.{MemorySpool, state_of}
 use Rattle.lmtp_talk.specs.declared.ending.EndCause.{EndCause}
 use Rattle.lmtp_talk.specs.declared.ending.EndCause.TheVariants.{WriteFault}
 use Rattle.lmtp_threads.specs.declared.tally.Tally.{Tally}
-use Rattle.lmtp_threads.specs.Works.{share_of, setting_of, IsBoxWork, LaneWork, BoxWork}
+use Rattle.lmtp_threads.specs.Works.{share_of, setting_of, IsBoxWork, LaneWork, BoxWork, SpoolsView, spools_view}
+use Rattle.lmtp_threads.proofs.ChannelRows.{at as element}
 use Rattle.lmtp_house.specs.Handed.{HandedIn, HandedBack}
 use Rattle.lmtp_house.specs.House.{HasRun}
-use Rattle.lmtp_house.specs.RunOfModel.{IsToldAlone, IsCourseOf, AreModelled, threads_of, IsRunOfModel}
+use Rattle.lmtp_house.specs.RunOfModel.{courses_of, threads_of, IsRunOfModel, IsLeftAlone}
 use Rattle.lmtp_talk.specs.Peer.{PeerState}
 use Rattle.lmtp_talk.specs.Served.{terms, IsWritten, has_quit, transactions_in}
 use Rattle.mail_world.specs.declared.limits.TheConstants.{READ_LIMIT, RECIPIENT_LIMIT}
@@ -41,19 +40,20 @@ use Rattle.lmtp_lane.specs.Visits.{Finished, Visit, IsVisit, conversations_of, f
 use Rattle.lmtpd_rehearse.specs.declared.client.OnlyClient.{OnlyClient}
 use Rattle.lmtpd_rehearse.specs.declared.client.OnlyClient.TheVariants.{Waiting, Over}
 use Rattle.lmtpd_rehearse.specs.Account.{IsSettledOutcome, IsAllSettled}
-use Rattle.lmtpd_rehearse.specs.Copies.{HoldsCopies, kept_later}
+use Rattle.lmtpd_rehearse.specs.Copies.{HoldsCopies}
 use Rattle.lmtpd_rehearse.specs.Client.{MayGive, told as told_by, is_last_told, IsOnlyOver}
 use Rattle.lmtpd_rehearse.specs.Mailboxes.{MailboxContent, kept_all, kept_at, bytes_of_all, empty_spool, mailbox_room, texts_of_mailboxes, IsCalm}
-use Rattle.lmtpd_rehearse.specs.Rehearsal.{AreMailboxes, copies_due, told_of_box, IsRunOfRehearsal, RehearsalEndsFor, HeldState, IsHeld, IsRehearsed}
+use Rattle.lmtpd_rehearse.specs.Rehearsal.{AreMailboxes, copies_due, told_of_box, model_of, IsRunOfRehearsal, RehearsalEndsFor, HeldState, IsHeld, IsRehearsed}
 use Rattle.lmtpd_words.specs.Output.{IsListed}
 use Rattle.lmtpd_rehearse.specs.Rehearsal.{Streams}
-use Rattle.lmtpd_rehearse.proofs.Boxes.{state_of, get_some, get_same, kept_is, length-kept, bytes_are, none_failed, all_calm, is_full, spool_has, holds_settled}
+use Rattle.lmtpd_rehearse.proofs.Boxes.{get_same, kept_is, length-kept, bytes_are, none_failed, all_calm}
 use Rattle.mail_world.specs.Runs.{events_of, offers_by}
 use Rattle.mail_runs.specs.Histories.{Threads}
 use Rattle.mail_runs.specs.Ordered.{IsOrderlyRunOf}
 use Rattle.mail_runs.proofs.Rising.{NumbersRise, numbers_rise}
-use Rattle.mbox_record.proofs.Taken.{Appends-then}
-use Rattle.lmtpd_rehearse.proofs.Keeping.{all_settled, marked_none, same_marks}
+use Rattle.std.proofs.KnownBytes.{Appends-trans}
+use Rattle.lmtpd_rehearse.proofs.InMemory.{RefusesAfterFault, in_memory}
+use Rattle.lmtpd_rehearse.proofs.Keeping.{HoldsAll, all_settled, holds_all}
 use Rattle.lmtpd_rehearse.proofs.Telling.{IsPrefixOfOwed, AreSized, told_as_said, all_told_settled}
 
 -- all that is of lanes below 1 is of lane 0
@@ -160,12 +160,17 @@ held_by site moment old new v never still at h =
       unstopped = is;
     }
 
+-- spools in memory as contracts see all spools
+abbrev in_memory_view : SpoolsView MemorySpool
+in_memory_view = spools_view state_of (λ last now. now ≡ last) RefusesAfterFault
+
 -- what a mailbox's worker did
 record BoxAt (site : Site) (quota : Option ℕ) (work : BoxWork) (spools : List MemorySpool) (tallies : List Tally) (b : ℕ) : Type 0 where
   spool : MemorySpool
   tally : Tally
   is : kept_at (kept_all spools tallies) b ≡ record { bytes = spool.bytes; failed = tally.faulty }
-  did : IsBoxWork (setting_of (share_of site quota) b) work (state_of (empty_spool site)) (state_of spool) tally
+  did : IsBoxWork (setting_of (share_of site quota) b) in_memory_view.manner work (state_of (empty_spool site)) (state_of spool) tally
+  alone : IsLeftAlone work.turns [] spool.bytes
 
 -- what the lane heard, and what each of that many workers did
 record AllWork : Type 0 where
@@ -180,76 +185,45 @@ all_work heard boxes count = record { heard = heard; boxes = boxes; count = coun
 record HaveWorked (site : Site) (quota : Option ℕ) (ts : List Transaction) (work : AllWork) (spools : List MemorySpool) (tallies : List Tally) : Type 0 where
   answered : AllByRecursion (λ t. OutcomesIn 0 work.heard t t.disposition.verdict) ts
   known : AllByRecursion (λ slip. slip.worker < work.count) work.heard
-  begun : (b : ℕ) → b < work.count → IsPrefixOfOwed (λ k. (work.boxes k).outcomes) work.heard ts b
+  begun : (b : ℕ) → b < work.count → IsPrefixOfOwed (λ k. outcomes_in (work.boxes k).turns) work.heard ts b
   taken : (b : ℕ) → b < work.count → (work.boxes b).taken ≡ copies_owed 0 b ts
   each : (b : ℕ) → b < work.count → BoxAt site quota (work.boxes b) spools tallies b
   as_many : (length spools ≡ work.count) × (length tallies ≡ work.count)
 
 -- what a worker made of its mailbox, and what it told of its copies
 module _ (site : Site) (quota : Option ℕ) (b : ℕ) (work : BoxWork) (spool : MemorySpool) (tally : Tally)
-    (did : IsBoxWork (setting_of (share_of site quota) b) work (state_of (empty_spool site)) (state_of spool) tally) where
-  -- the spool is nobody else's
-  abbrev acc : IsAccounted (setting_of (share_of site quota) b) work.taken work.outcomes (state_of (empty_spool site))
-      (mailbox_of (state_of spool) tally.stored tally.over tally.faulty)
-  acc = (did.alone refl).accounted
+    (did : IsBoxWork (setting_of (share_of site quota) b) in_memory_view.manner work (state_of (empty_spool site)) (state_of spool) tally)
+    (alone : IsLeftAlone work.turns [] spool.bytes) where
+  abbrev HoldsSo : List ℕ → Bool → Type 0
+  HoldsSo bytes broke = HoldsCopies civil_at site quota work.taken (outcomes_in work.turns) bytes broke
+      × (broke ≡ true → length bytes ≡ 0 + mailbox_room site.message_limit)
 
-  abbrev marks : List Bool
-  marks = are_kept_after civil_at site quota acc.start work.taken
+  holds_so : HoldsSo spool.bytes tally.faulty
+  holds_so =
+      let came = in_memory civil_at site quota (state_of (empty_spool site)).limit work.taken work.turns did.turned.are alone.between (did.turned.refused refl)
+      did.turned.full in
+      subst (HoldsSo spool.bytes) (sym did.turned.broke) (subst (λ b. HoldsSo b (last_broke false work.turns)) (sym alone.left) came)
 
-  tells : work.outcomes ≡ outcomes_settled (acc.stored + acc.over) (are_kept civil_at site quota [] work.taken)
-  tells = acc.told ∙ ap (outcomes_settled (acc.stored + acc.over))
-      (same_marks civil_at site quota (state_of (empty_spool site)) acc.start work.taken refl acc.settled.starts)
+  as_many : length (outcomes_in work.turns) ≡ length work.taken
+  as_many = many (model_of site quota) work.taken work.turns did.turned.are
 
-  tells_settled : tally.faulty ≡ false → AllByRecursion (IsSettledOutcome quota) work.outcomes
+  tells_settled : tally.faulty ≡ false → AllByRecursion (IsSettledOutcome quota) (outcomes_in work.turns)
   tells_settled sound =
-      let all : acc.stored + acc.over ≡ length work.taken = acc.settled.all sound in
-      let P : List Outcome → Type 0 = λ os. AllByRecursion (IsSettledOutcome quota) os in
-      subst P (sym acc.told) (all_settled civil_at site quota acc.start (acc.stored + acc.over) work.taken (omega (arith, all)))
-
-  holds : HoldsCopies civil_at site quota work.taken work.outcomes spool.bytes tally.faulty
-  holds =
-      let P : List Outcome → Type 0 = λ os. HoldsCopies civil_at site quota work.taken os spool.bytes tally.faulty in
-      subst P (sym tells) (holds_settled site quota b acc.start work.taken spool acc.stored acc.over tally.faulty acc.settled)
-
-  fills : tally.faulty ≡ true → length spool.bytes ≡ mailbox_room site.message_limit
-  fills = is_full site civil_at spool _ acc.stored acc.over tally.faulty
-      (spool_has site quota b acc.start work.taken spool acc.stored acc.over tally.faulty acc.settled)
-
--- a mailbox that hasn't failed
-record HoldsAll (site : Site) (quota : Option ℕ) (notes : List Note) (outcomes : List Outcome) (bytes : List ℕ) : Type 0 where
-  told : outcomes ≡ outcomes_settled (length notes) (are_kept civil_at site quota [] notes)
-  held : bytes ≡ mailbox civil_at site [] (kept civil_at site quota [] notes)
-
-all_if_sound : (settled size : ℕ) → settled ≤ size → false ≡ nat_lt settled size → settled ≡ size
-all_if_sound settled size within fails = let high : size ≤ settled = grind (arith, nat_tests, fails) in omega (arith, within, high)
-
-none_torn : (site : Site) (notes : List Note) (torn : List ℕ) → notes ≡ [] → IsTorn civil_at site notes torn → torn ≡ []
-none_torn site [] torn e h = h
-none_torn site (x ∷ notes) torn e h = cc
-
-holds_all : (site : Site) (quota : Option ℕ) (notes : List Note) (outcomes : List Outcome) (bytes : List ℕ)
-    → HoldsCopies civil_at site quota notes outcomes bytes false → HoldsAll site quota notes outcomes bytes
-holds_all site quota notes outcomes bytes h =
-    let all : h.settled ≡ length notes = all_if_sound h.settled (length notes) h.within h.fails in
-    let taken : take h.settled notes ≡ notes = take_all h.settled notes (omega (arith, all)) in
-    let marks : List Bool = drop h.settled (are_kept civil_at site quota [] notes) in
-    let none : kept_later civil_at site quota h.settled notes ≡ [] = ap (marked marks) (drop_all h.settled notes (omega (arith, all))) ∙ marked_none marks in
-    let whole : h.torn ≡ [] = none_torn site (kept_later civil_at site quota h.settled notes) h.torn none h.tears in
-    let held : List Note → List ℕ = λ l. mailbox civil_at site [] (kept civil_at site quota [] l) in
-    record {
-      told = h.told ∙ ap (λ n. outcomes_settled n (are_kept civil_at site quota [] notes)) all;
-      held = h.held ∙ ap (λ l. held (take h.settled notes) ++ l) whole ∙ append-nil (held (take h.settled notes)) ∙ ap held taken;
-    }
+      let P : Bool → Type 0 = λ broke. HoldsCopies civil_at site quota work.taken (outcomes_in work.turns) spool.bytes broke in
+      let all = holds_all civil_at site quota work.taken (outcomes_in work.turns) spool.bytes (subst P sound holds_so.0) in
+      let S : List Outcome → Type 0 = λ os. AllByRecursion (IsSettledOutcome quota) os in
+      subst S (sym all.told) (all_settled civil_at site quota work.taken)
 
 -- what was told of a mailbox's copies is what its worker said
 said_of_box : (site : Site) (quota : Option ℕ) (c : Conversation) (work : AllWork) (spools : List MemorySpool) (tallies : List Tally)
     → HaveWorked site quota (transactions_in site 0 c) work spools tallies
-    → (b : ℕ) → b < work.count → told_all b (transactions_in site 0 c) ≡ (work.boxes b).outcomes
+    → (b : ℕ) → b < work.count → told_all b (transactions_in site 0 c) ≡ outcomes_in (work.boxes b).turns
 said_of_box site quota c work spools tallies h b low =
     let ts : List Transaction = transactions_in site 0 c in
-    let told : ℕ → List Outcome = λ k. (work.boxes k).outcomes in
+    let told : ℕ → List Outcome = λ k. outcomes_in (work.boxes k).turns in
     let some : 0 < 1 = omega arith in
-    let sized : AreSized told ts work.count = λ k below. let at = h.each k below in at.did.each ∙ ap length (h.taken k below) in
+    let sized : AreSized told ts work.count = λ k below.
+    let at = h.each k below in as_many site quota k (work.boxes k) at.spool at.tally at.did at.alone ∙ ap length (h.taken k below) in
     told_as_said work.heard told work.count 1 ts some (rising site c) h.answered h.known h.begun sized b low
 
 delivered : (site : Site) (quota : Option ℕ) (c : Conversation) (work : AllWork) (spools : List MemorySpool) (tallies : List Tally) (faulty : Bool)
@@ -260,7 +234,7 @@ delivered : (site : Site) (quota : Option ℕ) (c : Conversation) (work : AllWor
 delivered site quota c work spools tallies faulty is accounted h size faulty_is =
     let ts : List Transaction = transactions_in site 0 c in
     let ks : List MailboxContent = kept_all spools tallies in
-    let told : ℕ → List Outcome = λ k. (work.boxes k).outcomes in
+    let told : ℕ → List Outcome = λ k. outcomes_in (work.boxes k).turns in
     let as_many : length tallies ≡ length spools = h.as_many.1 ∙ sym h.as_many.0 in
     let told_it : map (λ t. t.disposition) ts ≡ c.dispositions = account_told site 0 c accounted in
     let calm : faulty ≡ false → IsCalm ks = λ f. none_failed spools tallies as_many (sym faulty_is ∙ f) in
@@ -276,15 +250,15 @@ delivered site quota c work spools tallies faulty is accounted h size faulty_is 
     let T : List Outcome → Type 0 = λ os. HoldsCopies civil_at site quota (due site 0 box (c ∷ [])) os at.spool.bytes at.tally.faulty in
     let K : MailboxContent → Type 0 = λ k. H c box k.bytes k.failed in
     let C : Conversation → Type 0 = λ x. H x box (kept_at ks box).bytes (kept_at ks box).failed in
-    let first : P (copies_owed 0 box ts) = subst P (h.taken box low) (holds site quota box (work.boxes box) at.spool at.tally at.did) in
+    let first : P (copies_owed 0 box ts) = subst P (h.taken box low) (holds_so site quota box (work.boxes box) at.spool at.tally at.did at.alone).0 in
     let told_so : Q (told_all box ts) = subst Q (sym (said_of_box site quota c work spools tallies h box low)) first in
     subst C is (subst K (sym at.is) (subst T (sym (told_is site box c)) (subst D (sym (due_is site box c)) told_so))) in
     let whole : faulty ≡ false → (box : ℕ) → box < length site.boxes
-    → HoldsAll site quota (copies_due site c.bytes c.dispositions box) (told_of_box site c.bytes c.dispositions box) (kept_at ks box).bytes =
+    → HoldsAll civil_at site quota (copies_due site c.bytes c.dispositions box) (told_of_box site c.bytes c.dispositions box) (kept_at ks box).bytes =
     λ f box within.
     let failed : (kept_at ks box).failed ≡ false = calm f box (omega (arith, within, many, size)) in
     let B : Bool → Type 0 = λ b. H (conversation c.bytes c.dispositions) box (kept_at ks box).bytes b in
-    holds_all site quota _ _ (kept_at ks box).bytes (subst B failed (each box within)) in
+    holds_all civil_at site quota _ _ (kept_at ks box).bytes (subst B failed (each box within)) in
     record {
       count = many ∙ size;
       each = each;
@@ -292,23 +266,30 @@ delivered site quota c work spools tallies faulty is accounted h size faulty_is 
           let low : box < work.count = omega (arith, size, within) in
           let at = h.each box low in
           ap (λ (k : MailboxContent). length k.bytes) at.is
-          ∙ fills site quota box (work.boxes box) at.spool at.tally at.did (sym (ap (λ (k : MailboxContent). k.failed) at.is) ∙ failed);
+          ∙ (holds_so site quota box (work.boxes box) at.spool at.tally at.did at.alone).1 (sym (ap (λ (k : MailboxContent). k.failed) at.is) ∙ failed)
+          ∙ zero-add (mailbox_room site.message_limit);
       sound = (calm, λ quiet. faulty_is ∙ all_calm spools tallies as_many quiet);
       settled = λ f.
           let S : List Disposition → Type 0 = λ ds. AllByRecursion (IsAllSettled quota) ds in
           subst S told_it (all_told_settled work.heard quota told work.count ts h.answered h.known h.begun (λ b low.
           let at = h.each b low in
-          tells_settled site quota b (work.boxes b) at.spool at.tally at.did
+          tells_settled site quota b (work.boxes b) at.spool at.tally at.did at.alone
           (sym (ap (λ (k : MailboxContent). k.failed) at.is) ∙ calm f b (omega (arith, many, low)))));
       told = λ f box within. (whole f box within).told;
       held = λ f box within. (whole f box within).held;
     }
 
+-- a new spool holds nothing
+nothing_at : (count b : ℕ) (spool : MemorySpool) → spool.bytes ≡ [] → get_or (map (λ (s : MemorySpool). (state_of s).bytes) (replicate count spool)) b [] ≡ []
+nothing_at zero b spool empty = refl
+nothing_at (suc count) zero spool empty = empty
+nothing_at (suc count) (suc b) spool empty = nothing_at count b spool empty
+
 -- the run of a server whose only lane has one client, and whose spools are new
 abbrev pub HasRunAlone : (site : Site) (quota : Option ℕ) (moment : ℕ) {P : Type 0} (state : P → PeerState) (peer : P) (count : ℕ)
     (back : HandedBack (OnlyClient P) MemorySpool) → Type 0
 HasRunAlone site quota moment state peer count back =
-    HasRun site (λ m. m ≡ moment) (record { MayGive = λ c p. MayGive state c p; finished = λ c. told_by state c; over = λ c. is_last_told c }) state_of
+    HasRun site (λ m. m ≡ moment) (record { MayGive = λ c p. MayGive state c p; finished = λ c. told_by state c; over = λ c. is_last_told c }) in_memory_view
     (record { visits = Waiting peer ∷ []; spools = replicate count (empty_spool site); capacity = DEFAULT_CAPACITY; quota = quota }) back
 
 module _ (site : Site) (quota : Option ℕ) (moment : ℕ) {P : Type 0} (state : P → PeerState) (peer : P) (count : ℕ)
@@ -340,34 +321,33 @@ module _ (site : Site) (quota : Option ℕ) (moment : ℕ) {P : Type 0} (state :
         answered = answered;
         known = subst K many (h.told_only 0 one);
         begun = λ b low.
-            let B : List Note → Type 0 = λ notes. IsPrefix (of_worker b heard) (owed_to b (h.boxes b).outcomes 0 notes) in
+            let B : List Note → Type 0 = λ notes. IsPrefix (of_worker b heard) (owed_to b (outcomes_in (h.boxes b).turns) 0 notes) in
             subst B (taken b low) (record { rest = []; whole = sym (h.told 0 b one (low_in b low)) ∙ sym (append-nil (of_worker b heard)) });
         taken = taken;
         each = λ b low.
-            let spool = get_some back.spools b (omega (arith, many, low, h.as_many_boxes.0)) in
-            let tally = get_some back.tallies b (omega (arith, many, low, h.as_many_boxes.1)) in
+            let spool = element back.spools b (omega (arith, many, low, h.as_many_boxes.0)) in
+            let tally = element back.tallies b (omega (arith, many, low, h.as_many_boxes.1)) in
             record {
-              spool = spool.0;
-              tally = tally.0;
-              is = kept_is back.spools back.tallies b spool.0 tally.0 spool.1 tally.1;
-              did = h.stored b (empty_spool site) spool.0 tally.0 (get_same count b (empty_spool site) low) spool.1 tally.1;
+              spool = spool.value;
+              tally = tally.value;
+              is = kept_is back.spools back.tallies b spool.value tally.value spool.is tally.is;
+              did = h.stored b (empty_spool site) spool.value tally.value (get_same count b (empty_spool site) low) spool.is tally.is;
+              alone = h.alone b (empty_spool site) spool.value (get_same count b (empty_spool site) low) spool.is
+                  (record { free = refl; same = λ last now e. ap (λ (s : Standing). s.bytes) e });
             };
         as_many = (h.as_many_boxes.0 ∙ many, h.as_many_boxes.1 ∙ many);
       }
-
-  -- what lane and workers did is an orderly run of the model
-  all_modelled : (boxes : ℕ → BoxWork) → AreModelled state_of boxes handed
-  all_modelled boxes = λ b before e. inl (record { alone = refl; telling = refl })
 
   run_of : (h : HasRunAlone site quota moment state peer count back) (c : Conversation) → conversations_of (h.lanes 0).visits ≡ c ∷ []
       → HaveWorked site quota (transactions_in site 0 c) (all_work (h.lanes 0).heard h.boxes count) back.spools back.tallies
       → c ≡ conversation c.bytes c.dispositions → count ≡ length site.boxes
       → IsRunOfRehearsal site quota c.bytes c.dispositions (kept_all back.spools back.tallies)
   run_of h c are worked is size =
-      let m : IsRunOfModel site state_of h.lanes h.boxes handed back = h.is_run (all_modelled h.boxes) in
+      let m : IsRunOfModel site state_of h.lanes h.boxes handed = h.is_run in
       let one : 0 < 1 = omega arith in
       let many : length handed.spools ≡ length site.boxes = length-replicate count (empty_spool site) ∙ size in
-      let threads : Threads = threads_of site h.lanes m.courses in
+      let courses : ℕ → Course = courses_of state_of h.boxes handed in
+      let threads : Threads = threads_of site h.lanes courses in
       let copies : ℕ → Conversation → List Note = λ b x. due site 0 b (x ∷ []) in
       let R : ℕ → Type 0 = λ n.
       (run : IsOrderlyRunOf RECIPIENT_LIMIT DEFAULT_CAPACITY (record { calendar = civil_at; site = site; quota = quota; lanes = 1; boxes = n }) threads)
@@ -375,26 +355,22 @@ module _ (site : Site) (quota : Option ℕ) (moment : ℕ) {P : Type 0} (state :
       let first : R (length handed.spools) =
       (m.is, λ b low. m.offered 0 b one low ∙ ap (λ l. due site 0 b l) are ∙ ap (copies b) is) in
       let run : R (length site.boxes) = subst R many first in
-      let alone : IsToldAlone (state_of (empty_spool site)) = record { alone = refl; telling = refl } in
       record {
         threads = threads;
         is = run.0;
         offered = run.1;
         each = λ b within.
             let low : b < count = omega (arith, within, size) in
-            let spool = get_some back.spools b (omega (arith, worked.as_many.0, low)) in
-            let tally = get_some back.tallies b (omega (arith, worked.as_many.1, low)) in
-            let kept : kept_at (kept_all back.spools back.tallies) b ≡ record { bytes = spool.0.bytes; failed = tally.0.faulty } =
-            kept_is back.spools back.tallies b spool.0 tally.0 spool.1 tally.1 in
-            let t : IsCourseOf (h.boxes b) (state_of (empty_spool site)) (state_of spool.0) tally.0 (m.courses b) =
-            m.are b (empty_spool site) spool.0 tally.0 (get_same count b (empty_spool site) low) spool.1 tally.1 in
+            let at = worked.each b low in
+            let old : (courses b).old ≡ [] = nothing_at count b (empty_spool site) refl in
             let said = said_of_box site quota c (all_work (h.lanes 0).heard h.boxes count) back.spools back.tallies worked b low in
             record {
-              old = t.old alone;
-              taken = t.taken ∙ worked.taken b low ∙ sym (due_is site b c) ∙ ap (copies b) is;
-              outcomes = t.outcomes ∙ sym said ∙ sym (told_is site b c) ∙ ap (λ x. outcomes_told site b (x ∷ [])) is;
-              spool = t.spool alone ∙ sym (ap (λ (k : MailboxContent). k.bytes) kept);
-              faulty = t.faulty refl ∙ sym (ap (λ (k : MailboxContent). k.failed) kept);
+              old = old;
+              taken = worked.taken b low ∙ sym (due_is site b c) ∙ ap (copies b) is;
+              outcomes = sym said ∙ sym (told_is site b c) ∙ ap (λ x. outcomes_told site b (x ∷ [])) is;
+              left = ap (λ l. left_by l (h.boxes b).turns) old ∙ sym at.alone.left ∙ sym (ap (λ (k : MailboxContent). k.bytes) at.is);
+              failed = sym at.did.turned.broke ∙ sym (ap (λ (k : MailboxContent). k.failed) at.is);
+              refused = at.did.turned.refused refl;
             };
       }
 
@@ -459,7 +435,7 @@ rehearsed site quota moment old between left after cut h w =
       run = h.run;
       said = h.said;
       listed = w.listed;
-      output = Appends-then old.written between.written after h.said w.listed h.output w.output;
+      output = Appends-trans old.written between.written after h.said w.listed h.output w.output;
       says = h.says;
       lists = subst L (sym h.holds) w.lists;
       ends = h.ends;

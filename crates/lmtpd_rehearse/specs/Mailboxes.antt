@@ -3,7 +3,7 @@ use Rattle.std.specs.Prelude.{◌≡◌, ◌<◌, ◌*◌, max, ℕ, Bool, false
 use Rattle.std.specs.Prelude.{codes, decimal}
 use Rattle.mail_world.specs.Text.{lf}
 use Rattle.mail_world.specs.Site.{Site}
-use Rattle.mbox_record.specs.MemorySpool.{MemorySpool}
+use Rattle.mbox_record.specs.MemorySpool.{MemorySpool, unused}
 use Rattle.lmtp_threads.specs.declared.tally.Tally.{Tally}
 use Rattle.lmtpd_words.specs.Output.{pair_texts}
 use Rattle.lmtpd_rehearse.specs.declared.parts.TheConstants.{MAILBOX_ROOM}
@@ -51,5 +51,4 @@ mailbox_room limit = max MAILBOX_ROOM (2 * limit)
 
 -- a spool that holds nothing, with room for a mailbox of the site
 abbrev pub empty_spool : Site → MemorySpool
-empty_spool site =
-    record { bytes = []; room = mailbox_room site.message_limit; failures = 0; synced = 0; is_unsynced = false }
+empty_spool site = unused [] (mailbox_room site.message_limit)

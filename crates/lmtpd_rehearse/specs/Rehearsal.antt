@@ -13,9 +13,11 @@ use Rattle.mail_world.specs.Records.{mailbox}
 use Rattle.mail_world.specs.Quotas.{are_kept, kept, outcomes_settled}
 use Rattle.mail_world.specs.Deliveries.{outcomes_told}
 use Rattle.mail_world.specs.Runs.{events_of, offers_by}
-use Rattle.mail_runs.specs.Courses.{Server, Course}
+use Rattle.mail_world.specs.Turns.{left_by, last_broke}
+use Rattle.mail_runs.specs.Courses.{Server, Course, outcomes_in}
 use Rattle.mail_runs.specs.Histories.{Threads}
 use Rattle.mail_runs.specs.Ordered.{IsOrderlyRunOf}
+use Rattle.box_worker.specs.Turned.{AreRefused}
 use Rattle.lmtp_text.specs.Calendar.{civil_at}
 use Rattle.lmtp_talk.specs.declared.ending.EndCause.{EndCause}
 use Rattle.lmtp_talk.specs.declared.ending.EndCause.TheVariants.{Quit, EndOfInput, WriteFault, Stopped, ReadBound}
@@ -64,15 +66,17 @@ pub record AreMailboxes (site : Site) (quota : Option ℕ) (read : List ℕ) (ac
       → (kept_at mailboxes box).bytes ≡ mailbox civil_at site []
       (kept civil_at site quota [] (copies_due site read account box))
 
--- A mailbox of the model came to what this one did: it was empty at first, took these copies, told this of each, holds
--- these bytes, and failed where this one did.
+-- A mailbox of the model came to what this one did: it was empty at first, took these copies, told this of each in its
+-- turn, is left with these bytes, and failed where this one did. From the first turn that broke on all were missed, and
+-- none before it.
 pub record IsCourseTo (copies : List Note) (told : List Outcome) (mailbox : MailboxContent)
     (course : Course) : Type 0 where
   pub old : course.old ≡ []
   pub taken : course.taken ≡ copies
-  pub outcomes : course.outcomes ≡ told
-  pub spool : course.spool ≡ mailbox.bytes
-  pub faulty : course.faulty ≡ mailbox.failed
+  pub outcomes : outcomes_in course.turns ≡ told
+  pub left : left_by course.old course.turns ≡ mailbox.bytes
+  pub failed : last_broke false course.turns ≡ mailbox.failed
+  pub refused : AreRefused (λ broke refused. refused ≡ broke) false course.turns
 
 -- the model's server: this site, its calendar, this quota, one lane
 abbrev pub model_of : Site → Option ℕ → Server

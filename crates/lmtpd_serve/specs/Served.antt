@@ -9,7 +9,7 @@ use Rattle.lmtp_lane.specs.declared.tcp.listener.Endpoint.{Endpoint}
 use Rattle.lmtp_lane.specs.declared.tcp.listener.Endpoint.TheVariants.{Ip, Unix}
 use Rattle.mail_world.specs.Text.{lf}
 use Rattle.mail_world.specs.Site.{Site}
-use Rattle.mbox_record.specs.Spool.{SpoolState}
+use Rattle.lmtp_threads.specs.Works.{SpoolsView}
 use Rattle.lmtp_threads.specs.declared.tally.Tally.{Tally}
 use Rattle.lmtp_house.specs.Handed.{HandedBack}
 use Rattle.lmtp_house.specs.House.{HasRun}
@@ -109,7 +109,7 @@ pub record AreLanesFor {L G C E : Type 0} (listener : L) (conversations : Conver
 -- worker counted, and the server is faulty exactly where a worker is, whose last turn broke; it failed exactly where
 -- its listener can't tell where it listens or a lane's accept failed, and was stopped exactly where a lane was; and
 -- where it listens and what was stored was said, up to a write that failed.
-pub record IsServerRun (C : Type 0) {L E S G : Type 0} (site : Site) (state : S → SpoolState)
+pub record IsServerRun (C : Type 0) {L E S G : Type 0} (site : Site) (view : SpoolsView S)
     (told : G → Option (List Entry)) (shows : G → Bool) (serving : Serving L E) (spools : List S)
     (before after : Option (List ℕ)) (served : Served) : Type 0 where
   pub visits : List (LoggedVisits L G C E)
@@ -123,7 +123,7 @@ pub record IsServerRun (C : Type 0) {L E S G : Type 0} (site : Site) (state : S 
         finished = λ v. told_with_log told v;
         over = λ v. is_over (visits_in v);
       })
-      state
+      view
       (record {
         visits = visits;
         spools = spools;

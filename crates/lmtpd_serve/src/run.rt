@@ -4,6 +4,7 @@ ghost use Rattle.std.specs.Prelude.{◌≡◌, ◌↔◌, ◌⊎◌, ◌||◌, I
 ghost use Rattle.std.specs.List.{AllByRecursion, list_any};
 ghost use Rattle.std.specs.Arc.{arc_value};
 ghost use Rattle.lmtp_lane.specs.TcpVisits.{conversations_ended, has_failed, is_out, was_stopped};
+ghost use Rattle.lmtp_threads.specs.Works.{spools_view};
 ghost use Rattle.lmtp_house.specs.House.{IsSize};
 ghost use Rattle.lmtpd_log.specs.Logged.{visits_in};
 ghost use Rattle.lmtpd_serve.specs.Served.{AreLanesFor, HaveLogs, IsAnnounced, IsServerRun, ListsOn, counts_text};
@@ -53,7 +54,8 @@ where
         result ≡ Err HouseFault.Size ↔ ¬ IsSize (arc_value site) sizes conversations.lanes count count }
     ensures sized { let count = length spools.items in
         (result ≡ Err HouseFault.Size) ⊎ IsSize (arc_value site) sizes conversations.lanes count count }
-    ensures ran { IfOk result (IsServerRun H (arc_value site) S.state G.Log.told G.Log.addresses
+    ensures ran { IfOk result (IsServerRun H (arc_value site) (spools_view S.state S.MayFind S.MayRefuse)
+        G.Log.told G.Log.addresses
         (record {
           sizes = sizes;
           conversations = conversations;
@@ -122,7 +124,8 @@ where
     requires { let count = length house.spools.items in
         IsSize (arc_value house.site) house.sizes clients.conversations.lanes count count }
     ensures sized { result ≡ Err HouseFault.Size → ⊥ }
-    ensures ran { IfOk result (IsServerRun H (arc_value house.site) S.state G.Log.told G.Log.addresses
+    ensures ran { IfOk result (IsServerRun H (arc_value house.site) (spools_view S.state S.MayFind S.MayRefuse)
+        G.Log.told G.Log.addresses
         (record {
           sizes = house.sizes;
           conversations = clients.conversations;

@@ -17,7 +17,7 @@ pub use mbox_file::{
     remove_open, sync_folder,
 };
 pub use mbox_record::{
-    BadMailbox, CountSpool, Envelope, InUse, Letter, MemorySpool, RecordWriter, Spool, SpoolFault,
+    BadMailbox, Envelope, InUse, Letter, MemorySpool, RecordWriter, Spool, SpoolFault,
     Tail, mend, read_mailbox,
 };
 pub use opening::OpenFault;

@@ -1,5 +1,4 @@
 pub mod Taken
-pub mod Counted
 pub mod Tails
 pub mod Parts
 pub mod Rests

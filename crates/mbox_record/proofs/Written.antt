@@ -1,7 +1,5 @@
 -- A piece of the message, mark by mark.
-use Rattle.std.proofs.Common.{◌≡◌, ℕ, ◌+◌, ◌-◌, ◌<◌, ◌≤◌, arith, true, false, cond, List, [], ◌∷◌, ◌++◌, length, take, drop, sym, ap, ◌∙◌, refl, append_assoc, append-nil, Option, Some, None, slice_index_or}
-use Rattle.std.specs.Io.KnownBytes.{Appends}
-use Rattle.mail_world.specs.Counts.{counted}
+use Rattle.std.proofs.Common.{◌≡◌, ℕ, ◌-◌, ◌<◌, ◌≤◌, arith, true, false, cond, List, [], ◌∷◌, ◌++◌, length, take, drop, sym, ap, ◌∙◌, refl, append_assoc, append-nil, slice_index_or}
 use Rattle.std.proofs.lemmas.List.{take_rest}
 use Rattle.mail_world.specs.Text.{lf, unix}
 use Rattle.mail_world.specs.Site.{Site}

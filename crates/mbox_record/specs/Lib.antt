@@ -4,7 +4,6 @@ pub mod TurnLog
 pub mod Spool
 pub mod Tail
 pub mod MemorySpool
-pub mod CountSpool
 pub mod Mending
 pub mod Parts
 pub mod Quoted

@@ -1,5 +1,5 @@
 -- Where a spool is between its turns, and which it had: other programs may have its mailbox between two of them.
-use Rattle.std.specs.Prelude.{ℕ, Bool, false, ◌&&◌, not, List, [], ◌∷◌, Option, Some, None}
+use Rattle.std.specs.Prelude.{ℕ, Bool, ◌&&◌, not, List, [], ◌∷◌, Option, Some, None}
 use Rattle.mail_world.specs.Turns.{Standing, Turn, Had}
 
 pub record TurnState : Type 0 where

@@ -2,11 +2,10 @@
 //!
 //! A `RecordWriter` writes a record to any `Spool` while its message comes, `mend` writes what an old mailbox lacks at
 //! its end. The layer above stores by these, or is a spool itself.
-//! What a spool is made of is never asked here: of the two that stand here one is in memory, and one only counts.
+//! What a spool is made of is never asked here: the one that stands here is in memory, and nobody else changes it.
 #![tactic(auto)]
 
 mod append;
-mod count;
 mod envelope;
 mod from_line;
 mod head;
@@ -19,12 +18,11 @@ mod spool;
 mod tail;
 mod turns;
 
-pub use count::CountSpool;
 pub use envelope::Envelope;
 pub use mbox_letters::{BadMailbox, Letter, read_mailbox};
 pub use memory::MemorySpool;
 pub use mending::mend;
 pub use record::RecordWriter;
 pub use spool::{InUse, Spool, SpoolFault};
-pub use turns::{Listed, Turns};
 pub use tail::{Tail, tail_after, tail_of, tail_of_last, what_mends};
+pub use turns::{Listed, Turns};

@@ -3,7 +3,7 @@
 ghost use Rattle.std.specs.Prelude.{◌≡◌, ◌≢◌, ◌<◌, ◌≤◌, length, IfOk, Err};
 ghost use Rattle.std.specs.Arc.{arc_value};
 ghost use Rattle.mail_world.specs.declared.limits.TheConstants.{LANE_LIMIT};
-ghost use Rattle.lmtp_threads.specs.Works.{visits_view};
+ghost use Rattle.lmtp_threads.specs.Works.{visits_view, spools_view};
 ghost use Rattle.lmtp_house.specs.HousePlan.{IsPlanned, MayRun, HasRunAll};
 
 use crate::house::channels::{Channels, Closings};
@@ -107,7 +107,8 @@ where
         room: Room,
     ) -> Result<HouseReport<V, S, G>, HouseFault>
         requires { MayRun V.out self }
-        ensures ran { IfOk result (HasRunAll C.May (visits_view V.MayGive V.finished V.over) S.state self) }
+        ensures ran { IfOk result (HasRunAll C.May (visits_view V.MayGive V.finished V.over)
+            (spools_view S.state S.MayFind S.MayRefuse) self) }
         ensures room { IfOk result (λ report. (report.blocks ≡ room.blocks) × (report.slots ≡ room.slots)) }
         ensures not_size { result ≢ Err HouseFault.Size }
     {

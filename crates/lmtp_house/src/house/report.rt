@@ -6,7 +6,7 @@ ghost use Rattle.std.specs.List.{list_any};
 use lmtp_threads::Tally;
 use std::marker::Model;
 
-/// Whether a worker's spool failed: a shared one in the last turn that was had.
+/// Whether the last turn that a mailbox had broke.
 pub fn has_failed(tallies: &[Tally]) -> bool
     ensures { result ≡ list_any (λ tally. tally.faulty) tallies.now }
 {

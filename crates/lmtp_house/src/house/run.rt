@@ -4,7 +4,7 @@ ghost use Rattle.std.specs.Prelude.{◌≡◌, ◌≢◌, ◌<◌, ◌≤◌, �
 ghost use Rattle.std.specs.List.{AllByRecursion};
 ghost use Rattle.std.specs.Arc.{arc_value};
 ghost use Rattle.mail_world.specs.declared.limits.TheConstants.{LANE_LIMIT};
-ghost use Rattle.lmtp_threads.specs.Works.{visits_view};
+ghost use Rattle.lmtp_threads.specs.Works.{visits_view, spools_view};
 ghost use Rattle.lmtp_house.specs.Handed.{handed_in};
 ghost use Rattle.lmtp_house.specs.House.{HasRun, IsSize};
 
@@ -47,7 +47,7 @@ where
     R: Threads + Wait + Copy + Send + 'static,
     requires none_out { AllByRecursion (λ v. V.out v ≡ false) visits.items }
     ensures ran { IfOk result (HasRun (arc_value site) (C.May clock)
-        (visits_view V.MayGive V.finished V.over) S.state
+        (visits_view V.MayGive V.finished V.over) (spools_view S.state S.MayFind S.MayRefuse)
         (handed_in visits.items spools.items sizes.capacity sizes.quota)) }
     ensures room { IfOk result (λ report. (report.blocks ≡ sizes.blocks) × (report.slots ≡ sizes.slots)) }
     ensures size { result ≡ Err HouseFault.Size
@@ -95,7 +95,7 @@ where
     requires spools { (0 < length handed.spools) × (length handed.spools ≡ length (arc_value site).boxes) }
     requires none_out { AllByRecursion (λ v. V.out v ≡ false) handed.visits }
     ensures ran { IfOk result (HasRun (arc_value site) (C.May (arc_value clock))
-        (visits_view V.MayGive V.finished V.over) S.state handed) }
+        (visits_view V.MayGive V.finished V.over) (spools_view S.state S.MayFind S.MayRefuse) handed) }
     ensures room { IfOk result
         (λ report. (report.blocks ≡ memory.room.blocks) × (report.slots ≡ memory.room.slots)) }
     ensures not_size { result ≢ Err HouseFault.Size }

@@ -2,6 +2,7 @@
 
 ghost use Rattle.std.specs.Prelude.{◌≡◌, false, length, map, None, MatchResult};
 ghost use Rattle.std.specs.Arc.{arc_value};
+ghost use Rattle.lmtp_threads.specs.Works.{spools_view};
 ghost use Rattle.lmtpd_words.specs.Words.{named_site};
 ghost use Rattle.lmtpd_setup.specs.Curfew.{IsCurfewOf};
 ghost use Rattle.lmtpd_setup.specs.Faults.{site_fault};
@@ -44,7 +45,10 @@ where
     ensures { MatchResult result
         (IsServedAsAsked H (⟦<LineLog<ServerLog<H>, H> as LaneLog>⟧.told)
         (⟦<LineLog<ServerLog<H>, H> as LaneLog>⟧.addresses)
-        (⟦<ServedMailbox<H, ServerLog<H>> as Spool>⟧.state) held_as words.now
+        (spools_view (⟦<ServedMailbox<H, ServerLog<H>> as Spool>⟧.state)
+        (⟦<ServedMailbox<H, ServerLog<H>> as Spool>⟧.MayFind)
+        (⟦<ServedMailbox<H, ServerLog<H>> as Spool>⟧.MayRefuse))
+        held_as words.now
         (W.contents writer.old) (W.contents writer.new))
         (IsNotServed words.now) }
 {
@@ -85,7 +89,10 @@ where
     ensures { MatchResult result
         (IsServedAsAsked H (⟦<LineLog<ServerLog<H>, H> as LaneLog>⟧.told)
         (⟦<LineLog<ServerLog<H>, H> as LaneLog>⟧.addresses)
-        (⟦<ServedMailbox<H, ServerLog<H>> as Spool>⟧.state) held_as words.now
+        (spools_view (⟦<ServedMailbox<H, ServerLog<H>> as Spool>⟧.state)
+        (⟦<ServedMailbox<H, ServerLog<H>> as Spool>⟧.MayFind)
+        (⟦<ServedMailbox<H, ServerLog<H>> as Spool>⟧.MayRefuse))
+        held_as words.now
         (W.contents writer.old) (W.contents writer.new))
         (IsNotServed words.now) }
 {

@@ -1,6 +1,7 @@
 //! The server that the program's words ask for, with the mailboxes that their file lists.
 
 ghost use Rattle.std.specs.Prelude.{MatchResult};
+ghost use Rattle.lmtp_threads.specs.Works.{spools_view};
 ghost use Rattle.lmtpd_setup.specs.Boxes.{IsFilled};
 ghost use Rattle.lmtpd_setup.specs.Mailboxes.{held_as};
 ghost use Rattle.lmtpd.specs.Program.{IsNotServedFilled, IsServeDone, IsServedAsAsked};
@@ -47,7 +48,10 @@ where
     ensures { MatchResult result
         (IsServeDone (IsFilled P.File.remaining)
         (λ asked after. IsServedAsAsked H (⟦<LineLog<ServerLog<H>, H> as LaneLog>⟧.told)
-        (⟦<LineLog<ServerLog<H>, H> as LaneLog>⟧.addresses) (⟦<ServedMailbox<H, ServerLog<H>> as Spool>⟧.state)
+        (⟦<LineLog<ServerLog<H>, H> as LaneLog>⟧.addresses)
+        (spools_view (⟦<ServedMailbox<H, ServerLog<H>> as Spool>⟧.state)
+        (⟦<ServedMailbox<H, ServerLog<H>> as Spool>⟧.MayFind)
+        (⟦<ServedMailbox<H, ServerLog<H>> as Spool>⟧.MayRefuse))
         held_as asked (W.contents writer) (W.contents after)) words.entry)
         (IsNotServedFilled (IsFilled P.File.remaining) words.entry) }
 {

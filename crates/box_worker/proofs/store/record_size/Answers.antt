@@ -1,6 +1,6 @@
 use Rattle.std.proofs.Common.{ap}
 use Rattle.lmtp_text.specs.Calendar.{civil_at}
-use Rattle.mbox_record.specs.CountSpool.{CountSpool}
+use Rattle.box_worker.specs.CountSpool.{CountSpool}
 use Rattle.box_worker.proofs.Messages.{counted_text, record_count}
 use Rattle.box_worker.proofs.store.record_size.Goals as goal
 

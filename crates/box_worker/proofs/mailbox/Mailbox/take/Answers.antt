@@ -1,10 +1,10 @@
-use Rattle.std.proofs.Common.{◌≡◌, ◌∙◌, List, ℕ, Bool, Option, false, ap, sym, subst}
+use Rattle.std.proofs.Common.{◌≡◌, ◌∙◌, Option, false, ap, sym, subst}
 use Rattle.lmtp_text.specs.Calendar.{civil_at}
 use Rattle.mbox_record.specs.Envelope.{record_text}
 use Rattle.mbox_record.specs.Spool.{SpoolState, standing, BeginsTurn}
-use Rattle.mbox_record.specs.TurnState.{TurnState, knows_end}
+use Rattle.mbox_record.specs.TurnState.{knows_end}
 use Rattle.box_worker.specs.declared.limit.Limit.{Limit}
-use Rattle.box_worker.specs.Stored.{MailboxState, CountedMailbox}
+use Rattle.box_worker.specs.Stored.{CountedMailbox}
 use Rattle.box_worker.specs.Turned.{Manner, manner_of, MeasuresAgain}
 use Rattle.box_worker.proofs.OneTurn.{had_by}
 use Rattle.box_worker.proofs.mailbox.Mailbox.take.Goals as goal
@@ -30,6 +30,6 @@ returns-in-Ok-clause-turns g c =
     (subst (λ s. F s locked.mailbox.state) was (subst (F (g.S.Spool.state c.self.inside.spool)) (sym is) (asks.found asks.asks.free)))
     (subst R was (asks.refused asks.asks.free))
     (subst (λ s. M s old.limit) (sym is) (subst (M state) limit
-        (c.measure.ensures.counts (ap knows_end asks.asks.turn) asks.asks.count)))
+    (c.measure.ensures.counts (ap knows_end asks.asks.turn) asks.asks.count)))
     c.take_in_turn.ensures.ends
     (c.take_in_turn.ensures.in_use ∙ ap (λ (m : CountedMailbox). m.in_use) c.measure.ensures.same ∙ used)

@@ -1,6 +1,6 @@
 use Rattle.std.proofs.Common.{arith, ◌≡◌, length, ◌∙◌, sym, subst, vec_items, vec_len}
 use Rattle.std.specs.List.{AllZip}
-use Rattle.lmtp_threads.specs.Works.{share_of}
+use Rattle.lmtp_threads.specs.Works.{share_of, spools_view}
 use Rattle.lmtp_threads.specs.Columns.{no_columns}
 use Rattle.lmtp_threads.specs.Grid.{IsRoom}
 use Rattle.lmtp_threads.specs.Tasks.{box_tasks}
@@ -23,5 +23,6 @@ pub returns : goal.returns
 returns g c not_gone site channels given is count some are =
     let reports = vec_items c.join.result in
     let tasks_are : c.self.inside.crew.tasks ≡ box_tasks (share_of site given.quota) given.inboxes given.rows given.spools = c.self.view_is ∙ is in
-    let all = subst (λ l. AllZip (BoxOk g.S.Spool.state) l reports) tasks_are c.join.ensures in
-    have_worked g.S.Spool.state site channels given reports c.take_workers.result.columns c.take_workers.ensures.columns count some are all not_gone
+    let view = spools_view g.S.Spool.state g.S.Spool.MayFind g.S.Spool.MayRefuse in
+    let all = subst (λ l. AllZip (BoxOk view) l reports) tasks_are c.join.ensures in
+    have_worked view site channels given reports c.take_workers.result.columns c.take_workers.ensures.columns count some are all not_gone

@@ -1,17 +1,17 @@
 -- A spool that counts, after an append and after a fault.
-use Rattle.std.proofs.Common.{◌≡◌, ℕ, ◌+◌, ◌-◌, ◌^◌, ◌<◌, ◌≤◌, min, arith, Bool, true, false, List, [], ◌++◌, length, Option, Some, None, refl, sym, ap, ◌∙◌, subst, inl, inr}
+use Rattle.std.proofs.Common.{◌≡◌, ℕ, ◌+◌, ◌-◌, ◌^◌, min, arith, true, false, List, [], length, Option, Some, None, refl, sym, ap, ◌∙◌}
 use Rattle.std.proofs.Common.{append-nil}
 use Rattle.std.proofs.lemmas.List.{length-append}
 use Rattle.mail_world.specs.Counts.{counted}
-use Rattle.mail_world.specs.Endings.{Ending, Empty, ending, ending_from}
+use Rattle.mail_world.specs.Endings.{Ending, Empty, ending_from}
 use Rattle.mail_world.specs.Failures.{Rises}
 use Rattle.mail_world.specs.Turns.{Standing}
 use Rattle.mail_world.proofs.Endings.{ending-append}
-use Rattle.mbox_record.specs.CountSpool.{CountSpool, IsInOrder, state_of}
+use Rattle.box_worker.specs.CountSpool.{CountSpool, IsInOrder, state_of}
 use Rattle.mbox_record.specs.declared.tail.Tail.{Tail}
 use Rattle.mbox_record.specs.Spool.{LeavesPart, SpoolFailed}
 use Rattle.mbox_record.specs.Tail.{ending_of}
-use Rattle.mbox_record.specs.TurnLog.{TurnLog, taken_more}
+use Rattle.mbox_record.specs.TurnLog.{taken_more}
 
 nothing_left : (began : Option Standing) (bytes text : List ℕ) → began ≡ None → LeavesPart began bytes bytes text
 nothing_left None bytes text e = record { prefix = []; rest = text; whole = refl; appended = sym (append-nil bytes) }

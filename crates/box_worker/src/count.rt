@@ -4,21 +4,19 @@ ghost use Rattle.std.specs.Prelude.{true, false};
 ghost use Rattle.mail_world.specs.Counts.{counted};
 ghost use Rattle.mail_world.specs.Endings.{ending};
 ghost use Rattle.mail_world.specs.Failures.{Rises};
-ghost use Rattle.mbox_record.specs.CountSpool.{in_its_turn, state_of};
+ghost use Rattle.box_worker.specs.CountSpool.{in_its_turn, state_of};
 ghost use Rattle.mbox_record.specs.Spool.{SpoolTook, SpoolFailed, HasSynced, HasNotSynced, AsksForTurn, EndsTurn};
 ghost use Rattle.mbox_record.specs.Tail.{ending_of};
 ghost use Rattle.mbox_record.specs.TurnLog.{begun_at, no_turns, nothing_there, taken_more, made_sure};
 ghost use Rattle.mbox_record.specs.TurnState.{knows_end};
 
-use crate::spool::{InUse, Spool, SpoolFault};
-use crate::tail::{Tail, tail_after};
-use crate::turns::Turns;
+use mbox_record::{InUse, Spool, SpoolFault, Tail, Turns, tail_after};
 use std::marker::{Brand, Model};
 
 /// A spool that counts the bytes that it takes, and knows how they end. It is in a turn from the start, and has no
 /// other. In that it never fails, and it takes no memory. Its count stays at 2^64 - 1.
 #[derive(Drop)]
-pub struct CountSpool {
+pub(crate) struct CountSpool {
     held: u64,
     tail: Tail,
     failures: u64,
@@ -29,7 +27,7 @@ pub struct CountSpool {
 }
 
 impl Model for CountSpool {
-    ghost use Rattle.mbox_record.specs.CountSpool.{CountSpool as Counted, IsInOrder};
+    ghost use Rattle.box_worker.specs.CountSpool.{CountSpool as Counted, IsInOrder};
 
     ghost Value = { Counted };
 

@@ -1,9 +1,9 @@
 use Rattle.std.proofs.Common.{◌≡◌, [], sym, subst}
 use Rattle.mail_world.specs.Failures.{Rises}
-use Rattle.mbox_record.specs.CountSpool.{CountSpool, IsInOrder, state_of}
+use Rattle.box_worker.specs.CountSpool.{CountSpool, IsInOrder, state_of}
 use Rattle.mbox_record.specs.Spool.{SpoolFailed}
-use Rattle.mbox_record.proofs.Counted.{fails_outside}
-use Rattle.mbox_record.proofs.count.CountSpoolSpool.sync.Goals as goal
+use Rattle.box_worker.proofs.Counted.{fails_outside}
+use Rattle.box_worker.proofs.count.CountSpoolSpool.sync.Goals as goal
 
 pub returns-then-not-self-clause-err : goal.returns-then-not-self-clause-err
 returns-then-not-self-clause-err c =

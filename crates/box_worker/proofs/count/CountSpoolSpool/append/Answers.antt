@@ -1,10 +1,10 @@
 use Rattle.std.proofs.Common.{◌≡◌, ℕ, List, true, sym, subst}
 use Rattle.mail_world.specs.Failures.{Rises}
-use Rattle.mbox_record.specs.CountSpool.{CountSpool, IsInOrder, state_of}
+use Rattle.box_worker.specs.CountSpool.{CountSpool, IsInOrder, state_of}
 use Rattle.mbox_record.specs.Spool.{SpoolFailed}
 use Rattle.mbox_record.specs.TurnLog.{TurnLog}
-use Rattle.mbox_record.proofs.Counted.{fails_outside, takes_more}
-use Rattle.mbox_record.proofs.count.CountSpoolSpool.append.Goals as goal
+use Rattle.box_worker.proofs.Counted.{fails_outside, takes_more}
+use Rattle.box_worker.proofs.count.CountSpoolSpool.append.Goals as goal
 
 pub returns-then-not-self-clause-err : goal.returns-then-not-self-clause-err
 returns-then-not-self-clause-err c =
