@@ -1,8 +1,11 @@
-"""A server is killed within its write of a record, and five readers take what the next one made of it."""
+"""A server is killed within its write of a record, or crashes at any moment of a turn, and five readers take what the next
+one made of it."""
 
+import contextlib
 import re
 import shutil
 
+import crashes
 import letters
 from cases import case
 from cut_writes import READERS, TOLD, Killer, Reader, deliver_after, judge
@@ -30,6 +33,23 @@ def five_readers_after_a_first_cut(folder):
     cut_and_read(folder, [])
 
 
+@case
+def five_readers_after_each_crash(folder):
+    """every state in which a crash may leave a mailbox, by the calls of a turn: a new one, one with a told letter, a torn
+    one, one whose turn breaks, one that another program put there: then the five find each told letter unchanged and
+    the next one whole"""
+    need_root()
+    folder.chmod(0o755)
+    turns = [crashes.in_a_new_mailbox, crashes.after_a_told_letter, crashes.after_a_torn_tail]
+    turns += [crashes.in_a_turn_that_breaks, crashes.after_a_rename]
+    with five_readers(folder) as readers:
+        for turn in turns:
+            place = folder / turn.__name__
+            place.mkdir()
+            turn(place, readers)
+
+
+five_readers_after_each_crash.seconds = 900
 five_readers_after_a_cut.seconds = five_readers_after_a_first_cut.seconds = 240
 
 
@@ -41,12 +61,19 @@ def cut_and_read(folder, told):
     places = [*range(of_from_line + 2), *range(length - LAST, length + 1)]
     cuts = killer.cut([(f"box{place}", place) for place in places], told)
     said = deliver_after(folder, cuts)
+    with five_readers(folder) as readers:
+        judge(cuts, said, readers)
+
+
+@contextlib.contextmanager
+def five_readers(folder):
+    """The check is the fifth."""
     mutt = Mutt(folder, {})
     with Dovecot(folder, folder / "inbox") as dovecot, dovecot.login() as client:
         home = dovecot.folder / "home"
         by_mutt = Reader(lambda path: copied_by(mutt, path))
         by_imap = Reader(lambda path: by_dovecot(client, put(path, home)), without_from_line)
-        judge(cuts, said, READERS | {"mutt": by_mutt, "Dovecot": by_imap})
+        yield READERS | {"mutt": by_mutt, "Dovecot": by_imap}
 
 
 def copied_by(mutt, path):

@@ -1,211 +1,42 @@
-"""Every state in which a crash may leave a mailbox, while a turn goes on and after it: the calls of a turn, as strace has
-them, are replayed on a disk that keeps what ext4 with data=ordered keeps of them. On each state a server begins, a
-letter is delivered, and readers find what was told.
+"""Every state in which a crash may leave a mailbox, and what git, Python and the check find there once the next server has
+delivered."""
 
-Of a file's bytes those that were synced are there, and any prefix of what was appended since. A cut that wasn't synced
-may not be there. Which file a path names is sure once the folder was synced after it; until then the path may name what
-it named before, or nothing. A lock file may be there or not."""
-
-import contextlib
-import re
-import shutil
-import socket
-import subprocess
-from typing import NamedTuple
-
-from cases import Absent, case, equal
-from clients import Client
-from cut_writes import READERS, TOLD, TORN, Cut, deliver_after, judge
-from replies import not_stored, stored
-from server import Server
-from written import until_it_looks
-
-CALLS = "openat,write,ftruncate,fdatasync,fsync,link,linkat,unlink,unlinkat,rename,renameat"
-LINE = re.compile(r"(\w+)\((.*)\)\s+= (-?\d+)(?:<.*>)?(?: E.*| \(INJECTED\))?")
-AT_ONCE = 250  # mailboxes of one server
-LOCK = b"%d:" + socket.gethostname().encode()  # a lock file names its process and host
-
-
-class Call(NamedTuple):
-    name: str
-    words: str
-    answer: int  # below 0: it failed
-
-    @classmethod
-    def of(cls, line):
-        name, words, answer = LINE.fullmatch(line).groups()
-        return cls(name, words, int(answer))
-
-    def is_at(self, path):
-        """Whether it has that file open, or that folder."""
-        return f"<{path}>" in self.words
-
-    @property
-    def bytes(self):
-        """What a write took of what it was asked to write."""
-        text = re.search(r'"((?:\\.|[^"\\])*)", \d+$', self.words)[1]
-        return text.encode().decode("unicode_escape").encode("latin-1")[: max(self.answer, 0)]
-
-    @property
-    def number(self):
-        return int(self.words.rpartition(", ")[2])
-
-
-class Disk:
-    """A mailbox on a disk: what it holds, what of that is sure to be there after a crash, and what the path may name in
-    its place: another file's bytes, or nothing."""
-
-    def __init__(self, path, held, *other):
-        self.path, self.held, self.sure = path, held, held
-        self.others = set(other)  # while the folder wasn't synced
-        self.cut = set()  # what stood there before a cut that wasn't synced
-
-    def takes(self, call):
-        if call.answer < 0:
-            return
-        if call.name == "write" and call.is_at(self.path):
-            self.held += call.bytes
-        elif call.name == "ftruncate" and call.is_at(self.path):
-            self.cut |= set(self.prefixes())
-            self.held = self.held[: call.number]
-            self.sure = self.sure[: call.number]
-        elif call.name in ("fdatasync", "fsync") and call.is_at(self.path):
-            self.sure, self.cut = self.held, set()
-        elif call.name == "fsync" and call.is_at(self.path.parent):
-            self.others = set()
-
-    def prefixes(self):
-        return (self.held[:size] for size in range(len(self.sure), len(self.held) + 1))
-
-    def states(self):
-        """What a reader may find at the path after a crash now; None: no file."""
-        return {*self.prefixes(), *self.cut, *self.others}
-
-
-@contextlib.contextmanager
-def calls_of(server, path, *words):
-    """The calls of the mailbox's worker meanwhile, which are there at the end."""
-    if shutil.which("strace") is None:
-        raise Absent("strace")
-    place = server.folder / "calls"
-    looks = ["strace", "-ff", "-qq", "-y", "-s", "1000000", "-e", f"trace={CALLS}", "-e", "signal=none", *words]
-    for it in (path, path.parent, f"{path}.lock", f"{path}.source.lock"):
-        looks += ["-P", str(it)]
-    looks += ["-o", str(place), "-p", str(server.process.pid)]
-    calls = []
-    with subprocess.Popen(looks, stdin=subprocess.DEVNULL, stderr=subprocess.DEVNULL) as tracer:
-        try:
-            until_it_looks(tracer, server)
-            yield calls
-            tracer.wait(20)
-        finally:
-            tracer.kill()
-    told = [it.read_text() for it in place.parent.glob("calls.*")]
-    (text,) = filter(lambda it: "write(" in it, told)
-    calls += [Call.of(line) for line in text.splitlines() if " = ? " not in line]
-
-
-def states_of(disk, calls, told, kept):
-    """Each state after each call, with what was told 250 by then: `told`, and once all is synced what the disk holds,
-    where the turn is one that keeps."""
-    found = {(state, told) for state in disk.states()}
-    for call in calls:
-        disk.takes(call)
-        if kept and call.name == "fdatasync" and call.is_at(disk.path) and call.answer == 0:
-            told = disk.held
-        found |= {(state, told) for state in disk.states()}
-    return sorted(found, key=lambda it: (it[1], it[0] is not None, it[0] or b""))
-
-
-def mended_and_read(folder, states, lock):
-    """A server begins on each of these states, every second one with the lock file of one that is gone."""
-    for first in range(0, len(states), AT_ONCE):
-        here = folder / f"states{first}"
-        here.mkdir()
-        cuts = []
-        for place, (state, told) in enumerate(states[first : first + AT_ONCE], first):
-            path = here / f"state{place}.mbox"
-            if state is not None:
-                path.write_bytes(state)
-            if place % 2:
-                path.with_name(f"{path.name}.lock").write_bytes(lock)
-            cuts.append(Cut(path, place, told, state or b""))
-        judge(cuts, deliver_after(here, cuts), READERS)
-
-
-def crashed_everywhere(folder, begun, *words, answer=stored, other=(), told=b"", kept=True, put=None):
-    """One turn at a mailbox that began so, or where another program put a file that holds this in its place, and each
-    state of it."""
-    path = (folder / "anna.mbox").resolve()
-    if begun is not None:
-        path.write_bytes(begun)
-    with Server(path.parent, ["anna"], 1, "--lanes", 1) as server:
-        lock = LOCK % server.process.pid
-        with Client(server.address).greet() as client:
-            if put is not None:
-                path.with_name("new").write_bytes(put)
-                path.with_name("new").rename(path)
-            with calls_of(server, path, *words) as calls:
-                equal(client.deliver(["anna"], *TORN)[1], [answer("anna")])
-                client.quit()
-                server.process.wait(20)
-            server.end()
-    disk = Disk(path, (begun or b"") if put is None else put, *other)
-    states = states_of(disk, calls, told, kept)
-    # the replay comes to what stands there
-    equal(disk.held == path.read_bytes(), True)
-    mended_and_read(folder, states, lock)
-    return len(states)
-
-
-def record(folder, lines):
-    """A record of this server's, in a folder of its own."""
-    here = folder / "record"
-    here.mkdir()
-    with Server(here, ["anna"], 1, "--lanes", 1) as server, Client(server.address).greet() as client:
-        equal(client.deliver(["anna"], *lines)[1], [stored("anna")])
-        client.quit()
-        server.end()
-    text = (here / "anna.mbox").read_bytes()
-    shutil.rmtree(here)
-    return text
+import crashes
+from cases import case
+from cut_writes import READERS
 
 
 @case
 def crashed_in_a_new_mailbox(folder):
     """the first turn at a mailbox that this server made: whatever a crash leaves, the next letter is whole, and the
     first one is there once it was told 250"""
-    crashed_everywhere(folder, None, other=[None])
+    crashes.in_a_new_mailbox(folder, READERS)
 
 
 @case
 def crashed_after_a_told_letter(folder):
     """a turn at a mailbox with a letter that was told 250: whatever a crash leaves, that one is unchanged, the next one
     whole, and the turn's own there once it was told"""
-    old = record(folder, TOLD)
-    crashed_everywhere(folder, old, told=old)
+    crashes.after_a_told_letter(folder, READERS)
 
 
 @case
 def crashed_after_a_torn_tail(folder):
-    """the same where a record is torn within its From line, as an earlier crash left it"""
-    old = record(folder, TOLD)
-    crashed_everywhere(folder, old + b"From carl@a.example Thu J", told=old)
+    """whatever a crash leaves where a record is torn within its From line, as an earlier crash left it: the same"""
+    crashes.after_a_torn_tail(folder, READERS)
 
 
 @case
 def crashed_in_a_turn_that_breaks(folder):
-    """the same in a turn whose sync fails, which is cut back: its letter is told 451"""
-    old = record(folder, TOLD)
-    crashed_everywhere(folder, old, "-e", "inject=fdatasync:error=EIO:when=1", answer=not_stored, told=old, kept=False)
+    """whatever a crash leaves in a turn whose sync fails, which is cut back, and whose letter is told 451: the same"""
+    crashes.in_a_turn_that_breaks(folder, READERS)
 
 
 @case
 def crashed_after_a_rename(folder):
-    """the same where another program put a new file in the mailbox's place, so that the path may name either one until
-    the folder is synced"""
-    first, old = record(folder, ["Subject: first", "", "a"]), record(folder, TOLD)
-    crashed_everywhere(folder, old + first, other=[old + first], told=old, put=old)
+    """whatever a crash leaves where another program put a new file in the mailbox's place, so that the path may name
+    either one until the folder is synced: the same"""
+    crashes.after_a_rename(folder, READERS)
 
 
 for it in (
