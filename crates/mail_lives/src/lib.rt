@@ -6,4 +6,5 @@
 #![tactic(auto)]
 
 pub mod laws;
+pub mod mailed;
 pub mod rows;
