@@ -1,0 +1,204 @@
+-- Moves of a house's first lane and first mailbox, each with its step, and the runs that they make.
+use Rattle.std.proofs.Common.{◌≡◌, ℕ, ◌+◌, List, [], ◌∷◌, ◌++◌, length, drop, Bool, true, false, ◌==◌, ◌&&◌, Option, Some, None, refl, sym, ◌∙◌, ap}
+use Rattle.std.proofs.Common.{eqb-true, ltb-true, leb-true}
+use Rattle.std.specs.Prelude.{codes, nat_lt, nat_le, slice_get, take as some_of}
+use Rattle.std.proofs.lemmas.Bool.{and_parts}
+use Rattle.std.proofs.lemmas.List.{take-append-drop}
+use Rattle.mail_world.specs.declared.Note.{Note}
+use Rattle.mail_world.specs.declared.Event.{Event}
+use Rattle.mail_world.specs.declared.Event.TheVariants.{Begin, Put, Seal, Split, Offer, HandBack, Collect, Take, Lock, Miss, Write, Sync, Cut, Unlock}
+use Rattle.mail_world.specs.declared.Event.TheVariants.{Release, GiveSlip, Reclaim, Close}
+use Rattle.mail_world.specs.declared.Outcome.{Outcome}
+use Rattle.mail_world.specs.Turns.{Standing}
+use Rattle.mail_world.specs.Depot.{Key, Held, Free, Draft, Sealed, held_under, weight_under, bytes_of, blocks_of, blocks_for}
+use Rattle.mail_world.specs.House.{Hold, Progress, Taken, Going, Done, Copy, Box, SealedMessage, Lane, House}
+use Rattle.mail_world.specs.Events.{Step, MayHappen, HasCopy, LaneIs, BoxIs, added, end_of, outcome_of}
+use Rattle.mail_world.specs.Runs.{Happened, Run, is_same_key}
+use Rattle.mail_world.proofs.Computed.{everything}
+use Rattle.mail_world.proofs.OtherSteps as step
+
+-- what may happen next, and a move to it, where there is one
+pub record Next (h : House) : Type 0 where
+  pub now : Happened
+  pub step : Step h now.event now.house
+
+abbrev pub Move : Type 0
+Move = (h : House) → Option (Next h)
+
+abbrev happens : (h : House) (event : Event) → MayHappen h event → Option (Next h)
+happens h event new = Some (record { now = record { event = event; house = new.0 }; step = new.1 })
+
+-- the run of those moves that there are
+abbrev pub moved : (h : House) → List Move → (run : List Happened) × Run h run
+moved h [] = ([], tt)
+moved h (move ∷ moves) = elim (move h) as (λ _. (run : List Happened) × Run h run) [
+  | None ↦ moved h moves
+  | Some next ↦ let rest = moved next.now.house moves in (next.now ∷ rest.0, (next.step, rest.1))
+]
+
+-- a move that needs something there, nothing there, or that a test holds
+module _ {A B : Type 0} where
+  abbrev if_some : (o : Option A) → ((x : A) → o ≡ Some x → Option B) → Option B
+  if_some None f = None
+  if_some (Some x) f = f x refl
+
+  abbrev if_none : (o : Option A) → (o ≡ None → Option B) → Option B
+  if_none None f = f refl
+  if_none (Some x) f = None
+
+module _ {B : Type 0} where
+  abbrev if_is : (t b : Bool) → (t ≡ b → Option B) → Option B
+  if_is true true f = f refl
+  if_is false false f = f refl
+  if_is _ _ f = None
+
+  -- what is held is free, a draft, a message
+  abbrev if_free : (held : Held) → (held ≡ Free → Option B) → Option B
+  if_free Free f = f refl
+  if_free _ f = None
+
+  abbrev if_draft : (held : Held) → ((bytes blocks : List ℕ) → held ≡ Draft bytes blocks → Option B) → Option B
+  if_draft (Draft bytes blocks) f = f bytes blocks refl
+  if_draft _ f = None
+
+  abbrev if_sealed : (held : Held) → ((bytes blocks : List ℕ) (weight : ℕ) → held ≡ Sealed bytes blocks weight → Option B) → Option B
+  if_sealed (Sealed bytes blocks weight) f = f bytes blocks weight refl
+  if_sealed _ f = None
+
+  -- a copy's turn has not begun, goes on, is over
+  abbrev if_taken : (p : Progress) → (p ≡ Taken → Option B) → Option B
+  if_taken Taken f = f refl
+  if_taken _ f = None
+
+  abbrev if_going : (p : Progress) → ((at : Standing) (written : ℕ) → p ≡ Going at written → Option B) → Option B
+  if_going (Going at written) f = f at written refl
+  if_going _ f = None
+
+  abbrev if_done : (p : Progress) → ((outcome : Outcome) → p ≡ Done outcome → Option B) → Option B
+  if_done (Done outcome) f = f outcome refl
+  if_done _ f = None
+
+pub same_hold : (hold : Hold) (key : Key) → (is_same_key hold.key key && (hold.weight == 1)) ≡ true → hold ≡ record { key = key; weight = 1 }
+same_hold hold key e =
+    let p = and_parts (is_same_key hold.key key) (hold.weight == 1) e in
+    let k = and_parts (hold.key.slot == key.slot) (hold.key.generation == key.generation) p.0 in
+    λ i. record {
+      key = record { slot = eqb-true hold.key.slot key.slot k.0 i; generation = eqb-true hold.key.generation key.generation k.1 i };
+      weight = eqb-true hold.weight 1 p.1 i;
+    }
+
+module _ (h : House) where
+  abbrev Further : Type 0
+  Further = Option (Next h)
+
+  abbrev in_lane : ((lane : Lane) → LaneIs h 0 lane → Further) → Further
+  in_lane f = if_some (slice_get h.lanes 0) f
+
+  abbrev in_box : ((box : Box) → BoxIs h 0 box → Further) → Further
+  in_box f = if_some (slice_get h.boxes 0) f
+
+  abbrev in_hand : ((box : Box) → BoxIs h 0 box → (copy : Copy) → box.hand ≡ Some copy → Further) → Further
+  in_hand f = in_box (λ box is. if_some box.hand (f box is))
+
+  -- the lane's draft; its first hold, of weight 1 for its first message
+  abbrev in_draft : ((lane : Lane) → LaneIs h 0 lane → (key : Key) → lane.draft ≡ Some key → (bytes blocks : List ℕ) → held_under h.depot key ≡ Draft bytes blocks
+      → Further) → Further
+  in_draft f = in_lane (λ lane is. if_some lane.draft (λ key draft. if_draft (held_under h.depot key) (f lane is key draft)))
+
+  abbrev with_copy : ((lane : Lane) → LaneIs h 0 lane → (sealed : SealedMessage) → HasCopy lane 0 0 sealed → Further) → Further
+  with_copy f = in_lane (λ lane is. if_some (slice_get lane.holds 0) (λ hold at. if_some (slice_get lane.messages 0) (λ sealed there.
+      if_is (is_same_key hold.key sealed.key && (hold.weight == 1)) true (λ e.
+      f lane is sealed (record { hold = at ∙ ap (λ (x : Hold). Some x) (same_hold hold sealed.key e); is = there })))))
+
+abbrev pub begins : Move
+begins h = in_lane h (λ lane is. if_none lane.draft (λ none. if_some (slice_get h.depot.slots 0) (λ slot at. if_free slot.held (λ free.
+    happens h (Begin 0) (step.begin h 0 0 lane slot is none at free)))))
+
+abbrev pub puts : List ℕ → Move
+puts bytes h = in_draft h (λ lane is key draft old blocks e. if_is (length blocks == blocks_for (length old)) true (λ fewest.
+    if_is (nat_le (blocks_for (length (bytes_of (held_under h.depot key) ++ bytes))) (length (blocks_of (held_under h.depot key)) + length h.depot.free)) true (λ room.
+    happens h (Put 0 bytes) (step.put h 0 bytes lane key is draft (record { bytes = old; blocks = blocks; is = e; fewest = eqb-true _ _ fewest }) (leb-true _ _ room)))))
+
+abbrev pub seals : ℕ → Move
+seals n h = in_draft h (λ lane is key draft bytes blocks e. if_is (nat_le 1 n) true (λ some.
+    happens h (Seal 0 n) (step.seal h 0 n lane key bytes blocks is draft e (leb-true 1 n some))))
+
+abbrev pub splits : Move
+splits h = in_lane h (λ lane is. if_some (slice_get lane.holds 0) (λ hold at. if_is (nat_lt 1 hold.weight) true (λ more.
+    happens h (Split 0 0) (step.split h 0 0 lane hold is at (ltb-true 1 hold.weight more)))))
+
+-- the next copy of the first message, for the first mailbox
+abbrev pub note_of : SealedMessage → Note
+note_of sealed = record {
+  txn = record { lane = 0; number = sealed.number };
+  place = sealed.offered;
+  mailbox = 0;
+  sender = [];
+  client = codes "c";
+  utf8 = false;
+  moment = 0;
+  message = sealed.message;
+}
+
+abbrev pub offers : Move
+offers h = with_copy h (λ lane is sealed copy. in_box h (λ box there. if_is box.closed false (λ unclosed. if_is (nat_lt (length box.accepted) (box.taken + h.capacity)) true (λ room.
+    happens h (Offer 0 (note_of sealed)) (step.offer h 0 0 0 sealed.key (note_of sealed) lane box is copy refl there unclosed (ltb-true _ _ room))))))
+
+abbrev pub hands_back : Move
+hands_back h = with_copy h (λ lane is sealed copy. if_sealed (held_under h.depot sealed.key) (λ bytes blocks weight e.
+    if_is (nat_le 1 (weight_under h.depot sealed.key)) true (λ some.
+    happens h (HandBack 0 0 0) (step.hand_back h 0 0 0 0 lane sealed bytes blocks weight is copy e (leb-true 1 _ some)))))
+
+abbrev pub collects : Move
+collects h = in_lane h (λ lane is. if_is (nat_lt lane.collected (length lane.slips)) true (λ more.
+    happens h (Collect 0) (step.collect h 0 lane is (ltb-true _ _ more))))
+
+abbrev pub takes : Move
+takes h = in_box h (λ box is. if_none box.hand (λ none. if_is (nat_lt box.taken (length box.accepted)) true (λ more.
+    happens h (Take 0) (step.take h 0 box is none (ltb-true _ _ more)))))
+
+abbrev pub locks : List ℕ → Move
+locks bytes h = in_hand h (λ box is copy hand. if_taken copy.progress (λ first. happens h (Lock 0 bytes) (step.lock h 0 bytes box copy is hand first)))
+
+abbrev pub misses : Move
+misses h = in_hand h (λ box is copy hand. if_taken copy.progress (λ first. happens h (Miss 0) (step.miss h 0 box copy is hand first)))
+
+-- so many of the bytes that are still to be written
+abbrev pub writes : ℕ → Move
+writes n h = in_hand h (λ box is copy hand. if_going copy.progress (λ at written going.
+    let rest = drop written (added h copy.post.note at.bytes) in
+    happens h (Write 0 (some_of n rest)) (step.write h 0 (some_of n rest) (drop n rest) box copy at written is hand going (sym (take-append-drop n rest)))))
+
+abbrev pub syncs : Move
+syncs h = in_hand h (λ box is copy hand. if_going copy.progress (λ at written going. if_is (written == length (added h copy.post.note at.bytes)) true (λ whole.
+    happens h (Sync 0) (step.sync h 0 box copy at written is hand going (eqb-true _ _ whole)))))
+
+abbrev pub cuts : Move
+cuts h = in_hand h (λ box is copy hand. if_going copy.progress (λ at written going. happens h (Cut 0) (step.cut h 0 box copy at written is hand going)))
+
+abbrev pub unlocks : Move
+unlocks h = in_hand h (λ box is copy hand. if_some (end_of copy.progress) (λ end in_turn. if_is (nat_le box.kept (length box.spool)) true (λ within.
+    happens h (Unlock 0) (step.unlock h 0 box copy end is hand in_turn (leb-true _ _ within)))))
+
+abbrev pub releases : Move
+releases h = in_hand h (λ box is copy hand. if_done copy.progress (λ outcome done. if_is copy.released false (λ there.
+    if_sealed (held_under h.depot copy.post.key) (λ bytes blocks weight e. if_is (nat_le 1 (weight_under h.depot copy.post.key)) true (λ some.
+    happens h (Release 0) (step.release h 0 box copy outcome bytes blocks weight is hand done there e (leb-true 1 _ some)))))))
+
+abbrev pub gives_slip : Move
+gives_slip h = in_hand h (λ box is copy hand. if_is copy.released true (λ gone. if_some (slice_get h.lanes copy.post.note.txn.lane) (λ lane to.
+    happens h (GiveSlip 0 (outcome_of copy)) (step.give_slip h 0 box copy lane is hand gone to))))
+
+-- the message in the first slot, of its first generation
+abbrev pub reclaims : Move
+reclaims h =
+    let key : Key = record { slot = 0; generation = 0 } in if_sealed (held_under h.depot key) (λ bytes blocks weight e. if_is (weight == 0) true (λ none.
+    happens h (Reclaim 0 0) (step.reclaim h key bytes blocks (e ∙ ap (λ n. Sealed bytes blocks n) (eqb-true weight 0 none)))))
+
+abbrev pub closes : Move
+closes h = in_box h (λ box is. if_is box.closed false (λ unclosed. happens h (Close 0) (step.close h 0 box is unclosed)))
+
+-- to unfold it is to unfold what the moves compute with
+unfoldable pub computed : ℕ
+unfolding everything step.there_is step.begin step.put_there step.put step.seal step.split step.offer step.hand_back step.release_there step.release step.collect step.take step.lock step.miss step.write step.sync step.cut step.unlock_by step.unlock step.give_slip step.reclaim step.close
+computed = 0
