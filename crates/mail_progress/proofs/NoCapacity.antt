@@ -1,60 +1,36 @@
 -- A run after which nothing goes on, since the channel has no capacity.
-use Rattle.std.proofs.Common.{List, [], ◌∷◌, None, inl, refl, lit≤}
-use Rattle.mail_world.specs.declared.Event.TheVariants.{Begin, Put, Seal}
-use Rattle.mail_world.specs.Depot.{Sealed}
-use Rattle.mail_world.specs.House.{Lane, House, IsStart}
-use Rattle.mail_world.specs.Runs.{Happened, Run}
-use Rattle.mail_world.proofs.OneHouse.{bytes, key, box₀, free_slot, with_draft, with_bytes, lane_sealed, with_message, then', each_once, starts, fresh, begins}
-use Rattle.mail_world.proofs.OneHouse.{puts, seals}
+use Rattle.std.proofs.Common.{List, None, inl, refl}
+use Rattle.mail_world.specs.House.{House}
+use Rattle.mail_world.specs.Runs.{Happened, Run, last_house}
+use Rattle.mail_world.proofs.OneHouse.{start}
+use Rattle.mail_world.proofs.Moves.{computed, moved}
+use Rattle.mail_world.proofs.ComputedRuns.{with_message}
 use Rattle.mail_progress.specs.Orderly.{IsOrderly}
 use Rattle.mail_progress.specs.GoingOn.{StandsStill}
 use Rattle.mail_progress.specs.Remaining.{Remains}
+use Rattle.mail_progress.proofs.Started.{orderly, found}
 use Rattle.mail_progress.proofs.Still.{stands}
 
-abbrev pub start : House
-start = fresh 0 None []
+abbrev pub first_house : House
+first_house = start 0 None
 
-abbrev house₁ : House
-house₁ = with_draft start
+unfoldable pub stuck : (run : List Happened) × Run first_house run
+unfolding computed
+stuck = moved first_house (with_message 0)
 
-abbrev house₂ : House
-house₂ = with_bytes house₁
+pub it_is_orderly : IsOrderly 1 first_house stuck.0
+unfolding computed stuck
+it_is_orderly = found (orderly 1 first_house stuck.0) refl
 
-abbrev lane₃ : Lane
-lane₃ = lane_sealed 1
-
-abbrev pub house₃ : House
-house₃ = with_message 1 house₂
-
-abbrev pub run : List Happened
-run = then' (Begin 0) house₁ ∷ then' (Put 0 bytes) house₂ ∷ then' (Seal 0 1) house₃ ∷ []
-
-pub it_starts : IsStart 2 start
-it_starts = starts 0 None (free_slot ∷ []) (record { held = refl; generation = lit≤ tt }, tt) each_once
-
-pub it_runs : Run start run
-it_runs = (
-  begins 0 None [],
-  (
-    puts 0 None [],
-    (
-      seals 0 None [] 1 (lit≤ tt),
-      tt,
-    ),
-  ),
-)
-
-pub it_is_orderly : IsOrderly 1 start run
-it_is_orderly = (record { given_away = refl; answered = tt }, (tt, (lit≤ tt, tt)))
-
-pub it_stands : StandsStill 1 house₃
-it_stands = stands 1 house₃ (record {
-  lane = lane₃;
-  box = box₀;
-  key = key;
-  slot = record { generation = 0; held = Sealed bytes (0 ∷ []) 1 };
-  bytes = bytes;
-  blocks = 0 ∷ [];
+pub it_stands : StandsStill 1 (last_house first_house stuck.0)
+unfolding computed stuck
+it_stands = stands 1 (last_house first_house stuck.0) (record {
+  lane = _;
+  box = _;
+  key = _;
+  slot = _;
+  bytes = _;
+  blocks = _;
   weight = 0;
   lanes = refl;
   boxes = refl;
@@ -67,5 +43,6 @@ it_stands = stands 1 house₃ (record {
   neither = inl (refl, refl);
 })
 
-pub it_remains : Remains house₃ 0 0 1
-it_remains = record { lane = lane₃; box = box₀; lane_is = refl; box_is = refl; to_collect = refl; to_take = refl; to_offer = refl }
+pub it_remains : Remains (last_house first_house stuck.0) 0 0 1
+unfolding computed stuck
+it_remains = record { lane = _; box = _; lane_is = refl; box_is = refl; to_collect = refl; to_take = refl; to_offer = refl }

@@ -1,5 +1,5 @@
 -- Moves of a house's first lane and first mailbox, each with its step, and the runs that they make.
-use Rattle.std.proofs.Common.{◌≡◌, ℕ, ◌+◌, List, [], ◌∷◌, ◌++◌, length, drop, Bool, true, false, ◌==◌, ◌&&◌, Option, Some, None, refl, sym, ◌∙◌, ap}
+use Rattle.std.proofs.Common.{◌≡◌, ℕ, suc, ◌+◌, ◌≤◌, List, [], ◌∷◌, ◌++◌, length, drop, Bool, true, false, ◌==◌, ◌&&◌, Option, Some, None, refl, sym, ◌∙◌, ap}
 use Rattle.std.proofs.Common.{eqb-true, ltb-true, leb-true}
 use Rattle.std.specs.Prelude.{codes, nat_lt, nat_le, slice_get, take as some_of}
 use Rattle.std.proofs.lemmas.Bool.{and_parts}
@@ -14,6 +14,7 @@ use Rattle.mail_world.specs.Depot.{Key, Held, Free, Draft, Sealed, held_under, w
 use Rattle.mail_world.specs.House.{Hold, Progress, Taken, Going, Done, Copy, Box, SealedMessage, Lane, House}
 use Rattle.mail_world.specs.Events.{Step, MayHappen, HasCopy, LaneIs, BoxIs, added, end_of, outcome_of}
 use Rattle.mail_world.specs.Runs.{Happened, Run, is_same_key}
+use Rattle.mail_world.proofs.Drafts.{DraftThere}
 use Rattle.mail_world.proofs.Computed.{everything}
 use Rattle.mail_world.proofs.OtherSteps as step
 
@@ -25,8 +26,8 @@ pub record Next (h : House) : Type 0 where
 abbrev pub Move : Type 0
 Move = (h : House) → Option (Next h)
 
-abbrev happens : (h : House) (event : Event) → MayHappen h event → Option (Next h)
-happens h event new = Some (record { now = record { event = event; house = new.0 }; step = new.1 })
+abbrev happens : {h : House} (event : Event) → MayHappen h event → Option (Next h)
+happens event new = Some (record { now = record { event = event; house = new.0 }; step = new.1 })
 
 -- the run of those moves that there are
 abbrev pub moved : (h : House) → List Move → (run : List Happened) × Run h run
@@ -51,6 +52,12 @@ module _ {B : Type 0} where
   if_is true true f = f refl
   if_is false false f = f refl
   if_is _ _ f = None
+
+  abbrev pub if_at_most : (m n : ℕ) → (m ≤ n → Option B) → Option B
+  if_at_most m n f = if_is (nat_le m n) true (λ e. f (leb-true m n e))
+
+  abbrev if_same : (m n : ℕ) → (m ≡ n → Option B) → Option B
+  if_same m n f = if_is (m == n) true (λ e. f (eqb-true m n e))
 
   -- what is held is free, a draft, a message
   abbrev if_free : (held : Held) → (held ≡ Free → Option B) → Option B
@@ -78,54 +85,60 @@ module _ {B : Type 0} where
   if_done (Done outcome) f = f outcome refl
   if_done _ f = None
 
-pub same_hold : (hold : Hold) (key : Key) → (is_same_key hold.key key && (hold.weight == 1)) ≡ true → hold ≡ record { key = key; weight = 1 }
-same_hold hold key e =
-    let p = and_parts (is_same_key hold.key key) (hold.weight == 1) e in
-    let k = and_parts (hold.key.slot == key.slot) (hold.key.generation == key.generation) p.0 in
-    λ i. record {
-      key = record { slot = eqb-true hold.key.slot key.slot k.0 i; generation = eqb-true hold.key.generation key.generation k.1 i };
-      weight = eqb-true hold.weight 1 p.1 i;
-    }
+pub same_hold : (hold : Hold) (key : Key) → hold.key.slot ≡ key.slot → hold.key.generation ≡ key.generation → hold.weight ≡ 1
+    → Some hold ≡ Some (record { key = key; weight = 1 })
+same_hold hold key slot generation weight =
+    λ i. Some (record { key = record { slot = slot i; generation = generation i }; weight = weight i })
 
 module _ (h : House) where
-  abbrev Further : Type 0
-  Further = Option (Next h)
-
-  abbrev in_lane : ((lane : Lane) → LaneIs h 0 lane → Further) → Further
+  abbrev in_lane : ((lane : Lane) → LaneIs h 0 lane → Option (Next h)) → Option (Next h)
   in_lane f = if_some (slice_get h.lanes 0) f
 
-  abbrev in_box : ((box : Box) → BoxIs h 0 box → Further) → Further
+  abbrev in_box : ((box : Box) → BoxIs h 0 box → Option (Next h)) → Option (Next h)
   in_box f = if_some (slice_get h.boxes 0) f
 
-  abbrev in_hand : ((box : Box) → BoxIs h 0 box → (copy : Copy) → box.hand ≡ Some copy → Further) → Further
+  abbrev in_hand : ((box : Box) → BoxIs h 0 box → (copy : Copy) → box.hand ≡ Some copy → Option (Next h)) → Option (Next h)
   in_hand f = in_box (λ box is. if_some box.hand (f box is))
 
-  -- the lane's draft; its first hold, of weight 1 for its first message
-  abbrev in_draft : ((lane : Lane) → LaneIs h 0 lane → (key : Key) → lane.draft ≡ Some key → (bytes blocks : List ℕ) → held_under h.depot key ≡ Draft bytes blocks
-      → Further) → Further
+  abbrev in_turn : ((box : Box) → BoxIs h 0 box → (copy : Copy) → box.hand ≡ Some copy → (at : Standing) (written : ℕ)
+      → copy.progress ≡ Going at written → Option (Next h)) → Option (Next h)
+  in_turn f = in_hand (λ box is copy hand. if_going copy.progress (f box is copy hand))
+
+  -- the lane's draft; a message that is held; the lane's first hold, of weight 1 for its first message
+  abbrev in_draft : ((lane : Lane) → LaneIs h 0 lane → (key : Key) → lane.draft ≡ Some key → (bytes blocks : List ℕ)
+      → held_under h.depot key ≡ Draft bytes blocks → Option (Next h)) → Option (Next h)
   in_draft f = in_lane (λ lane is. if_some lane.draft (λ key draft. if_draft (held_under h.depot key) (f lane is key draft)))
 
-  abbrev with_copy : ((lane : Lane) → LaneIs h 0 lane → (sealed : SealedMessage) → HasCopy lane 0 0 sealed → Further) → Further
+  abbrev in_message : (key : Key) → ((bytes blocks : List ℕ) (weight : ℕ) → held_under h.depot key ≡ Sealed bytes blocks weight
+      → 1 ≤ weight_under h.depot key → Option (Next h)) → Option (Next h)
+  in_message key f = if_sealed (held_under h.depot key) (λ bytes blocks weight e.
+      if_at_most 1 (weight_under h.depot key) (f bytes blocks weight e))
+
+  abbrev with_copy : ((lane : Lane) → LaneIs h 0 lane → (sealed : SealedMessage) → HasCopy lane 0 0 sealed → Option (Next h))
+      → Option (Next h)
   with_copy f = in_lane (λ lane is. if_some (slice_get lane.holds 0) (λ hold at. if_some (slice_get lane.messages 0) (λ sealed there.
-      if_is (is_same_key hold.key sealed.key && (hold.weight == 1)) true (λ e.
-      f lane is sealed (record { hold = at ∙ ap (λ (x : Hold). Some x) (same_hold hold sealed.key e); is = there })))))
+      if_same hold.key.slot sealed.key.slot (λ slot. if_same hold.key.generation sealed.key.generation (λ generation.
+      if_same hold.weight 1 (λ one. let its = same_hold hold sealed.key slot generation one in
+      f lane is sealed (record { hold = at ∙ its; is = there })))))))
 
 abbrev pub begins : Move
-begins h = in_lane h (λ lane is. if_none lane.draft (λ none. if_some (slice_get h.depot.slots 0) (λ slot at. if_free slot.held (λ free.
-    happens h (Begin 0) (step.begin h 0 0 lane slot is none at free)))))
+begins h = in_lane h (λ lane is. if_none lane.draft (λ none. if_some (slice_get h.depot.slots 0) (λ slot at.
+    if_free slot.held (λ free. happens (Begin 0) (step.begin h 0 0 lane slot is none at free)))))
 
 abbrev pub puts : List ℕ → Move
-puts bytes h = in_draft h (λ lane is key draft old blocks e. if_is (length blocks == blocks_for (length old)) true (λ fewest.
-    if_is (nat_le (blocks_for (length (bytes_of (held_under h.depot key) ++ bytes))) (length (blocks_of (held_under h.depot key)) + length h.depot.free)) true (λ room.
-    happens h (Put 0 bytes) (step.put h 0 bytes lane key is draft (record { bytes = old; blocks = blocks; is = e; fewest = eqb-true _ _ fewest }) (leb-true _ _ room)))))
+puts bytes h = in_draft h (λ lane is key draft old blocks e. if_same (length blocks) (blocks_for (length old)) (λ fewest.
+    let held = held_under h.depot key in
+    if_at_most (blocks_for (length (bytes_of held ++ bytes))) (length (blocks_of held) + length h.depot.free) (λ room.
+    let there : DraftThere h.depot key = record { bytes = old; blocks = blocks; is = e; fewest = fewest } in
+    happens (Put 0 bytes) (step.put h 0 bytes lane key is draft there room))))
 
 abbrev pub seals : ℕ → Move
-seals n h = in_draft h (λ lane is key draft bytes blocks e. if_is (nat_le 1 n) true (λ some.
-    happens h (Seal 0 n) (step.seal h 0 n lane key bytes blocks is draft e (leb-true 1 n some))))
+seals n h = in_draft h (λ lane is key draft bytes blocks e. if_at_most 1 n (λ some.
+    happens (Seal 0 n) (step.seal h 0 n lane key bytes blocks is draft e some)))
 
 abbrev pub splits : Move
-splits h = in_lane h (λ lane is. if_some (slice_get lane.holds 0) (λ hold at. if_is (nat_lt 1 hold.weight) true (λ more.
-    happens h (Split 0 0) (step.split h 0 0 lane hold is at (ltb-true 1 hold.weight more)))))
+splits h = in_lane h (λ lane is. if_some (slice_get lane.holds 0) (λ hold at. if_at_most 2 hold.weight (λ more.
+    happens (Split 0 0) (step.split h 0 0 lane hold is at more))))
 
 -- the next copy of the first message, for the first mailbox
 abbrev pub note_of : SealedMessage → Note
@@ -141,62 +154,69 @@ note_of sealed = record {
 }
 
 abbrev pub offers : Move
-offers h = with_copy h (λ lane is sealed copy. in_box h (λ box there. if_is box.closed false (λ unclosed. if_is (nat_lt (length box.accepted) (box.taken + h.capacity)) true (λ room.
-    happens h (Offer 0 (note_of sealed)) (step.offer h 0 0 0 sealed.key (note_of sealed) lane box is copy refl there unclosed (ltb-true _ _ room))))))
+offers h = with_copy h (λ lane is sealed copy. in_box h (λ box there. if_is box.closed false (λ unclosed.
+    if_at_most (suc (length box.accepted)) (box.taken + h.capacity) (λ room. let note = note_of sealed in
+    happens (Offer 0 note) (step.offer h 0 0 0 sealed.key note lane box is copy refl there unclosed room)))))
 
 abbrev pub hands_back : Move
-hands_back h = with_copy h (λ lane is sealed copy. if_sealed (held_under h.depot sealed.key) (λ bytes blocks weight e.
-    if_is (nat_le 1 (weight_under h.depot sealed.key)) true (λ some.
-    happens h (HandBack 0 0 0) (step.hand_back h 0 0 0 0 lane sealed bytes blocks weight is copy e (leb-true 1 _ some)))))
+hands_back h = with_copy h (λ lane is sealed copy. in_message h sealed.key (λ bytes blocks weight e some.
+    happens (HandBack 0 0 0) (step.hand_back h 0 0 0 0 lane sealed bytes blocks weight is copy e some)))
 
 abbrev pub collects : Move
-collects h = in_lane h (λ lane is. if_is (nat_lt lane.collected (length lane.slips)) true (λ more.
-    happens h (Collect 0) (step.collect h 0 lane is (ltb-true _ _ more))))
+collects h = in_lane h (λ lane is. if_at_most (suc lane.collected) (length lane.slips) (λ more.
+    happens (Collect 0) (step.collect h 0 lane is more)))
 
 abbrev pub takes : Move
-takes h = in_box h (λ box is. if_none box.hand (λ none. if_is (nat_lt box.taken (length box.accepted)) true (λ more.
-    happens h (Take 0) (step.take h 0 box is none (ltb-true _ _ more)))))
+takes h = in_box h (λ box is. if_none box.hand (λ none. if_at_most (suc box.taken) (length box.accepted) (λ more.
+    happens (Take 0) (step.take h 0 box is none more))))
 
 abbrev pub locks : List ℕ → Move
-locks bytes h = in_hand h (λ box is copy hand. if_taken copy.progress (λ first. happens h (Lock 0 bytes) (step.lock h 0 bytes box copy is hand first)))
+locks bytes h = in_hand h (λ box is copy hand. if_taken copy.progress (λ first.
+    happens (Lock 0 bytes) (step.lock h 0 bytes box copy is hand first)))
 
 abbrev pub misses : Move
-misses h = in_hand h (λ box is copy hand. if_taken copy.progress (λ first. happens h (Miss 0) (step.miss h 0 box copy is hand first)))
+misses h = in_hand h (λ box is copy hand. if_taken copy.progress (λ first.
+    happens (Miss 0) (step.miss h 0 box copy is hand first)))
 
 -- so many of the bytes that are still to be written
 abbrev pub writes : ℕ → Move
-writes n h = in_hand h (λ box is copy hand. if_going copy.progress (λ at written going.
-    let rest = drop written (added h copy.post.note at.bytes) in
-    happens h (Write 0 (some_of n rest)) (step.write h 0 (some_of n rest) (drop n rest) box copy at written is hand going (sym (take-append-drop n rest)))))
+writes n h = in_turn h (λ box is copy hand at written going. let rest = drop written (added h copy.post.note at.bytes) in
+    let bytes = some_of n rest in let both = sym (take-append-drop n rest) in
+    happens (Write 0 bytes) (step.write h 0 bytes (drop n rest) box copy at written is hand going both))
 
 abbrev pub syncs : Move
-syncs h = in_hand h (λ box is copy hand. if_going copy.progress (λ at written going. if_is (written == length (added h copy.post.note at.bytes)) true (λ whole.
-    happens h (Sync 0) (step.sync h 0 box copy at written is hand going (eqb-true _ _ whole)))))
+syncs h = in_turn h (λ box is copy hand at written going.
+    if_same written (length (added h copy.post.note at.bytes)) (λ whole.
+    happens (Sync 0) (step.sync h 0 box copy at written is hand going whole)))
 
 abbrev pub cuts : Move
-cuts h = in_hand h (λ box is copy hand. if_going copy.progress (λ at written going. happens h (Cut 0) (step.cut h 0 box copy at written is hand going)))
+cuts h = in_turn h (λ box is copy hand at written going.
+    happens (Cut 0) (step.cut h 0 box copy at written is hand going))
 
 abbrev pub unlocks : Move
-unlocks h = in_hand h (λ box is copy hand. if_some (end_of copy.progress) (λ end in_turn. if_is (nat_le box.kept (length box.spool)) true (λ within.
-    happens h (Unlock 0) (step.unlock h 0 box copy end is hand in_turn (leb-true _ _ within)))))
+unlocks h = in_hand h (λ box is copy hand. if_some (end_of copy.progress) (λ end in_turn.
+    if_at_most box.kept (length box.spool) (λ within.
+    happens (Unlock 0) (step.unlock h 0 box copy end is hand in_turn within))))
 
 abbrev pub releases : Move
 releases h = in_hand h (λ box is copy hand. if_done copy.progress (λ outcome done. if_is copy.released false (λ there.
-    if_sealed (held_under h.depot copy.post.key) (λ bytes blocks weight e. if_is (nat_le 1 (weight_under h.depot copy.post.key)) true (λ some.
-    happens h (Release 0) (step.release h 0 box copy outcome bytes blocks weight is hand done there e (leb-true 1 _ some)))))))
+    in_message h copy.post.key (λ bytes blocks weight e some.
+    happens (Release 0) (step.release h 0 box copy outcome bytes blocks weight is hand done there e some)))))
 
 abbrev pub gives_slip : Move
-gives_slip h = in_hand h (λ box is copy hand. if_is copy.released true (λ gone. if_some (slice_get h.lanes copy.post.note.txn.lane) (λ lane to.
-    happens h (GiveSlip 0 (outcome_of copy)) (step.give_slip h 0 box copy lane is hand gone to))))
+gives_slip h = in_hand h (λ box is copy hand. if_is copy.released true (λ gone.
+    if_some (slice_get h.lanes copy.post.note.txn.lane) (λ lane to.
+    happens (GiveSlip 0 (outcome_of copy)) (step.give_slip h 0 box copy lane is hand gone to))))
 
 -- the message in the first slot, of its first generation
 abbrev pub reclaims : Move
-reclaims h =
-    let key : Key = record { slot = 0; generation = 0 } in if_sealed (held_under h.depot key) (λ bytes blocks weight e. if_is (weight == 0) true (λ none.
-    happens h (Reclaim 0 0) (step.reclaim h key bytes blocks (e ∙ ap (λ n. Sealed bytes blocks n) (eqb-true weight 0 none)))))
+reclaims h = let key : Key = record { slot = 0; generation = 0 } in
+    if_sealed (held_under h.depot key) (λ bytes blocks weight e. if_same weight 0 (λ none.
+    happens (Reclaim 0 0) (step.reclaim h key bytes blocks (e ∙ ap (λ n. Sealed bytes blocks n) none))))
 
 abbrev pub closes : Move
-closes h = in_box h (λ box is. if_is box.closed false (λ unclosed. happens h (Close 0) (step.close h 0 box is unclosed)))
+closes h = in_box h (λ box is. if_is box.closed false (λ unclosed.
+    happens (Close 0) (step.close h 0 box is unclosed)))
 
 -- to unfold it is to unfold what the moves compute with
 unfoldable pub computed : ℕ

@@ -29,14 +29,8 @@ start capacity quota = record {
       ∷ [];
 }
 
-past : (n : ℕ) → 2 ≤ n → nat_lt n 2 ≡ false
-past n h = grind (arith, nat_tests)
-
 pub each_once : HasEachBlockOnce 2 (start 1 None).depot
-each_once zero = refl
-each_once (suc zero) = refl
-each_once (suc (suc x)) =
-    let n = suc (suc x) in rw (past n (omega arith), other_byte 0 n (omega arith), other_byte 1 n (omega arith)) refl
+each_once x = grind (arith, nat_tests)
 
 pub it_starts : (capacity : ℕ) (quota : Option ℕ) → IsStart 2 (start capacity quota)
 it_starts capacity quota = record {
