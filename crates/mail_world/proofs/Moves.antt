@@ -1,8 +1,7 @@
 -- Moves of a house's first lane and first mailbox, each with its step, and the runs that they make.
-use Rattle.std.proofs.Common.{◌≡◌, ℕ, suc, ◌+◌, ◌≤◌, List, [], ◌∷◌, ◌++◌, length, drop, Bool, true, false, ◌==◌, ◌&&◌, Option, Some, None, refl, sym, ◌∙◌, ap}
-use Rattle.std.proofs.Common.{eqb-true, ltb-true, leb-true}
-use Rattle.std.specs.Prelude.{codes, nat_lt, nat_le, slice_get, take as some_of}
-use Rattle.std.proofs.lemmas.Bool.{and_parts}
+use Rattle.std.proofs.Common.{◌≡◌, ℕ, suc, ◌+◌, ◌≤◌, List, [], ◌∷◌, ◌++◌, length, drop, Bool, true, false, ◌==◌, Option, Some, None, refl, sym, ◌∙◌, ap}
+use Rattle.std.proofs.Common.{eqb-true, leb-true}
+use Rattle.std.specs.Prelude.{codes, nat_le, slice_get, take as some_of}
 use Rattle.std.proofs.lemmas.List.{take-append-drop}
 use Rattle.mail_world.specs.declared.Note.{Note}
 use Rattle.mail_world.specs.declared.Event.{Event}
@@ -13,7 +12,7 @@ use Rattle.mail_world.specs.Turns.{Standing}
 use Rattle.mail_world.specs.Depot.{Key, Held, Free, Draft, Sealed, held_under, weight_under, bytes_of, blocks_of, blocks_for}
 use Rattle.mail_world.specs.House.{Hold, Progress, Taken, Going, Done, Copy, Box, SealedMessage, Lane, House}
 use Rattle.mail_world.specs.Events.{Step, MayHappen, HasCopy, LaneIs, BoxIs, added, end_of, outcome_of}
-use Rattle.mail_world.specs.Runs.{Happened, Run, is_same_key}
+use Rattle.mail_world.specs.Runs.{Happened, Run}
 use Rattle.mail_world.proofs.Drafts.{DraftThere}
 use Rattle.mail_world.proofs.Computed.{everything}
 use Rattle.mail_world.proofs.OtherSteps as step

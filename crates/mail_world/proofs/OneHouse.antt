@@ -1,11 +1,9 @@
 -- The house of the computed runs at their start: one lane, one mailbox and two blocks.
-use Rattle.std.proofs.Common.{◌≡◌, ℕ, zero, suc, [], ◌∷◌, false, Option, None, refl, arith, ◌≤◌, lit≤}
-use Rattle.std.specs.Prelude.{nat_lt}
+use Rattle.std.proofs.Common.{ℕ, [], ◌∷◌, false, Option, None, refl, arith, lit≤}
 use Rattle.std.proofs.lemmas.Bool.Decides.{nat_tests}
 use Rattle.mail_world.specs.Depot.{Free, HasEachBlockOnce}
 use Rattle.mail_world.specs.House.{House, IsStart}
 use Rattle.mail_world.specs.Rows.{calendar, site}
-use Rattle.mail_world.proofs.OneLine.{other_byte}
 
 abbrev pub start : (capacity : ℕ) (quota : Option ℕ) → House
 start capacity quota = record {
