@@ -25,18 +25,21 @@ all_answered (None ∷ places) = None
 all_answered (Some outcome ∷ places) = option_map (λ answered. (tt, answered)) (all_answered places)
 
 abbrev in_order : (room : ℕ) (h : House) (event : Event) → Option (IsInOrder room h event)
-in_order room h (Offer k note) = each _ (slice_get h.boxes note.mailbox) (λ box. if_at_most (suc (not_taken box)) h.capacity Some)
+in_order room h (Offer k note) =
+    each _ (slice_get h.boxes note.mailbox) (λ box. if_at_most (suc (not_taken box)) h.capacity Some)
 in_order room h (GiveSlip w outcome) = each _ (slice_get h.boxes w) (λ box. each _ box.hand (λ copy.
     each _ (slice_get h.lanes copy.post.note.txn.lane) (λ lane. if_at_most (suc (uncollected lane)) room Some)))
 in_order room h (Seal k n) = if_at_most n room Some
-in_order room h (Begin k) = each _ (slice_get h.lanes k) (λ lane. option_and_then (λ given.
-    option_map (λ answered. record { given_away = given; answered = answered }) (all_answered lane.gather.places)) (all_given lane.holds))
+in_order room h (Begin k) = each _ (slice_get h.lanes k) (λ lane. option_and_then (λ given. option_map
+    (λ answered. record { given_away = given; answered = answered }) (all_answered lane.gather.places))
+    (all_given lane.holds))
 in_order room h (Collect k) = each _ (slice_get h.lanes k) (λ lane. all_given lane.holds)
 in_order room h _ = Some tt
 
 abbrev pub orderly : (room : ℕ) (h : House) (run : List Happened) → Option (IsOrderly room h run)
 orderly room h [] = Some tt
-orderly room h (x ∷ xs) = option_and_then (λ first. option_map (λ others. (first, others)) (orderly room x.house xs)) (in_order room h x.event)
+orderly room h (x ∷ xs) = option_and_then
+    (λ first. option_map (λ others. (first, others)) (orderly room x.house xs)) (in_order room h x.event)
 
 pub found : {A : Type 0} (o : Option A) → is_some o ≡ true → A
 found None e = cc

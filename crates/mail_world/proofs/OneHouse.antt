@@ -12,7 +12,8 @@ start capacity quota = record {
   quota = quota;
   capacity = capacity;
   depot = record { slots = record { generation = 0; held = Free } ∷ []; free = 0 ∷ 1 ∷ [] };
-  boxes = record { old = []; accepted = []; taken = 0; closed = false; spool = []; kept = 0; turns = []; hand = None } ∷ [];
+  boxes =
+      record { old = []; accepted = []; taken = 0; closed = false; spool = []; kept = 0; turns = []; hand = None } ∷ [];
   lanes =
       record {
         number = 0;
