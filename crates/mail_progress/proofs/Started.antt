@@ -5,11 +5,11 @@ use Rattle.std.specs.List.{AllByRecursion}
 use Rattle.mail_world.specs.declared.Event.{Event}
 use Rattle.mail_world.specs.declared.Event.TheVariants.{Begin, Seal, Offer, Collect, GiveSlip}
 use Rattle.mail_world.specs.declared.Outcome.{Outcome}
-use Rattle.mail_world.specs.House.{Hold, Copy, Box, Lane, House}
+use Rattle.mail_world.specs.House.{Hold, House}
 use Rattle.mail_world.specs.Runs.{Happened}
 use Rattle.mail_world.proofs.Moves.{computed, if_at_most}
 use Rattle.mail_world.proofs.ComputedRuns.{healing_start, healing, refusing_start, refusing}
-use Rattle.mail_progress.specs.Orderly.{HasOutcome, IsLaneDone, IsInOrder, IsOrderly, not_taken, uncollected}
+use Rattle.mail_progress.specs.Orderly.{HasOutcome, IsInOrder, IsOrderly, not_taken, uncollected}
 
 abbrev each : {A : Type 0} (P : A → Type 0) (o : Option A) → ((x : A) → Option (P x)) → Option (IfSome o P)
 each P None f = Some tt

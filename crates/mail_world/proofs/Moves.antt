@@ -13,7 +13,7 @@ use Rattle.mail_world.specs.declared.Outcome.{Outcome}
 use Rattle.mail_world.specs.Turns.{Standing}
 use Rattle.mail_world.specs.Depot.{Key, Held, Free, Draft, Sealed, held_under, weight_under, bytes_of, blocks_of}
 use Rattle.mail_world.specs.Depot.{blocks_for}
-use Rattle.mail_world.specs.House.{Hold, Progress, Taken, Going, Done, Copy, Box, SealedMessage, Lane, House}
+use Rattle.mail_world.specs.House.{Progress, Taken, Going, Done, Copy, Box, SealedMessage, Lane, House}
 use Rattle.mail_world.specs.Events.{MayHappen, HasCopy, LaneIs, BoxIs, added, end_of, outcome_of}
 use Rattle.mail_world.specs.Runs.{Happened, Run}
 use Rattle.mail_world.proofs.Drafts.{DraftThere}
@@ -85,11 +85,6 @@ module _ {B : Type 0} where
   if_done (Done outcome) f = f outcome refl
   if_done _ f = None
 
-pub same_hold : (hold : Hold) (key : Key) → hold.key.slot ≡ key.slot → hold.key.generation ≡ key.generation
-    → hold.weight ≡ 1 → Some hold ≡ Some (record { key = key; weight = 1 })
-same_hold hold key slot generation weight =
-    λ i. Some (record { key = record { slot = slot i; generation = generation i }; weight = weight i })
-
 module _ (h : House) where
   abbrev in_lane : ((lane : Lane) → LaneIs h 0 lane → Option (Next h)) → Option (Next h)
   in_lane f = if_some (slice_get h.lanes 0) f
@@ -120,8 +115,8 @@ module _ (h : House) where
       → Option (Next h)) → Option (Next h)
   with_copy f = in_lane (λ lane is. if_some (slice_get lane.holds 0) (λ hold at.
       if_some (slice_get lane.messages 0) (λ sealed there. if_same hold.key.slot sealed.key.slot (λ slot. if_same hold.key.generation sealed.key.generation (λ generation.
-      if_same hold.weight 1 (λ one. let its = same_hold hold sealed.key slot generation one in
-      f lane is sealed (record { hold = at ∙ its; is = there })))))))
+      if_same hold.weight 1 (λ one. let key : hold.key ≡ sealed.key = λ i. record { slot = slot i; generation = generation i } in
+      f lane is sealed (step.copy_of lane 0 0 hold sealed at key one there)))))))
 
 abbrev pub begins : Move
 begins h = in_lane h (λ lane is. if_none lane.draft (λ none. if_some (slice_get h.depot.slots 0) (λ slot at.
