@@ -20,10 +20,8 @@ use Rattle.mail_progress.proofs.Lowered.{IsSoundSoFar, lowers}
 
 -- a draft is sealed with no more copies than there is room for slips
 abbrev pub copies_of_held : ℕ → Held → ℕ
-copies_of_held room Free = 0
 copies_of_held room (Draft bytes blocks) = room
-copies_of_held room (Sealed bytes blocks weight) = 0
-copies_of_held room Retired = 0
+copies_of_held room _ = 0
 
 abbrev pub copies_of_lane : Lane → ℕ
 copies_of_lane lane = to_give lane.holds

@@ -21,25 +21,9 @@ use Rattle.mail_world.proofs.Depots.{set_at, set_past}
 
 -- the capacity
 capacity_step : (h : House) (e : Event) (new : House) → Step h e new → new.capacity ≡ h.capacity
-capacity_step h (Begin k) new st = ap (λ (x : House). x.capacity) st.after
-capacity_step h (Put k bytes) new st = ap (λ (x : House). x.capacity) st.after
-capacity_step h (Cancel k) new st = ap (λ (x : House). x.capacity) st.after
-capacity_step h (Seal k n) new st = ap (λ (x : House). x.capacity) st.after
-capacity_step h (Split k i) new st = ap (λ (x : House). x.capacity) st.after
-capacity_step h (Offer k note) new st = ap (λ (x : House). x.capacity) st.after
-capacity_step h (HandBack k i b) new st = ap (λ (x : House). x.capacity) st.after
-capacity_step h (Collect k) new st = ap (λ (x : House). x.capacity) st.after
-capacity_step h (Take w) new st = ap (λ (x : House). x.capacity) st.after
-capacity_step h (Write w bytes) new st = ap (λ (x : House). x.capacity) st.after
-capacity_step h (Sync w) new st = ap (λ (x : House). x.capacity) st.after
-capacity_step h (Lock w bytes) new st = ap (λ (x : House). x.capacity) st.after
-capacity_step h (Miss w) new st = ap (λ (x : House). x.capacity) st.after
-capacity_step h (Cut w) new st = ap (λ (x : House). x.capacity) st.after
-capacity_step h (Unlock w) new st = ap (λ (x : House). x.capacity) st.after
-capacity_step h (Release w) new st = ap (λ (x : House). x.capacity) st.after
-capacity_step h (GiveSlip w o) new st = ap (λ (x : House). x.capacity) st.after
 capacity_step h (Reclaim slot generation) new st = ap (λ (x : House). x.capacity) st.2
 capacity_step h (Close b) new st = ap (λ (x : House). x.capacity) st.3
+capacity_step h _ new st = ap (λ (x : House). x.capacity) st.after
 
 pub capacity_run : (h : House) (run : List Happened) → Run h run → (last_house h run).capacity ≡ h.capacity
 capacity_run h [] r = refl
@@ -96,11 +80,7 @@ record Follows (h new : House) : Type 0 where
 
 part_right : (h new : House) → SameAdditions h new → (note : Note) (progress : Progress) → IsPart h note progress → IsPart new note progress
 part_right h new e note (Going lock written) r = let n = ap length (e note lock.bytes) in omega (arith, n, r)
-part_right h new e note Taken r = tt
-part_right h new e note (Full lock) r = tt
-part_right h new e note (Synced lock) r = tt
-part_right h new e note (CutBack lock) r = tt
-part_right h new e note (Done outcome) r = tt
+part_right h new e note _ r = tt
 
 hand_right : (h new : House) → Follows h new → (hand : Option Copy) → HandIsRight h hand → HandIsRight new hand
 hand_right h new f None r = tt

@@ -32,7 +32,4 @@ pub unlock_lowers : (h : House) (note : Note) (progress : Progress) (end : TurnE
     → steps_of_turn h note (Done end.outcome) < steps_of_turn h note progress
 unlock_lowers h note Taken end e = cc
 unlock_lowers h note (Done outcome) end e = cc
-unlock_lowers h note (Going lock written) end e = omega arith
-unlock_lowers h note (Full lock) end e = omega arith
-unlock_lowers h note (Synced lock) end e = omega arith
-unlock_lowers h note (CutBack lock) end e = omega arith
+unlock_lowers h note _ end e = omega arith

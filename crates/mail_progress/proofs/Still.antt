@@ -104,9 +104,6 @@ module _ (room : ℕ) (h : House) (its_lane : Lane) (its_box : Box) (key : Key) 
       let same = ap (λ (x : Slot). x.held) (only _ _ slot (ap (λ ls. slice_get ls slot) (sym slots) ∙ there)) in cc
 
   no_event : (next : ℕ → ℕ) (e : Event) → GoesOn next h e → IsInOrder room h e → (new : House) → Step h e new → ⊥
-  no_event next (Begin k) g o new st = g
-  no_event next (Put k bytes) g o new st = g
-  no_event next (Close b) g o new st = g
   no_event next (Cancel k) g o new st = no_draft_there k st.lane st.key st.is st.draft
   no_event next (Seal k n) g o new st = no_draft_there k st.lane st.key st.is st.draft
   no_event next (Split k i) g o new st =
@@ -129,15 +126,14 @@ module _ (room : ℕ) (h : House) (its_lane : Lane) (its_box : Box) (key : Key) 
       let bad : ◌≡◌ {A = List Hold} (one ∷ []) [] = sym one_hold ∙ ap (λ (x : Lane). x.holds) (same_lane k st.lane st.is) ∙ none in cc
   no_event next (Take w) g o new st = no_take w new st
   no_event next (Lock w bytes) g o new st = none_open w st.box st.copy st.is st.in_hand (ap open_by st.first)
-  no_event next (Miss w) g o new st = g
   no_event next (Write w bytes) g o new st = none_open w st.box st.copy st.is st.in_hand (ap open_by st.going)
   no_event next (Sync w) g o new st = none_open w st.box st.copy st.is st.in_hand (ap open_by st.going)
-  no_event next (Cut w) g o new st = g
   no_event next (Unlock w) g o new st =
       none_open w st.box st.copy st.is st.in_hand (open_ending st.copy.progress st.end st.in_turn)
   no_event next (Release w) g o new st = none_held w st.box st.copy st.is st.in_hand st.held
   no_event next (GiveSlip w outcome) g o new st = no_slip w st.box st.copy st.is st.in_hand o
   no_event next (Reclaim slot generation) g o new st = no_reclaim slot generation new st
+  no_event next _ g o new st = g
 
   pub stands : StandsStill room h
   stands next m = no_event next m.event m.goes_on m.in_order m.happens.0 m.happens.1

@@ -124,13 +124,10 @@ ReadsLines Recipients = ⊤
 ReadsLines _ = ⊥
 
 cut-line : (state : State) (s : List ℕ) (ds : List Disposition) → ReadsLines state → cut state s ds ≡ cut_line s ds
-cut-line Fresh s ds h = refl
-cut-line Greeted s ds h = refl
-cut-line Sender s ds h = refl
-cut-line Recipients s ds h = refl
 cut-line Content s ds h = absurd h
 cut-line Waiting s ds h = absurd h
 cut-line Ended s ds h = absurd h
+cut-line _ s ds h = refl
 
 pub line_within : (s : List ℕ) (n : ℕ) → place_of crlf s ≡ Some n → n + 2 ≤ length s
 line_within s n e = let at = place_of_stands crlf s n e in
@@ -169,22 +166,14 @@ handled_data site s at ps n d h content e fit =
     fit
 
 no_cut : (state : State) (s : List ℕ) → HasNoPart state s → cut state s [] ≡ None
-no_cut Fresh s h = ap (λ o. option_map (λ k. record { part = CommandLine (take k s); size = k + 2; dispositions = [] }) o) h
-no_cut Greeted s h = ap (λ o. option_map (λ k. record { part = CommandLine (take k s); size = k + 2; dispositions = [] }) o) h
-no_cut Sender s h = ap (λ o. option_map (λ k. record { part = CommandLine (take k s); size = k + 2; dispositions = [] }) o) h
-no_cut Recipients s h = ap (λ o. option_map (λ k. record { part = CommandLine (take k s); size = k + 2; dispositions = [] }) o) h
 no_cut Content s h = refl
 no_cut Waiting s h = refl
 no_cut Ended s h = refl
+no_cut _ s h = ap (λ o. option_map (λ k. record { part = CommandLine (take k s); size = k + 2; dispositions = [] }) o) h
 
 no_data_ended : (state : State) (s : List ℕ) → HasNoPart state s → NoDataEnded state s
 no_data_ended Content s h = h
-no_data_ended Fresh s h = tt
-no_data_ended Greeted s h = tt
-no_data_ended Sender s h = tt
-no_data_ended Recipients s h = tt
-no_data_ended Waiting s h = tt
-no_data_ended Ended s h = tt
+no_data_ended _ s h = tt
 
 abbrev pub account_of : List ℕ → List Part → Conversation
 account_of s ps = record { bytes = s; dispositions = dispositions_of ps; stopped = false }
