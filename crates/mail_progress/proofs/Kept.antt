@@ -193,23 +193,11 @@ kept_step h (Lock w bytes) new s st =
     subst KeptSoFar (sym st.after) (kept_box h _ w st.box _ s (λ note bytes. refl) st.is refl refl
     (λ ok. let r = hand_of h st.box st.copy st.in_hand ok.hand in
     record { posts = ok.posts; hand = (r.0, part_begun h st.copy.post.note lock); prefix = ok.prefix }))
-kept_step h (Miss w) new s st =
-    subst KeptSoFar (sym st.after) (kept_box h _ w st.box _ s (λ note bytes. refl) st.is refl refl
-    (λ ok. let r = hand_of h st.box st.copy st.in_hand ok.hand in record { posts = ok.posts; hand = (r.0, tt); prefix = ok.prefix }))
 kept_step h (Write w bytes) new s st =
     subst KeptSoFar (sym st.after) (kept_box h _ w st.box _ s (λ note bytes. refl) st.is refl refl
     (λ ok. let r = hand_of h st.box st.copy st.in_hand ok.hand in
     let part = subst (IsPart h st.copy.post.note) st.going r.1 in
     record { posts = ok.posts; hand = (r.0, part_more h st.copy.post.note st.lock st.written bytes st.more st.next part); prefix = ok.prefix }))
-kept_step h (Sync w) new s st =
-    subst KeptSoFar (sym st.after) (kept_box h _ w st.box _ s (λ note bytes. refl) st.is refl refl
-    (λ ok. let r = hand_of h st.box st.copy st.in_hand ok.hand in record { posts = ok.posts; hand = (r.0, tt); prefix = ok.prefix }))
-kept_step h (Cut w) new s st =
-    subst KeptSoFar (sym st.after) (kept_box h _ w st.box _ s (λ note bytes. refl) st.is refl refl
-    (λ ok. let r = hand_of h st.box st.copy st.in_hand ok.hand in record { posts = ok.posts; hand = (r.0, tt); prefix = ok.prefix }))
-kept_step h (Unlock w) new s st =
-    subst KeptSoFar (sym st.after) (kept_box h _ w st.box _ s (λ note bytes. refl) st.is refl refl
-    (λ ok. let r = hand_of h st.box st.copy st.in_hand ok.hand in record { posts = ok.posts; hand = (r.0, tt); prefix = ok.prefix }))
 kept_step h (Release w) new s st =
     subst KeptSoFar (sym st.after) (kept_box h _ w st.box _ s (λ note bytes. refl) st.is refl refl
     (λ ok. record { posts = ok.posts; hand = hand_of h st.box st.copy st.in_hand ok.hand; prefix = ok.prefix }))
@@ -220,6 +208,9 @@ kept_step h (Reclaim slot generation) new s st = subst KeptSoFar (sym st.2) (kep
 kept_step h (Close b) new s st =
     subst KeptSoFar (sym st.3) (kept_box h _ b st.0 _ s (λ note bytes. refl) st.1 refl refl
     (λ ok. record { posts = ok.posts; hand = ok.hand; prefix = ok.prefix }))
+kept_step h _ new s st =
+    subst KeptSoFar (sym st.after) (kept_box h _ _ st.box _ s (λ note bytes. refl) st.is refl refl
+    (λ ok. let r = hand_of h st.box st.copy st.in_hand ok.hand in record { posts = ok.posts; hand = (r.0, tt); prefix = ok.prefix }))
 
 kept_run : (h : House) (run : List Happened) → KeptSoFar h → Run h run → KeptSoFar (last_house h run)
 kept_run h [] s r = s

@@ -19,19 +19,17 @@ one_box h new w changed e shut all b box at = elim (get_set h.boxes w b changed 
 ]
 
 closed_step : (h : House) (e : Event) (new : House) → AreClosed h → Step h e new → AreClosed new
+closed_step h (Begin k) new s st = no_box h new (ap (λ (x : House). x.boxes) st.after) s
+closed_step h (Put k bytes) new s st = no_box h new (ap (λ (x : House). x.boxes) st.after) s
+closed_step h (Cancel k) new s st = no_box h new (ap (λ (x : House). x.boxes) st.after) s
+closed_step h (Seal k n) new s st = no_box h new (ap (λ (x : House). x.boxes) st.after) s
+closed_step h (Split k i) new s st = no_box h new (ap (λ (x : House). x.boxes) st.after) s
+closed_step h (HandBack k i b) new s st = no_box h new (ap (λ (x : House). x.boxes) st.after) s
+closed_step h (Collect k) new s st = no_box h new (ap (λ (x : House). x.boxes) st.after) s
 closed_step h (Reclaim slot generation) new s st = no_box h new (ap (λ (x : House). x.boxes) st.2) s
 closed_step h (Offer k note) new s st = one_box h new note.mailbox _ (ap (λ (x : House). x.boxes) st.after) (s note.mailbox st.box st.channel) s
-closed_step h (Take w) new s st = one_box h new w _ (ap (λ (x : House). x.boxes) st.after) (s w st.box st.is) s
-closed_step h (Write w bytes) new s st = one_box h new w _ (ap (λ (x : House). x.boxes) st.after) (s w st.box st.is) s
-closed_step h (Sync w) new s st = one_box h new w _ (ap (λ (x : House). x.boxes) st.after) (s w st.box st.is) s
-closed_step h (Lock w bytes) new s st = one_box h new w _ (ap (λ (x : House). x.boxes) st.after) (s w st.box st.is) s
-closed_step h (Miss w) new s st = one_box h new w _ (ap (λ (x : House). x.boxes) st.after) (s w st.box st.is) s
-closed_step h (Cut w) new s st = one_box h new w _ (ap (λ (x : House). x.boxes) st.after) (s w st.box st.is) s
-closed_step h (Unlock w) new s st = one_box h new w _ (ap (λ (x : House). x.boxes) st.after) (s w st.box st.is) s
-closed_step h (Release w) new s st = one_box h new w _ (ap (λ (x : House). x.boxes) st.after) (s w st.box st.is) s
-closed_step h (GiveSlip w o) new s st = one_box h new w _ (ap (λ (x : House). x.boxes) st.after) (s w st.box st.is) s
 closed_step h (Close b) new s st = one_box h new b _ (ap (λ (x : House). x.boxes) st.3) refl s
-closed_step h _ new s st = no_box h new (ap (λ (x : House). x.boxes) st.after) s
+closed_step h _ new s st = one_box h new _ _ (ap (λ (x : House). x.boxes) st.after) (s _ st.box st.is) s
 
 pub closed_stays : ClosedStays
 closed_stays h [] r s = s
