@@ -6,7 +6,7 @@ use Rattle.mail_world.specs.declared.Note.{Note}
 use Rattle.mail_world.specs.Records.{record_of}
 use Rattle.mail_world.specs.Endings.{mended}
 use Rattle.mail_world.specs.Turns.{Standing, has_room}
-use Rattle.mail_world.specs.House.{Progress, Taken, Going, Full, Synced, CutBack, Done, House}
+use Rattle.mail_world.specs.House.{Progress, Taken, Going, Full, Synced, Done, House}
 use Rattle.mail_world.proofs.Endings.{mended_few}
 use Rattle.mail_world.specs.Events.{added, begun, TurnEnd, end_of}
 use Rattle.mail_progress.specs.StepsLeft.{steps_of_turn}

@@ -10,8 +10,8 @@ use Rattle.std.proofs.lemmas.Option.{slice_get_within}
 use Rattle.mail_world.specs.declared.Outcome.{Outcome}
 use Rattle.mail_world.specs.declared.Slip.{Slip}
 use Rattle.mail_world.specs.declared.Event.{Event}
-use Rattle.mail_world.specs.declared.Event.TheVariants.{Begin, Put, Cancel, Seal, Split, Offer, HandBack, Collect, Take, Lock, Miss, Write, Sync, Cut}
-use Rattle.mail_world.specs.declared.Event.TheVariants.{Unlock, Release, GiveSlip, Reclaim, Close}
+use Rattle.mail_world.specs.declared.Event.TheVariants.{Begin, Put, Cancel, Seal, Split, Offer, HandBack, Collect, Take}
+use Rattle.mail_world.specs.declared.Event.TheVariants.{Release, GiveSlip, Reclaim, Close}
 use Rattle.mail_world.specs.Slips.{Gather, names, times_named, txn_of, gathered, own_slip, slip_of}
 use Rattle.mail_world.specs.Depot.{Key, Depot, Slot, Draft, Sealed, held_under}
 use Rattle.mail_world.specs.House.{Hold, Post, Copy, Box, SealedMessage, Lane, House, IsFreshLane, IsStart}

@@ -9,8 +9,8 @@ use Rattle.std.proofs.lemmas.Option.{slice_get_within}
 use Rattle.mail_world.specs.declared.Outcome.{Outcome}
 use Rattle.mail_world.specs.declared.Slip.{Slip}
 use Rattle.mail_world.specs.declared.Event.{Event}
-use Rattle.mail_world.specs.declared.Event.TheVariants.{Begin, Put, Cancel, Seal, Split, Offer, HandBack, Collect, Take, Lock, Miss, Write, Sync, Cut}
-use Rattle.mail_world.specs.declared.Event.TheVariants.{Unlock, Release, GiveSlip, Reclaim, Close}
+use Rattle.mail_world.specs.declared.Event.TheVariants.{Begin, Put, Cancel, Seal, Split, Offer, HandBack, Collect, Take}
+use Rattle.mail_world.specs.declared.Event.TheVariants.{GiveSlip, Reclaim, Close}
 use Rattle.mail_world.specs.Slips.{Gather, place_outcome, is_same_txn, gathered, own_slip, slip_of}
 use Rattle.mail_world.specs.Depot.{Key}
 use Rattle.mail_world.specs.House.{Hold, Post, Copy, Box, Lane, House, IsFreshBox, IsFreshLane, IsStart}

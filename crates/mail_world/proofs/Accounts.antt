@@ -4,7 +4,7 @@ use Rattle.std.proofs.Common.{append_assoc, length-append}
 use Rattle.std.specs.Prelude.{map, option_map}
 use Rattle.std.proofs.lemmas.List.{append-nil}
 use Rattle.mail_world.specs.declared.State.{State}
-use Rattle.mail_world.specs.declared.State.TheVariants.{Fresh, Greeted, Sender, Recipients, Content, Waiting, Ended}
+use Rattle.mail_world.specs.declared.State.TheVariants.{Fresh, Content, Waiting, Ended}
 use Rattle.mail_world.specs.Text.{crlf, place_of}
 use Rattle.mail_world.specs.Data.{data_end}
 use Rattle.mail_world.specs.Site.{Site}
