@@ -1,4 +1,4 @@
--- Two runs after which nothing goes on: the channel has no capacity; there are more copies than there is room for slips.
+-- Two runs after which nothing goes on: a channel has no capacity; there are more copies than room for slips.
 use Rattle.std.proofs.Common.{List, [], ◌∷◌, ◌++◌, None, inl, inr, refl, lit≤}
 use Rattle.mail_world.specs.House.{House}
 use Rattle.mail_world.specs.Runs.{Happened, Run, last_house}

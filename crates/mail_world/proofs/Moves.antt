@@ -67,8 +67,8 @@ module _ {B : Type 0} where
   if_draft (Draft bytes blocks) f = f bytes blocks refl
   if_draft _ f = None
 
-  abbrev if_sealed : (held : Held) → ((bytes blocks : List ℕ) (weight : ℕ) → held ≡ Sealed bytes blocks weight → Option B)
-      → Option B
+  abbrev if_sealed : (held : Held) → ((bytes blocks : List ℕ) (weight : ℕ)
+      → held ≡ Sealed bytes blocks weight → Option B) → Option B
   if_sealed (Sealed bytes blocks weight) f = f bytes blocks weight refl
   if_sealed _ f = None
 
@@ -107,15 +107,17 @@ module _ (h : House) where
       if_draft (held_under h.depot key) (f lane is key draft)))
 
   abbrev in_message : (key : Key) → ((bytes blocks : List ℕ) (weight : ℕ)
-      → held_under h.depot key ≡ Sealed bytes blocks weight → 1 ≤ weight_under h.depot key → Option (Next h)) → Option (Next h)
+      → held_under h.depot key ≡ Sealed bytes blocks weight → 1 ≤ weight_under h.depot key → Option (Next h))
+      → Option (Next h)
   in_message key f = if_sealed (held_under h.depot key) (λ bytes blocks weight e.
       if_at_most 1 (weight_under h.depot key) (f bytes blocks weight e))
 
   abbrev with_copy : ((lane : Lane) → LaneIs h 0 lane → (sealed : SealedMessage) → HasCopy lane 0 0 sealed
       → Option (Next h)) → Option (Next h)
   with_copy f = in_lane (λ lane is. if_some (slice_get lane.holds 0) (λ hold at.
-      if_some (slice_get lane.messages 0) (λ sealed there. if_same hold.key.slot sealed.key.slot (λ slot. if_same hold.key.generation sealed.key.generation (λ generation.
-      if_same hold.weight 1 (λ one. let key : hold.key ≡ sealed.key = λ i. record { slot = slot i; generation = generation i } in
+      if_some (slice_get lane.messages 0) (λ sealed there. if_same hold.weight 1 (λ one.
+      if_same hold.key.slot sealed.key.slot (λ slot. if_same hold.key.generation sealed.key.generation (λ times.
+      let key : hold.key ≡ sealed.key = λ i. record { slot = slot i; generation = times i } in
       f lane is sealed (step.copy_of lane 0 0 hold sealed at key one there)))))))
 
 abbrev pub begins : Move
