@@ -6,8 +6,8 @@ use Rattle.std.specs.List.{AllByRecursion}
 use Rattle.std.proofs.lemmas.Bool.{eq-eqb}
 use Rattle.std.proofs.lemmas.Option.{slice_get_within}
 use Rattle.mail_world.specs.declared.Event.{Event}
-use Rattle.mail_world.specs.declared.Event.TheVariants.{Begin, Put, Cancel, Seal, Split, Offer, HandBack, Collect, Take, Lock, Miss, Write, Sync, Cut}
-use Rattle.mail_world.specs.declared.Event.TheVariants.{Unlock, Release, GiveSlip, Reclaim, Close}
+use Rattle.mail_world.specs.declared.Event.TheVariants.{Begin, Cancel, Seal, Split, Offer, HandBack, Collect}
+use Rattle.mail_world.specs.declared.Event.TheVariants.{GiveSlip, Reclaim, Close}
 use Rattle.mail_world.specs.House.{Hold, SealedMessage, Lane, House, IsFreshLane, IsStart}
 use Rattle.mail_world.specs.Events.{Step, LaneIs}
 use Rattle.mail_world.specs.Runs.{Happened, Run, last_house, events_of}
@@ -129,7 +129,6 @@ sealed_step : (room : ℕ) (h : House) (e : Event) (new : House) → AllWithin r
     → AllSealedFor ns h → AllSealedFor (λ k. ns k ++ sealed_by k e) new
 sealed_step room h (Begin k) new w kept s st =
     one_lane h new (Begin k) k st.lane _ (ap (λ (x : House). x.lanes) st.after) st.is (goes_as k (Begin k) st.lane _ refl refl refl) (λ v ne. refl)
-sealed_step room h (Put k bytes) new w kept s st = no_lane h new (Put k bytes) (ap (λ (x : House). x.lanes) st.after) (λ v. refl)
 sealed_step room h (Cancel k) new w kept s st =
     one_lane h new (Cancel k) k st.lane _ (ap (λ (x : House). x.lanes) st.after) st.is (goes_as k (Cancel k) st.lane _ refl refl refl) (λ v ne. refl)
 sealed_step room h (Seal k n) new w kept s st =
@@ -166,19 +165,12 @@ sealed_step room h (HandBack k i m) new w kept s st =
     (λ v ne. refl)
 sealed_step room h (Collect k) new w kept s st =
     one_lane h new (Collect k) k st.lane _ (ap (λ (x : House). x.lanes) st.after) st.is (goes_as k (Collect k) st.lane _ refl refl refl) (λ v ne. refl)
-sealed_step room h (Take x) new w kept s st = no_lane h new (Take x) (ap (λ (x : House). x.lanes) st.after) (λ v. refl)
-sealed_step room h (Write x bytes) new w kept s st = no_lane h new (Write x bytes) (ap (λ (x : House). x.lanes) st.after) (λ v. refl)
-sealed_step room h (Sync x) new w kept s st = no_lane h new (Sync x) (ap (λ (x : House). x.lanes) st.after) (λ v. refl)
-sealed_step room h (Lock x bytes) new w kept s st = no_lane h new (Lock x bytes) (ap (λ (x : House). x.lanes) st.after) (λ v. refl)
-sealed_step room h (Miss x) new w kept s st = no_lane h new (Miss x) (ap (λ (x : House). x.lanes) st.after) (λ v. refl)
-sealed_step room h (Cut x) new w kept s st = no_lane h new (Cut x) (ap (λ (x : House). x.lanes) st.after) (λ v. refl)
-sealed_step room h (Unlock x) new w kept s st = no_lane h new (Unlock x) (ap (λ (x : House). x.lanes) st.after) (λ v. refl)
-sealed_step room h (Release x) new w kept s st = no_lane h new (Release x) (ap (λ (x : House). x.lanes) st.after) (λ v. refl)
 sealed_step room h (GiveSlip x o) new w kept s st =
     let k = st.copy.post.note.txn.lane in
     one_lane h new (GiveSlip x o) k st.lane _ (ap (λ (x : House). x.lanes) st.after) st.to (goes_as k (GiveSlip x o) st.lane _ refl refl refl) (λ v ne. refl)
 sealed_step room h (Reclaim slot generation) new w kept s st = no_lane h new (Reclaim slot generation) (ap (λ (x : House). x.lanes) st.2) (λ v. refl)
 sealed_step room h (Close b) new w kept s st = no_lane h new (Close b) (ap (λ (x : House). x.lanes) st.3) (λ v. refl)
+sealed_step room h event new w kept s st = no_lane h new event (ap (λ (x : House). x.lanes) st.after) (λ v. refl)
 
 sealed_run : (room : ℕ) (h : House) (run : List Happened) → AllWithin room h → KeptSoFar h → AllTracked h → Run h run → IsOrderly room h run → (ns : ℕ → List ℕ)
     → AllSealedFor ns h → AllSealedFor (λ k. ns k ++ copies_sealed k (events_of run)) (last_house h run)

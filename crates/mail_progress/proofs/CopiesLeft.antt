@@ -5,7 +5,7 @@ use Rattle.mail_world.specs.declared.Event.{Event}
 use Rattle.mail_world.specs.declared.Event.TheVariants.{Begin, Put, Cancel, Seal, Split, Offer, HandBack, Collect, Miss, Write, Cut, Release, GiveSlip}
 use Rattle.mail_world.specs.declared.Event.TheVariants.{Reclaim, Close}
 use Rattle.mail_world.specs.declared.Note.{Note}
-use Rattle.mail_world.specs.Depot.{Held, Free, Draft, Sealed, Retired}
+use Rattle.mail_world.specs.Depot.{Held, Draft, Sealed}
 use Rattle.mail_world.specs.House.{Hold, Lane, House}
 use Rattle.mail_world.specs.Slips.{slip_of, own_slip, txn_of, gather_for}
 use Rattle.mail_world.specs.Events.{Step, SealStep, OfferStep, HandBackStep, outcome_of, without_copy, sealed_up_to, with_heard}
@@ -20,10 +20,8 @@ use Rattle.mail_progress.proofs.Lowered.{IsSoundSoFar, lowers}
 
 -- a draft is sealed with no more copies than there is room for slips
 abbrev pub copies_of_held : ℕ → Held → ℕ
-copies_of_held room Free = 0
 copies_of_held room (Draft bytes blocks) = room
-copies_of_held room (Sealed bytes blocks weight) = 0
-copies_of_held room Retired = 0
+copies_of_held room _ = 0
 
 abbrev pub copies_of_lane : Lane → ℕ
 copies_of_lane lane = to_give lane.holds

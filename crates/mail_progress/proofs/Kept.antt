@@ -6,9 +6,9 @@ use Rattle.std.specs.List.{AllByRecursion}
 use Rattle.std.proofs.lemmas.List.{length-drop}
 use Rattle.std.proofs.lemmas.Option.{slice_get_within}
 use Rattle.mail_world.specs.declared.Event.{Event}
-use Rattle.mail_world.specs.declared.Event.TheVariants.{Begin, Put, Cancel, Seal, Split, Offer, HandBack, Collect, Take, Lock, Miss, Write, Sync, Cut}
-use Rattle.mail_world.specs.declared.Event.TheVariants.{Unlock, Release, GiveSlip, Reclaim, Close}
-use Rattle.mail_world.specs.House.{Hold, Post, Progress, Taken, Going, Full, Synced, CutBack, Done, Copy, Box, Lane, House, IsFreshBox, IsFreshLane, IsStart}
+use Rattle.mail_world.specs.declared.Event.TheVariants.{Begin, Put, Cancel, Seal, Split, Offer, HandBack, Collect, Take, Lock, Write}
+use Rattle.mail_world.specs.declared.Event.TheVariants.{Release, GiveSlip, Reclaim, Close}
+use Rattle.mail_world.specs.House.{Hold, Post, Progress, Going, Full, Copy, Box, Lane, House, IsFreshBox, IsFreshLane, IsStart}
 use Rattle.mail_world.specs.Events.{Step, LaneIs, BoxIs, added, begun}
 use Rattle.mail_world.specs.Turns.{Standing, has_room}
 use Rattle.mail_world.specs.declared.Note.{Note}
@@ -21,25 +21,9 @@ use Rattle.mail_world.proofs.Depots.{set_at, set_past}
 
 -- the capacity
 capacity_step : (h : House) (e : Event) (new : House) → Step h e new → new.capacity ≡ h.capacity
-capacity_step h (Begin k) new st = ap (λ (x : House). x.capacity) st.after
-capacity_step h (Put k bytes) new st = ap (λ (x : House). x.capacity) st.after
-capacity_step h (Cancel k) new st = ap (λ (x : House). x.capacity) st.after
-capacity_step h (Seal k n) new st = ap (λ (x : House). x.capacity) st.after
-capacity_step h (Split k i) new st = ap (λ (x : House). x.capacity) st.after
-capacity_step h (Offer k note) new st = ap (λ (x : House). x.capacity) st.after
-capacity_step h (HandBack k i b) new st = ap (λ (x : House). x.capacity) st.after
-capacity_step h (Collect k) new st = ap (λ (x : House). x.capacity) st.after
-capacity_step h (Take w) new st = ap (λ (x : House). x.capacity) st.after
-capacity_step h (Write w bytes) new st = ap (λ (x : House). x.capacity) st.after
-capacity_step h (Sync w) new st = ap (λ (x : House). x.capacity) st.after
-capacity_step h (Lock w bytes) new st = ap (λ (x : House). x.capacity) st.after
-capacity_step h (Miss w) new st = ap (λ (x : House). x.capacity) st.after
-capacity_step h (Cut w) new st = ap (λ (x : House). x.capacity) st.after
-capacity_step h (Unlock w) new st = ap (λ (x : House). x.capacity) st.after
-capacity_step h (Release w) new st = ap (λ (x : House). x.capacity) st.after
-capacity_step h (GiveSlip w o) new st = ap (λ (x : House). x.capacity) st.after
 capacity_step h (Reclaim slot generation) new st = ap (λ (x : House). x.capacity) st.2
 capacity_step h (Close b) new st = ap (λ (x : House). x.capacity) st.3
+capacity_step h _ new st = ap (λ (x : House). x.capacity) st.after
 
 pub capacity_run : (h : House) (run : List Happened) → Run h run → (last_house h run).capacity ≡ h.capacity
 capacity_run h [] r = refl
@@ -96,11 +80,7 @@ record Follows (h new : House) : Type 0 where
 
 part_right : (h new : House) → SameAdditions h new → (note : Note) (progress : Progress) → IsPart h note progress → IsPart new note progress
 part_right h new e note (Going lock written) r = let n = ap length (e note lock.bytes) in omega (arith, n, r)
-part_right h new e note Taken r = tt
-part_right h new e note (Full lock) r = tt
-part_right h new e note (Synced lock) r = tt
-part_right h new e note (CutBack lock) r = tt
-part_right h new e note (Done outcome) r = tt
+part_right h new e note _ r = tt
 
 hand_right : (h new : House) → Follows h new → (hand : Option Copy) → HandIsRight h hand → HandIsRight new hand
 hand_right h new f None r = tt
@@ -213,23 +193,11 @@ kept_step h (Lock w bytes) new s st =
     subst KeptSoFar (sym st.after) (kept_box h _ w st.box _ s (λ note bytes. refl) st.is refl refl
     (λ ok. let r = hand_of h st.box st.copy st.in_hand ok.hand in
     record { posts = ok.posts; hand = (r.0, part_begun h st.copy.post.note lock); prefix = ok.prefix }))
-kept_step h (Miss w) new s st =
-    subst KeptSoFar (sym st.after) (kept_box h _ w st.box _ s (λ note bytes. refl) st.is refl refl
-    (λ ok. let r = hand_of h st.box st.copy st.in_hand ok.hand in record { posts = ok.posts; hand = (r.0, tt); prefix = ok.prefix }))
 kept_step h (Write w bytes) new s st =
     subst KeptSoFar (sym st.after) (kept_box h _ w st.box _ s (λ note bytes. refl) st.is refl refl
     (λ ok. let r = hand_of h st.box st.copy st.in_hand ok.hand in
     let part = subst (IsPart h st.copy.post.note) st.going r.1 in
     record { posts = ok.posts; hand = (r.0, part_more h st.copy.post.note st.lock st.written bytes st.more st.next part); prefix = ok.prefix }))
-kept_step h (Sync w) new s st =
-    subst KeptSoFar (sym st.after) (kept_box h _ w st.box _ s (λ note bytes. refl) st.is refl refl
-    (λ ok. let r = hand_of h st.box st.copy st.in_hand ok.hand in record { posts = ok.posts; hand = (r.0, tt); prefix = ok.prefix }))
-kept_step h (Cut w) new s st =
-    subst KeptSoFar (sym st.after) (kept_box h _ w st.box _ s (λ note bytes. refl) st.is refl refl
-    (λ ok. let r = hand_of h st.box st.copy st.in_hand ok.hand in record { posts = ok.posts; hand = (r.0, tt); prefix = ok.prefix }))
-kept_step h (Unlock w) new s st =
-    subst KeptSoFar (sym st.after) (kept_box h _ w st.box _ s (λ note bytes. refl) st.is refl refl
-    (λ ok. let r = hand_of h st.box st.copy st.in_hand ok.hand in record { posts = ok.posts; hand = (r.0, tt); prefix = ok.prefix }))
 kept_step h (Release w) new s st =
     subst KeptSoFar (sym st.after) (kept_box h _ w st.box _ s (λ note bytes. refl) st.is refl refl
     (λ ok. record { posts = ok.posts; hand = hand_of h st.box st.copy st.in_hand ok.hand; prefix = ok.prefix }))
@@ -240,6 +208,9 @@ kept_step h (Reclaim slot generation) new s st = subst KeptSoFar (sym st.2) (kep
 kept_step h (Close b) new s st =
     subst KeptSoFar (sym st.3) (kept_box h _ b st.0 _ s (λ note bytes. refl) st.1 refl refl
     (λ ok. record { posts = ok.posts; hand = ok.hand; prefix = ok.prefix }))
+kept_step h _ new s st =
+    subst KeptSoFar (sym st.after) (kept_box h _ _ st.box _ s (λ note bytes. refl) st.is refl refl
+    (λ ok. let r = hand_of h st.box st.copy st.in_hand ok.hand in record { posts = ok.posts; hand = (r.0, tt); prefix = ok.prefix }))
 
 kept_run : (h : House) (run : List Happened) → KeptSoFar h → Run h run → KeptSoFar (last_house h run)
 kept_run h [] s r = s

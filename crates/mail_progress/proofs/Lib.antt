@@ -1,8 +1,7 @@
 pub mod Started
 pub mod EndsOfRuns
 pub mod Still
-pub mod NoCapacity
-pub mod NoRoomForSlips
+pub mod StandStill
 pub mod Sums
 pub mod Within
 pub mod Found

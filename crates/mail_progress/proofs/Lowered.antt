@@ -46,18 +46,8 @@ each_step n h (Reclaim slot generation) new s st =
     subst (λ (x : House). HasEachBlockOnce n x.depot) (sym st.2)
     ((drops_turn h.depot (record { slot = slot; generation = generation }) (λ b blocks. Sealed b blocks 0) st.0 (λ b blocks. refl) (λ b blocks. refl)
     (λ b blocks e. cc) st.1).blocks n s)
-each_step n h (Split k i) new s st = subst (λ (x : House). HasEachBlockOnce n x.depot) (sym st.after) s
-each_step n h (Offer k note) new s st = subst (λ (x : House). HasEachBlockOnce n x.depot) (sym st.after) s
-each_step n h (Collect k) new s st = subst (λ (x : House). HasEachBlockOnce n x.depot) (sym st.after) s
-each_step n h (Take w) new s st = subst (λ (x : House). HasEachBlockOnce n x.depot) (sym st.after) s
-each_step n h (Write w bytes) new s st = subst (λ (x : House). HasEachBlockOnce n x.depot) (sym st.after) s
-each_step n h (Sync w) new s st = subst (λ (x : House). HasEachBlockOnce n x.depot) (sym st.after) s
-each_step n h (Lock w bytes) new s st = subst (λ (x : House). HasEachBlockOnce n x.depot) (sym st.after) s
-each_step n h (Miss w) new s st = subst (λ (x : House). HasEachBlockOnce n x.depot) (sym st.after) s
-each_step n h (Cut w) new s st = subst (λ (x : House). HasEachBlockOnce n x.depot) (sym st.after) s
-each_step n h (Unlock w) new s st = subst (λ (x : House). HasEachBlockOnce n x.depot) (sym st.after) s
-each_step n h (GiveSlip w o) new s st = subst (λ (x : House). HasEachBlockOnce n x.depot) (sym st.after) s
 each_step n h (Close b) new s st = subst (λ (x : House). HasEachBlockOnce n x.depot) (sym st.3) s
+each_step n h _ new s st = subst (λ (x : House). HasEachBlockOnce n x.depot) (sym st.after) s
 
 -- and each copy that was taken has its turn
 pub record IsSoundSoFar (n : ℕ) (h : House) : Type 0 where

@@ -6,7 +6,7 @@ use Rattle.mail_world.specs.declared.Note.{Note}
 use Rattle.mail_world.specs.Records.{record_of}
 use Rattle.mail_world.specs.Endings.{mended}
 use Rattle.mail_world.specs.Turns.{Standing, has_room}
-use Rattle.mail_world.specs.House.{Progress, Taken, Going, Full, Synced, CutBack, Done, House}
+use Rattle.mail_world.specs.House.{Progress, Taken, Going, Full, Synced, Done, House}
 use Rattle.mail_world.proofs.Endings.{mended_few}
 use Rattle.mail_world.specs.Events.{added, begun, TurnEnd, end_of}
 use Rattle.mail_progress.specs.StepsLeft.{steps_of_turn}
@@ -32,7 +32,4 @@ pub unlock_lowers : (h : House) (note : Note) (progress : Progress) (end : TurnE
     → steps_of_turn h note (Done end.outcome) < steps_of_turn h note progress
 unlock_lowers h note Taken end e = cc
 unlock_lowers h note (Done outcome) end e = cc
-unlock_lowers h note (Going lock written) end e = omega arith
-unlock_lowers h note (Full lock) end e = omega arith
-unlock_lowers h note (Synced lock) end e = omega arith
-unlock_lowers h note (CutBack lock) end e = omega arith
+unlock_lowers h note _ end e = omega arith

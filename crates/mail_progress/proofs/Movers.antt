@@ -1,5 +1,5 @@
 -- In an orderly run whatever is under way is moved.
-use Rattle.std.proofs.Common.{◌≡◌, ◌≢◌, ◌⊎◌, ℕ, zero, suc, ◌+◌, ◌-◌, ◌<◌, ◌≤◌, List, [], ◌∷◌, ◌++◌, length, drop, map, Bool, true, false, Option, Some}
+use Rattle.std.proofs.Common.{◌≡◌, ◌≢◌, ◌⊎◌, ℕ, zero, suc, ◌+◌, ◌<◌, ◌≤◌, List, [], ◌∷◌, length, drop, map, Bool, true, false, Option, Some}
 use Rattle.std.proofs.Common.{None, inl, inr, refl, ap, sym, ◌∙◌, subst, arith}
 use Rattle.std.specs.Prelude.{slice_get, flat_map, IfSome, sum_by, count_by, find, option_map, nat_lt, cond}
 use Rattle.std.specs.List.{list_any, range_with_len}
@@ -16,14 +16,14 @@ use Rattle.std.proofs.lemmas.Bool.{eq-eqb}
 use Rattle.std.proofs.lemmas.List.{drop_all}
 use Rattle.mail_world.specs.declared.Note.{Note}
 use Rattle.mail_world.specs.declared.Event.TheVariants.{Seal, Split, Offer, HandBack, Collect, Reclaim}
-use Rattle.mail_world.specs.Depot.{Key, Slot, Sealed, held_under, weight_held, weight_under, given_back, Depot}
+use Rattle.mail_world.specs.Depot.{Key, Slot, Sealed, held_under, weight_held, weight_under, Depot}
 use Rattle.mail_world.specs.House.{Hold, Post, Copy, Box, SealedMessage, Lane, House}
 use Rattle.mail_world.specs.Events.{LaneIs, BoxIs}
 use Rattle.mail_world.specs.Runs.{last_house, hold_of, posts_of, is_same_key, weight_of, holds_of}
 use Rattle.mail_world.proofs.Accepted.{each_at}
-use Rattle.mail_world.proofs.Depots.{times-append}
 use Rattle.mail_world.proofs.Once.{is_copy}
 use Rattle.mail_world.proofs.OtherSteps.{there_is}
+use Rattle.mail_world.proofs.OtherSteps as step
 use Rattle.mail_progress.specs.Orderly.{not_taken, on_way}
 use Rattle.mail_progress.specs.NothingStuck.{Mover, AnyHolder, IsMovedBy, TheLane, TheWorker, LaneOrWorker, HasToOffer, IsOpenAndFull, IsAtWork, HasHold}
 use Rattle.mail_progress.specs.NothingStuck.{IsHolder, HasCopyFor, AreThere, AreClosed, NothingIsStuck, NothingIsStuckWhenClosed}
@@ -37,15 +37,7 @@ use Rattle.mail_progress.proofs.CopyMovers.{hand_moves, accepted_moves}
 unfoldable pub split_moves : (room : ℕ) (next : ℕ → ℕ) (h : House) (k i : ℕ) (lane : Lane) (hold : Hold) → LaneIs h k lane → slice_get lane.holds i ≡ Some hold
     → 2 ≤ hold.weight → IsMovedBy (TheLane k) room next h
 split_moves room next h k i lane hold at there heavy =
-    let its : slice_get lane.holds i ≡ Some (record { key = hold.key; weight = hold.weight - 1 + 1 }) =
-    there ∙ ap (λ m. let x : Hold = record { key = hold.key; weight = m } in Some x) (let s : hold.weight ≡ hold.weight - 1 + 1 = omega arith in s) in
-    record {
-      event = Split k i;
-      by = refl;
-      goes_on = tt;
-      in_order = tt;
-      happens = (_, record { lane = lane; key = hold.key; weight = hold.weight - 1; is = at; hold = its; above = omega arith; after = refl });
-    }
+    record { event = Split k i; by = refl; goes_on = tt; in_order = tt; happens = step.split h k i lane hold at there heavy }
 
 unfoldable pub offer_moves : (room blocks : ℕ) (next : ℕ → ℕ) (h : House) → IsReached room blocks h → 1 ≤ h.capacity
     → (k : ℕ) (lane : Lane) (hold : Hold) (box : Box) → LaneIs h k lane → slice_get lane.holds 0 ≡ Some hold → hold.weight ≡ 1
@@ -63,33 +55,13 @@ offer_moves room blocks next h f c k lane hold box at there one channel opened l
       moment = 0;
       message = m.message;
     } in
-    let its : slice_get lane.holds 0 ≡ Some (record { key = hold.key; weight = 1 }) =
-    there ∙ ap (λ n. let x : Hold = record { key = hold.key; weight = n } in Some x) one in
-    let message : slice_get lane.messages of.place ≡ Some (record { number = m.number; key = hold.key; message = m.message; offered = m.offered }) =
-    of.is ∙ ap (λ key. let x : SealedMessage = record { number = m.number; key = key; message = m.message; offered = m.offered } in Some x) (sym of.key) in
     let below : not_taken box < h.capacity = omega arith in
     record {
       event = Offer k note;
       by = refl;
       goes_on = refl;
       in_order = subst (λ o. IfSome o (λ (b : Box). not_taken b < h.capacity)) (sym channel) below;
-      happens = (
-        _,
-        record {
-          lane = lane;
-          box = box;
-          at = 0;
-          t = of.place;
-          key = hold.key;
-          is = at;
-          copy = record { hold = its; is = message };
-          own = refl;
-          channel = channel;
-          still_open = opened;
-          room = low;
-          after = refl;
-        },
-      );
+      happens = step.offer h k 0 of.place m.key note lane box at (step.copy_of lane 0 of.place hold m there of.key one of.is) refl channel opened low;
     }
 
 unfoldable pub back_moves : (room blocks : ℕ) (next : ℕ → ℕ) (h : House) → IsReached room blocks h → (k : ℕ) (lane : Lane) (hold : Hold) (box : Box)
@@ -134,39 +106,29 @@ weight_moves room blocks next h f c all k lane hold at there (suc zero) e = let 
 weight_moves room blocks next h f c all k lane hold at there (suc (suc n)) e =
     widen (TheLane k) (LaneOrWorker next h k) room next h (λ who by. inl by) (split_moves room next h k 0 lane hold at there (omega arith))
 
-holds_by : (room blocks : ℕ) (next : ℕ → ℕ) (h : House) → IsReached room blocks h → 1 ≤ h.capacity → AreThere next h
-    → (k : ℕ) (lane : Lane) → LaneIs h k lane → (holds : List Hold) → lane.holds ≡ holds → holds ≢ [] → IsMovedBy (LaneOrWorker next h k) room next h
-holds_by room blocks next h f c all k lane at [] e some = absurd (some refl)
-holds_by room blocks next h f c all k lane at (hold ∷ holds) e some =
-    weight_moves room blocks next h f c all k lane hold at (ap (λ hs. slice_get hs 0) e) hold.weight refl
+first_hold : (lane : Lane) → lane.holds ≢ [] → (hold : Hold) × (slice_get lane.holds 0 ≡ Some hold)
+first_hold lane some = by lane.holds refl
+  where
+    by : (holds : List Hold) → lane.holds ≡ holds → (hold : Hold) × (slice_get lane.holds 0 ≡ Some hold)
+    by [] e = absurd (some e)
+    by (hold ∷ holds) e = (hold, ap (λ hs. slice_get hs 0) e)
 
 pub offers_move : (room blocks : ℕ) (next : ℕ → ℕ) (h : House) → IsReached room blocks h → 1 ≤ h.capacity → AreThere next h
     → (k : ℕ) (lane : Lane) → LaneIs h k lane → lane.holds ≢ [] → IsMovedBy (LaneOrWorker next h k) room next h
-offers_move room blocks next h f c all k lane at some = holds_by room blocks next h f c all k lane at lane.holds refl some
+offers_move room blocks next h f c all k lane at some = let first = first_hold lane some in
+    weight_moves room blocks next h f c all k lane first.0 at first.1 first.0.weight refl
 
 -- a slip to collect
 unfoldable pub collect_moves : (room : ℕ) (next : ℕ → ℕ) (h : House) (k : ℕ) (lane : Lane) → LaneIs h k lane → lane.collected < length lane.slips
     → lane.holds ≡ [] → IsMovedBy (TheLane k) room next h
 collect_moves room next h k lane at some e =
-    let oldest = there_is lane.slips lane.collected some in
     record {
       event = Collect k;
       by = refl;
       goes_on = tt;
       in_order = subst (λ o. IfSome o (λ (l : Lane). l.holds ≡ [])) (sym at) e;
-      happens = (_, record { lane = lane; slip = oldest.0; is = at; oldest = oldest.1; after = refl });
+      happens = step.collect h k lane at some;
     }
-
-collect_by : (room blocks : ℕ) (next : ℕ → ℕ) (h : House) → IsReached room blocks h → 1 ≤ h.capacity → AreThere next h
-    → (k : ℕ) (lane : Lane) → LaneIs h k lane → lane.collected < length lane.slips → (holds : List Hold) → lane.holds ≡ holds
-    → IsMovedBy (LaneOrWorker next h k) room next h
-collect_by room blocks next h f c all k lane at some [] e =
-    widen (TheLane k) (LaneOrWorker next h k) room next h (λ who by. inl by) (collect_moves room next h k lane at some e)
-collect_by room blocks next h f c all k lane at some (hold ∷ holds) e = holds_by room blocks next h f c all k lane at (hold ∷ holds) e (λ bad. cc)
-
-pub collects_move : (room blocks : ℕ) (next : ℕ → ℕ) (h : House) → IsReached room blocks h → 1 ≤ h.capacity → AreThere next h
-    → (k : ℕ) (lane : Lane) → LaneIs h k lane → lane.collected < length lane.slips → IsMovedBy (LaneOrWorker next h k) room next h
-collects_move room blocks next h f c all k lane at some = collect_by room blocks next h f c all k lane at some lane.holds refl
 
 -- a draft
 unfoldable pub draft_moves : (room blocks : ℕ) (next : ℕ → ℕ) (h : House) → IsReached room blocks h → (k : ℕ) (lane : Lane) (key : Key) → LaneIs h k lane
@@ -215,6 +177,16 @@ under h i slot at = rw (at, eq-eqb slot.generation slot.generation refl) refl
 abbrev pub OffersMove : (ℕ → Mover → Type 0) → ℕ → (ℕ → ℕ) → House → Type 0
 OffersMove Movers room next h = (k : ℕ) (lane : Lane) → LaneIs h k lane → lane.holds ≢ [] → IsMovedBy (Movers k) room next h
 
+abbrev pub CollectsMove : (ℕ → Mover → Type 0) → ℕ → (ℕ → ℕ) → House → Type 0
+CollectsMove Movers room next h = (k : ℕ) (lane : Lane) → LaneIs h k lane → lane.collected < length lane.slips → IsMovedBy (Movers k) room next h
+
+collects_move : (Movers : ℕ → Mover → Type 0) (room : ℕ) (next : ℕ → ℕ) (h : House) → ((k : ℕ) (who : Mover) → TheLane k who → Movers k who)
+    → OffersMove Movers room next h → CollectsMove Movers room next h
+collects_move Movers room next h own offers k lane at some = elim (some_holds lane) [
+  | inl has ↦ offers k lane at has
+  | inr none ↦ widen (TheLane k) (Movers k) room next h (own k) (collect_moves room next h k lane at some none)
+]
+
 has_some : (key : Key) (holds : List Hold) → HasHold key holds → holds ≢ []
 has_some key holds has e = let none : HasHold key [] = subst (HasHold key) e has in cc
 
@@ -236,28 +208,8 @@ unfoldable pub reclaim_moves : (room : ℕ) (next : ℕ → ℕ) (h : House) (i 
     → IsMovedBy (λ who. who ≡ AnyHolder (record { slot = i; generation = slot.generation })) room next h
 reclaim_moves room next h i slot bytes its at e =
     let key : Key = record { slot = i; generation = slot.generation } in
-    record {
-      event = Reclaim i slot.generation;
-      by = refl;
-      goes_on = tt;
-      in_order = tt;
-      happens = (
-        _,
-        (
-          given_back h.depot key (its ++ h.depot.free),
-          record {
-            bytes = bytes;
-            blocks = its;
-            free = its ++ h.depot.free;
-            message = under h i slot at
-                ∙ e;
-            given = λ x. times-append x its h.depot.free;
-            after = refl;
-          },
-          refl,
-        ),
-      );
-    }
+    let happens = step.reclaim h key bytes its (under h i slot at ∙ e) in
+    record { event = Reclaim i slot.generation; by = refl; goes_on = tt; in_order = tt; happens = happens }
 
 sealed_by : (Movers : ℕ → Mover → Type 0) (room blocks : ℕ) (next : ℕ → ℕ) (h : House) → IsReached room blocks h → OffersMove Movers room next h
     → (i : ℕ) (slot : Slot) (bytes its : List ℕ) (weight : ℕ) → slice_get h.depot.slots i ≡ Some slot → slot.held ≡ Sealed bytes its weight
@@ -362,7 +314,7 @@ none_at_work lane idle all (inl some) = some idle
 none_at_work lane idle all (inr low) = omega arith
 
 unanswered_by : (Movers : ℕ → Mover → Type 0) (room blocks : ℕ) (next : ℕ → ℕ) (h : House) → IsReached room blocks h → OffersMove Movers room next h
-    → ((k : ℕ) (lane : Lane) → LaneIs h k lane → lane.collected < length lane.slips → IsMovedBy (Movers k) room next h)
+    → CollectsMove Movers room next h
     → (k : ℕ) (lane : Lane) (p : ℕ) → LaneIs h k lane → slice_get lane.gather.places p ≡ Some None → IsMovedBy (AnswerMovers Movers h k lane p) room next h
 unanswered_by Movers room blocks next h f offers collects k lane p at open' =
     let Q : Mover → Type 0 = AnswerMovers Movers h k lane p in
@@ -386,14 +338,16 @@ nothing_is_stuck room blocks start run is r o some capacity next all =
     let h = last_house start run in
     let f = reached room blocks start run is r o some in
     let c : 1 ≤ h.capacity = let e = capacity_run start run r in omega arith in
+    let offers = offers_move room blocks next h f c all in
+    let collects = collects_move (LaneOrWorker next h) room next h (λ k who by. inl by) offers in
     record {
       draft = draft_moves room blocks next h f;
-      to_offer = offers_move room blocks next h f c all;
+      to_offer = offers;
       accepted = accepted_moves room blocks next h f;
       in_hand = hand_moves room blocks next h f;
-      to_collect = collects_move room blocks next h f c all;
-      unanswered = unanswered_by (LaneOrWorker next h) room blocks next h f (offers_move room blocks next h f c all) (collects_move room blocks next h f c all);
-      sealed = sealed_by (LaneOrWorker next h) room blocks next h f (offers_move room blocks next h f c all);
+      to_collect = collects;
+      unanswered = unanswered_by (LaneOrWorker next h) room blocks next h f offers collects;
+      sealed = sealed_by (LaneOrWorker next h) room blocks next h f offers;
     }
 
 -- where all channels are closed
@@ -404,25 +358,13 @@ closed_weight room blocks next h f all shut k lane hold at there (suc zero) e =
     let b = all k lane at in back_moves room blocks next h f k lane hold b.0 at there e b.1 (shut (next k) b.0 b.1)
 closed_weight room blocks next h f all shut k lane hold at there (suc (suc n)) e = split_moves room next h k 0 lane hold at there (omega arith)
 
-closed_offers : (room blocks : ℕ) (next : ℕ → ℕ) (h : House) → IsReached room blocks h → AreThere next h → AreClosed h → (k : ℕ) (lane : Lane) → LaneIs h k lane
-    → (holds : List Hold) → lane.holds ≡ holds → holds ≢ [] → IsMovedBy (TheLane k) room next h
-closed_offers room blocks next h f all shut k lane at [] e some = absurd (some refl)
-closed_offers room blocks next h f all shut k lane at (hold ∷ holds) e some =
-    closed_weight room blocks next h f all shut k lane hold at (ap (λ hs. slice_get hs 0) e) hold.weight refl
-
-closed_collects : (room blocks : ℕ) (next : ℕ → ℕ) (h : House) → IsReached room blocks h → AreThere next h → AreClosed h → (k : ℕ) (lane : Lane)
-    → LaneIs h k lane → lane.collected < length lane.slips → (holds : List Hold) → lane.holds ≡ holds → IsMovedBy (TheLane k) room next h
-closed_collects room blocks next h f all shut k lane at some [] e = collect_moves room next h k lane at some e
-closed_collects room blocks next h f all shut k lane at some (hold ∷ holds) e =
-    closed_offers room blocks next h f all shut k lane at (hold ∷ holds) e (λ bad. cc)
-
 pub nothing_is_stuck_when_closed : NothingIsStuckWhenClosed
 nothing_is_stuck_when_closed room blocks start run is r o some next all shut =
     let h = last_house start run in
     let f = reached room blocks start run is r o some in
-    let offers : OffersMove TheLane room next h = λ k lane at some'. closed_offers room blocks next h f all shut k lane at lane.holds refl some' in
-    let collects : (k : ℕ) (lane : Lane) → LaneIs h k lane → lane.collected < length lane.slips → IsMovedBy (TheLane k) room next h =
-    λ k lane at some'. closed_collects room blocks next h f all shut k lane at some' lane.holds refl in
+    let offers : OffersMove TheLane room next h = λ k lane at some'. let first = first_hold lane some' in
+    closed_weight room blocks next h f all shut k lane first.0 at first.1 first.0.weight refl in
+    let collects = collects_move TheLane room next h (λ k who by. by) offers in
     record {
       draft = draft_moves room blocks next h f;
       to_offer = offers;

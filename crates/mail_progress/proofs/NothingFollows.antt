@@ -3,8 +3,8 @@ use Rattle.std.proofs.Common.{◌≡◌, ℕ, List, [], Option, Some, None, refl
 use Rattle.std.specs.Prelude.{slice_get}
 use Rattle.std.proofs.lemmas.Option.{slice_get_within}
 use Rattle.mail_world.specs.declared.Event.{Event}
-use Rattle.mail_world.specs.declared.Event.TheVariants.{Begin, Put, Cancel, Seal, Split, Offer, HandBack, Collect, Take, Lock, Miss, Write, Sync, Cut}
-use Rattle.mail_world.specs.declared.Event.TheVariants.{Unlock, Release, GiveSlip, Reclaim, Close}
+use Rattle.mail_world.specs.declared.Event.TheVariants.{Cancel, Seal, Split, Offer, HandBack, Collect, Take, Lock, Write, Sync}
+use Rattle.mail_world.specs.declared.Event.TheVariants.{Unlock, Release, GiveSlip, Reclaim}
 use Rattle.mail_world.specs.Depot.{Key, Sealed}
 use Rattle.mail_world.specs.House.{Hold, Copy, Box, Lane, House}
 use Rattle.mail_world.specs.Events.{Step, LaneIs, BoxIs}
@@ -27,9 +27,6 @@ no_copy_there blocks events h f w box copy at hand = let bad : ◌≡◌ {A = Op
 
 none_goes_on : (blocks : ℕ) (next : ℕ → ℕ) (events : List Event) (h : House) → IsFinished blocks events h → (e : Event) (new : House) → GoesOn next h e
     → Step h e new → ⊥
-none_goes_on blocks next events h f (Begin k) new goes st = goes
-none_goes_on blocks next events h f (Put k bytes) new goes st = goes
-none_goes_on blocks next events h f (Close b) new goes st = goes
 none_goes_on blocks next events h f (Cancel k) new goes st = no_draft_there blocks events h f k st.lane st.key st.is st.draft
 none_goes_on blocks next events h f (Seal k n) new goes st = no_draft_there blocks events h f k st.lane st.key st.is st.draft
 none_goes_on blocks next events h f (Split k i) new goes st = no_hold_there blocks events h f k i st.lane _ st.is st.hold
@@ -42,8 +39,6 @@ none_goes_on blocks next events h f (Take w) new goes st =
     let low = slice_get_within st.box.accepted st.box.taken st.post st.oldest in
     let all = f.drained w st.box st.is in absurd (omega arith)
 none_goes_on blocks next events h f (Write w bytes) new goes st = no_copy_there blocks events h f w st.box st.copy st.is st.in_hand
-none_goes_on blocks next events h f (Miss w) new goes st = goes
-none_goes_on blocks next events h f (Cut w) new goes st = goes
 none_goes_on blocks next events h f (Lock w bytes) new goes st = no_copy_there blocks events h f w st.box st.copy st.is st.in_hand
 none_goes_on blocks next events h f (Unlock w) new goes st = no_copy_there blocks events h f w st.box st.copy st.is st.in_hand
 none_goes_on blocks next events h f (Sync w) new goes st = no_copy_there blocks events h f w st.box st.copy st.is st.in_hand
@@ -52,6 +47,7 @@ none_goes_on blocks next events h f (GiveSlip w outcome) new goes st = no_copy_t
 none_goes_on blocks next events h f (Reclaim slot generation) new goes st =
     let key : Key = record { slot = slot; generation = generation } in
     f.reclaimed slot _ st.1.bytes st.1.blocks 0 (used h.depot key (Sealed st.1.bytes st.1.blocks 0) st.1.message (λ e. cc)) refl
+none_goes_on blocks next events h f _ new goes st = goes
 
 pub finished_is_still : FinishedIsStill
 finished_is_still room blocks next events h f m = none_goes_on blocks next events h f m.event m.happens.0 m.goes_on m.happens.1

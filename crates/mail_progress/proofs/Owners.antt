@@ -2,8 +2,8 @@
 use Rattle.std.proofs.Common.{◌≡◌, ◌≢◌, ℕ, suc, ◌+◌, List, [], ◌∷◌, ◌++◌, Bool, true, false, cond, Some, None, inl, inr, refl, ap, sym, ◌∙◌, subst}
 use Rattle.std.specs.Prelude.{slice_get, slice_set, flat_map, nat_lt}
 use Rattle.mail_world.specs.declared.Event.{Event}
-use Rattle.mail_world.specs.declared.Event.TheVariants.{Begin, Put, Cancel, Seal, Split, Offer, HandBack, Collect, Take, Lock, Miss, Write, Sync, Cut}
-use Rattle.mail_world.specs.declared.Event.TheVariants.{Unlock, Release, GiveSlip, Reclaim, Close}
+use Rattle.mail_world.specs.declared.Event.TheVariants.{Begin, Put, Cancel, Seal, Split, Offer, HandBack, Collect}
+use Rattle.mail_world.specs.declared.Event.TheVariants.{Release, GiveSlip, Reclaim, Close}
 use Rattle.mail_world.specs.Depot.{Key, Depot, Slot, Held, Free, Draft, Sealed, Retired, with_held, last_generation, GivesBack, blocks_of}
 use Rattle.mail_world.specs.House.{Lane, House, IsFreshSlot, IsStart}
 use Rattle.mail_world.specs.Events.{Step}
@@ -106,13 +106,6 @@ owned_step h (HandBack k i m) new s st =
     (drops_to h.depot st.depot st.sealed.key (Sealed r.bytes r.blocks r.weight) h.depot.free r.after (λ bytes blocks e. cc))
     (λ its ne o. owner_other h.lanes k st.lane _ its st.is (λ h. h) o) s)
 owned_step h (Collect k) new s st = subst AllOwned (sym st.after) (owned_lane h.depot h.lanes k st.lane _ st.is refl s)
-owned_step h (Take w) new s st = subst AllOwned (sym st.after) s
-owned_step h (Write w bytes) new s st = subst AllOwned (sym st.after) s
-owned_step h (Sync w) new s st = subst AllOwned (sym st.after) s
-owned_step h (Lock w bytes) new s st = subst AllOwned (sym st.after) s
-owned_step h (Miss w) new s st = subst AllOwned (sym st.after) s
-owned_step h (Cut w) new s st = subst AllOwned (sym st.after) s
-owned_step h (Unlock w) new s st = subst AllOwned (sym st.after) s
 owned_step h (Release w) new s st =
     let r = st.releases in
     subst AllOwned (sym st.after)
@@ -124,6 +117,7 @@ owned_step h (Reclaim slot generation) new s st =
     (owned_drop h.depot st.0 slot h.lanes h.lanes
     (drops_back h.depot (record { slot = slot; generation = generation }) (λ b blocks. Sealed b blocks 0) st.0 st.1) (λ its ne o. o) s)
 owned_step h (Close b) new s st = subst AllOwned (sym st.3) s
+owned_step h _ new s st = subst AllOwned (sym st.after) s
 
 owned_run : (h : House) (run : List Happened) → AllOwned h → Run h run → AllOwned (last_house h run)
 owned_run h [] s r = s

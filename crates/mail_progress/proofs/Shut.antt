@@ -2,8 +2,8 @@
 use Rattle.std.proofs.Common.{◌≡◌, ℕ, [], ◌∷◌, true, inl, inr, refl, ap, sym, ◌∙◌}
 use Rattle.std.specs.Prelude.{slice_get, slice_set}
 use Rattle.mail_world.specs.declared.Event.{Event}
-use Rattle.mail_world.specs.declared.Event.TheVariants.{Begin, Put, Cancel, Seal, Split, Offer, HandBack, Collect, Take, Lock, Miss, Write, Sync, Cut}
-use Rattle.mail_world.specs.declared.Event.TheVariants.{Unlock, Release, GiveSlip, Reclaim, Close}
+use Rattle.mail_world.specs.declared.Event.TheVariants.{Begin, Put, Cancel, Seal, Split, Offer, HandBack, Collect}
+use Rattle.mail_world.specs.declared.Event.TheVariants.{Reclaim, Close}
 use Rattle.mail_world.specs.House.{Box, House}
 use Rattle.mail_world.specs.Events.{Step}
 use Rattle.mail_world.proofs.Accepted.{get_set}
@@ -28,16 +28,8 @@ closed_step h (HandBack k i b) new s st = no_box h new (ap (λ (x : House). x.bo
 closed_step h (Collect k) new s st = no_box h new (ap (λ (x : House). x.boxes) st.after) s
 closed_step h (Reclaim slot generation) new s st = no_box h new (ap (λ (x : House). x.boxes) st.2) s
 closed_step h (Offer k note) new s st = one_box h new note.mailbox _ (ap (λ (x : House). x.boxes) st.after) (s note.mailbox st.box st.channel) s
-closed_step h (Take w) new s st = one_box h new w _ (ap (λ (x : House). x.boxes) st.after) (s w st.box st.is) s
-closed_step h (Write w bytes) new s st = one_box h new w _ (ap (λ (x : House). x.boxes) st.after) (s w st.box st.is) s
-closed_step h (Sync w) new s st = one_box h new w _ (ap (λ (x : House). x.boxes) st.after) (s w st.box st.is) s
-closed_step h (Lock w bytes) new s st = one_box h new w _ (ap (λ (x : House). x.boxes) st.after) (s w st.box st.is) s
-closed_step h (Miss w) new s st = one_box h new w _ (ap (λ (x : House). x.boxes) st.after) (s w st.box st.is) s
-closed_step h (Cut w) new s st = one_box h new w _ (ap (λ (x : House). x.boxes) st.after) (s w st.box st.is) s
-closed_step h (Unlock w) new s st = one_box h new w _ (ap (λ (x : House). x.boxes) st.after) (s w st.box st.is) s
-closed_step h (Release w) new s st = one_box h new w _ (ap (λ (x : House). x.boxes) st.after) (s w st.box st.is) s
-closed_step h (GiveSlip w o) new s st = one_box h new w _ (ap (λ (x : House). x.boxes) st.after) (s w st.box st.is) s
 closed_step h (Close b) new s st = one_box h new b _ (ap (λ (x : House). x.boxes) st.3) refl s
+closed_step h _ new s st = one_box h new _ _ (ap (λ (x : House). x.boxes) st.after) (s _ st.box st.is) s
 
 pub closed_stays : ClosedStays
 closed_stays h [] r s = s

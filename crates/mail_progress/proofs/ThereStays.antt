@@ -2,8 +2,8 @@
 use Rattle.std.proofs.Common.{◌≡◌, List, [], ◌∷◌, length, refl, sym, ◌∙◌, subst, arith}
 use Rattle.std.proofs.lemmas.Option.{slice_get_within}
 use Rattle.mail_world.specs.declared.Event.{Event}
-use Rattle.mail_world.specs.declared.Event.TheVariants.{Begin, Put, Cancel, Seal, Split, Offer, HandBack, Collect, Take, Lock, Miss, Write, Sync, Cut}
-use Rattle.mail_world.specs.declared.Event.TheVariants.{Unlock, Release, GiveSlip, Reclaim, Close}
+use Rattle.mail_world.specs.declared.Event.TheVariants.{Begin, Put, Cancel, Seal, Split, Offer, HandBack, Collect}
+use Rattle.mail_world.specs.declared.Event.TheVariants.{GiveSlip, Reclaim, Close}
 use Rattle.mail_world.specs.House.{House}
 use Rattle.mail_world.specs.Events.{Step}
 use Rattle.mail_world.specs.Runs.{Happened, Run, last_house}
@@ -23,17 +23,10 @@ as_many_step h (Split k i) new st = subst (HasAsMany h) (sym st.after) (length_s
 as_many_step h (Offer k note) new st = subst (HasAsMany h) (sym st.after) (length_set h.lanes k _, length_set h.boxes note.mailbox _)
 as_many_step h (HandBack k i b) new st = subst (HasAsMany h) (sym st.after) (length_set h.lanes k _, refl)
 as_many_step h (Collect k) new st = subst (HasAsMany h) (sym st.after) (length_set h.lanes k _, refl)
-as_many_step h (Take w) new st = subst (HasAsMany h) (sym st.after) (refl, length_set h.boxes w _)
-as_many_step h (Write w bytes) new st = subst (HasAsMany h) (sym st.after) (refl, length_set h.boxes w _)
-as_many_step h (Sync w) new st = subst (HasAsMany h) (sym st.after) (refl, length_set h.boxes w _)
-as_many_step h (Lock w bytes) new st = subst (HasAsMany h) (sym st.after) (refl, length_set h.boxes w _)
-as_many_step h (Miss w) new st = subst (HasAsMany h) (sym st.after) (refl, length_set h.boxes w _)
-as_many_step h (Cut w) new st = subst (HasAsMany h) (sym st.after) (refl, length_set h.boxes w _)
-as_many_step h (Unlock w) new st = subst (HasAsMany h) (sym st.after) (refl, length_set h.boxes w _)
-as_many_step h (Release w) new st = subst (HasAsMany h) (sym st.after) (refl, length_set h.boxes w _)
 as_many_step h (GiveSlip w outcome) new st = subst (HasAsMany h) (sym st.after) (length_set h.lanes st.copy.post.note.txn.lane _, length_set h.boxes w _)
 as_many_step h (Reclaim slot generation) new st = subst (HasAsMany h) (sym st.2) (refl, refl)
 as_many_step h (Close b) new st = subst (HasAsMany h) (sym st.3) (refl, length_set h.boxes b _)
+as_many_step h _ new st = subst (HasAsMany h) (sym st.after) (refl, length_set h.boxes _ _)
 
 as_many : (h : House) (run : List Happened) → Run h run → HasAsMany h (last_house h run)
 as_many h [] r = (refl, refl)

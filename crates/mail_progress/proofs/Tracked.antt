@@ -10,8 +10,8 @@ use Rattle.std.proofs.lemmas.Option.{slice_get_within}
 use Rattle.mail_world.specs.declared.Outcome.{Outcome}
 use Rattle.mail_world.specs.declared.Slip.{Slip}
 use Rattle.mail_world.specs.declared.Event.{Event}
-use Rattle.mail_world.specs.declared.Event.TheVariants.{Begin, Put, Cancel, Seal, Split, Offer, HandBack, Collect, Take, Lock, Miss, Write, Sync, Cut}
-use Rattle.mail_world.specs.declared.Event.TheVariants.{Unlock, Release, GiveSlip, Reclaim, Close}
+use Rattle.mail_world.specs.declared.Event.TheVariants.{Begin, Put, Cancel, Seal, Split, Offer, HandBack, Collect, Take}
+use Rattle.mail_world.specs.declared.Event.TheVariants.{Release, GiveSlip, Reclaim, Close}
 use Rattle.mail_world.specs.Slips.{Gather, names, times_named, txn_of, gathered, own_slip, slip_of}
 use Rattle.mail_world.specs.Depot.{Key, Depot, Slot, Draft, Sealed, held_under}
 use Rattle.mail_world.specs.House.{Hold, Post, Copy, Box, SealedMessage, Lane, House, IsFreshLane, IsStart}
@@ -396,30 +396,6 @@ tracked_step room h (Take x) new w kept s st =
     ap (λ hand. post_of hand ++ drop st.box.taken st.box.accepted) st.free_hand ∙ drop_get st.box.accepted st.box.taken st.post st.oldest
     ∙ ap (λ j. st.post ∷ drop j st.box.accepted) (sym (add-one st.box.taken)) in
     subst AllTracked (sym st.after) (none_after h h.depot _ (same_depot h.depot) (λ v. box_way h.boxes _ x st.box _ refl st.is (sym posts) v) s)
-tracked_step room h (Write x bytes) new w kept s st =
-    subst AllTracked (sym st.after)
-    (none_after h h.depot _ (same_depot h.depot)
-    (λ v. box_way h.boxes _ x st.box _ refl st.is (ap (λ hand. post_of hand ++ drop st.box.taken st.box.accepted) (sym st.in_hand)) v) s)
-tracked_step room h (Sync x) new w kept s st =
-    subst AllTracked (sym st.after)
-    (none_after h h.depot _ (same_depot h.depot)
-    (λ v. box_way h.boxes _ x st.box _ refl st.is (ap (λ hand. post_of hand ++ drop st.box.taken st.box.accepted) (sym st.in_hand)) v) s)
-tracked_step room h (Lock x bytes) new w kept s st =
-    subst AllTracked (sym st.after)
-    (none_after h h.depot _ (same_depot h.depot)
-    (λ v. box_way h.boxes _ x st.box _ refl st.is (ap (λ hand. post_of hand ++ drop st.box.taken st.box.accepted) (sym st.in_hand)) v) s)
-tracked_step room h (Miss x) new w kept s st =
-    subst AllTracked (sym st.after)
-    (none_after h h.depot _ (same_depot h.depot)
-    (λ v. box_way h.boxes _ x st.box _ refl st.is (ap (λ hand. post_of hand ++ drop st.box.taken st.box.accepted) (sym st.in_hand)) v) s)
-tracked_step room h (Cut x) new w kept s st =
-    subst AllTracked (sym st.after)
-    (none_after h h.depot _ (same_depot h.depot)
-    (λ v. box_way h.boxes _ x st.box _ refl st.is (ap (λ hand. post_of hand ++ drop st.box.taken st.box.accepted) (sym st.in_hand)) v) s)
-tracked_step room h (Unlock x) new w kept s st =
-    subst AllTracked (sym st.after)
-    (none_after h h.depot _ (same_depot h.depot)
-    (λ v. box_way h.boxes _ x st.box _ refl st.is (ap (λ hand. post_of hand ++ drop st.box.taken st.box.accepted) (sym st.in_hand)) v) s)
 tracked_step room h (Release x) new w kept s st =
     subst AllTracked (sym st.after)
     (none_after h st.depot _ (releases_turn h.depot st.copy.post.key st.depot st.releases).fits
@@ -448,6 +424,10 @@ tracked_step room h (Reclaim slot generation) new w kept s st =
     (λ b blocks. refl) (λ b blocks e. cc) st.1).fits (λ v. same_way h.boxes h.boxes refl v) s)
 tracked_step room h (Close b) new w kept s st =
     subst AllTracked (sym st.3) (none_after h h.depot _ (same_depot h.depot) (λ v. box_way h.boxes _ b st.0 _ refl st.1 refl v) s)
+tracked_step room h _ new w kept s st =
+    subst AllTracked (sym st.after)
+    (none_after h h.depot _ (same_depot h.depot)
+    (λ v. box_way h.boxes _ _ st.box _ refl st.is (ap (λ hand. post_of hand ++ drop st.box.taken st.box.accepted) (sym st.in_hand)) v) s)
 
 tracked_run : (room : ℕ) (h : House) (run : List Happened) → AllWithin room h → KeptSoFar h → AllTracked h → Run h run → IsOrderly room h run
     → AllTracked (last_house h run)

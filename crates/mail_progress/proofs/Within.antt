@@ -9,8 +9,8 @@ use Rattle.std.proofs.lemmas.Option.{slice_get_within}
 use Rattle.mail_world.specs.declared.Outcome.{Outcome}
 use Rattle.mail_world.specs.declared.Slip.{Slip}
 use Rattle.mail_world.specs.declared.Event.{Event}
-use Rattle.mail_world.specs.declared.Event.TheVariants.{Begin, Put, Cancel, Seal, Split, Offer, HandBack, Collect, Take, Lock, Miss, Write, Sync, Cut}
-use Rattle.mail_world.specs.declared.Event.TheVariants.{Unlock, Release, GiveSlip, Reclaim, Close}
+use Rattle.mail_world.specs.declared.Event.TheVariants.{Begin, Put, Cancel, Seal, Split, Offer, HandBack, Collect, Take}
+use Rattle.mail_world.specs.declared.Event.TheVariants.{GiveSlip, Reclaim, Close}
 use Rattle.mail_world.specs.Slips.{Gather, place_outcome, is_same_txn, gathered, own_slip, slip_of}
 use Rattle.mail_world.specs.Depot.{Key}
 use Rattle.mail_world.specs.House.{Hold, Post, Copy, Box, Lane, House, IsFreshBox, IsFreshLane, IsStart}
@@ -220,27 +220,6 @@ within_step room h (Take w) new s st o =
     ap (λ hand. post_of hand ++ drop st.box.taken st.box.accepted) st.free_hand ∙ drop_get st.box.accepted st.box.taken st.post st.oldest
     ∙ ap (λ j. st.post ∷ drop j st.box.accepted) (sym (add-one st.box.taken)) in
     box_alone room h new w st.box _ (ap (λ (x : House). x.boxes) st.after) (ap (λ (x : House). x.lanes) st.after) st.is (sym posts) s
-within_step room h (Write w bytes) new s st o =
-    box_alone room h new w st.box _ (ap (λ (x : House). x.boxes) st.after) (ap (λ (x : House). x.lanes) st.after) st.is
-    (ap (λ hand. post_of hand ++ drop st.box.taken st.box.accepted) (sym st.in_hand)) s
-within_step room h (Sync w) new s st o =
-    box_alone room h new w st.box _ (ap (λ (x : House). x.boxes) st.after) (ap (λ (x : House). x.lanes) st.after) st.is
-    (ap (λ hand. post_of hand ++ drop st.box.taken st.box.accepted) (sym st.in_hand)) s
-within_step room h (Lock w bytes) new s st o =
-    box_alone room h new w st.box _ (ap (λ (x : House). x.boxes) st.after) (ap (λ (x : House). x.lanes) st.after) st.is
-    (ap (λ hand. post_of hand ++ drop st.box.taken st.box.accepted) (sym st.in_hand)) s
-within_step room h (Miss w) new s st o =
-    box_alone room h new w st.box _ (ap (λ (x : House). x.boxes) st.after) (ap (λ (x : House). x.lanes) st.after) st.is
-    (ap (λ hand. post_of hand ++ drop st.box.taken st.box.accepted) (sym st.in_hand)) s
-within_step room h (Cut w) new s st o =
-    box_alone room h new w st.box _ (ap (λ (x : House). x.boxes) st.after) (ap (λ (x : House). x.lanes) st.after) st.is
-    (ap (λ hand. post_of hand ++ drop st.box.taken st.box.accepted) (sym st.in_hand)) s
-within_step room h (Unlock w) new s st o =
-    box_alone room h new w st.box _ (ap (λ (x : House). x.boxes) st.after) (ap (λ (x : House). x.lanes) st.after) st.is
-    (ap (λ hand. post_of hand ++ drop st.box.taken st.box.accepted) (sym st.in_hand)) s
-within_step room h (Release w) new s st o =
-    box_alone room h new w st.box _ (ap (λ (x : House). x.boxes) st.after) (ap (λ (x : House). x.lanes) st.after) st.is
-    (ap (λ hand. post_of hand ++ drop st.box.taken st.box.accepted) (sym st.in_hand)) s
 within_step room h (GiveSlip w outcome) new s st o =
     let boxes : new.boxes ≡ slice_set h.boxes w (record st.box { hand = None }) = ap (λ (x : House). x.boxes) st.after in
     let k = st.copy.post.note.txn.lane in
@@ -253,6 +232,9 @@ within_step room h (GiveSlip w outcome) new s st o =
 within_step room h (Reclaim slot generation) new s st o = no_lane room h new (ap (λ (x : House). x.lanes) st.2) (λ v. rw (st.2) (omega arith)) s
 within_step room h (Close b) new s st o =
     box_alone room h new b st.0 _ (ap (λ (x : House). x.boxes) st.3) (ap (λ (x : House). x.lanes) st.3) st.1 refl s
+within_step room h _ new s st o =
+    box_alone room h new _ st.box _ (ap (λ (x : House). x.boxes) st.after) (ap (λ (x : House). x.lanes) st.after) st.is
+    (ap (λ hand. post_of hand ++ drop st.box.taken st.box.accepted) (sym st.in_hand)) s
 
 pub within_run : (room : ℕ) (h : House) (run : List Happened) → AllWithin room h → Run h run → IsOrderly room h run → AllWithin room (last_house h run)
 within_run room h [] s r o = s

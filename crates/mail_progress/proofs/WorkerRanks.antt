@@ -86,11 +86,7 @@ taken_ranks : (room : ℕ) (next : ℕ → ℕ) (h : House) (w : ℕ) (box : Box
     → (progress : Progress) → copy.progress ≡ progress → HasRank room next h 4
 unfolding lock_moves
 taken_ranks room next h w box copy at hand is Taken p = (goes_on (TheWorker w) room next h (lock_moves room next h w box copy at hand p), refl)
-taken_ranks room next h w box copy at hand is (Going lock written) p = let bad = ap is_taken p in cc
-taken_ranks room next h w box copy at hand is (Full lock) p = let bad = ap is_taken p in cc
-taken_ranks room next h w box copy at hand is (Synced lock) p = let bad = ap is_taken p in cc
-taken_ranks room next h w box copy at hand is (CutBack lock) p = let bad = ap is_taken p in cc
-taken_ranks room next h w box copy at hand is (Done outcome) p = let bad = ap is_taken p in cc
+taken_ranks room next h w box copy at hand is _ p = let bad = ap is_taken p in cc
 
 pub locks_decided : (room blocks : ℕ) (next : ℕ → ℕ) (h : House) → IsReached room blocks h → IsDecided room next h 4
 locks_decided room blocks next h f =
@@ -139,11 +135,7 @@ more_ranks : (room blocks : ℕ) (next : ℕ → ℕ) (h : House) → IsReached 
     → box.hand ≡ Some copy → 1 ≤ length (rest_of h copy) → (progress : Progress) → copy.progress ≡ progress → HasRank room next h 5
 more_ranks room blocks next h f w box copy at hand some (Going at_lock written) p =
     going_ranks room blocks next h f w box copy at hand some at_lock written p (drop written (added h copy.post.note at_lock.bytes)) refl
-more_ranks room blocks next h f w box copy at hand some Taken p = absurd (no_rest h copy Taken p refl some)
-more_ranks room blocks next h f w box copy at hand some (Full at_lock) p = absurd (no_rest h copy (Full at_lock) p refl some)
-more_ranks room blocks next h f w box copy at hand some (Synced at_lock) p = absurd (no_rest h copy (Synced at_lock) p refl some)
-more_ranks room blocks next h f w box copy at hand some (CutBack at_lock) p = absurd (no_rest h copy (CutBack at_lock) p refl some)
-more_ranks room blocks next h f w box copy at hand some (Done outcome) p = absurd (no_rest h copy (Done outcome) p refl some)
+more_ranks room blocks next h f w box copy at hand some other p = absurd (no_rest h copy other p refl some)
 
 all_ranks : (room blocks : ℕ) (next : ℕ → ℕ) (h : House) → IsReached room blocks h → (w : ℕ) (box : Box) (copy : Copy) → BoxIs h w box
     → box.hand ≡ Some copy → length (rest_of h copy) ≡ 0 → (at_lock : Standing) (written : ℕ) → copy.progress ≡ Going at_lock written
@@ -159,11 +151,7 @@ whole_ranks : (room blocks : ℕ) (next : ℕ → ℕ) (h : House) → IsReached
     → HasRank room next h 6
 whole_ranks room blocks next h f w box copy at hand is none (Going at_lock written) p =
     all_ranks room blocks next h f w box copy at hand none at_lock written p (drop written (added h copy.post.note at_lock.bytes)) refl
-whole_ranks room blocks next h f w box copy at hand is none Taken p = let bad = ap is_going p in cc
-whole_ranks room blocks next h f w box copy at hand is none (Full at_lock) p = let bad = ap is_going p in cc
-whole_ranks room blocks next h f w box copy at hand is none (Synced at_lock) p = let bad = ap is_going p in cc
-whole_ranks room blocks next h f w box copy at hand is none (CutBack at_lock) p = let bad = ap is_going p in cc
-whole_ranks room blocks next h f w box copy at hand is none (Done outcome) p = let bad = ap is_going p in cc
+whole_ranks room blocks next h f w box copy at hand is none _ p = let bad = ap is_going p in cc
 
 pub writes_decided : (room blocks : ℕ) (next : ℕ → ℕ) (h : House) → IsReached room blocks h → IsDecided room next h 5
 writes_decided room blocks next h f =
@@ -204,9 +192,7 @@ turn_ranks room blocks next h f w box copy at hand may (Synced at_lock) p =
     end_ranks room blocks next h f w box copy at hand may (record { lock = at_lock; outcome = Stored }) (ap end_of p)
 turn_ranks room blocks next h f w box copy at hand may (CutBack at_lock) p =
     end_ranks room blocks next h f w box copy at hand may (record { lock = at_lock; outcome = Failed }) (ap end_of p)
-turn_ranks room blocks next h f w box copy at hand may Taken p = let bad = ap may_only_end p in cc
-turn_ranks room blocks next h f w box copy at hand may (Going at_lock written) p = let bad = ap may_only_end p in cc
-turn_ranks room blocks next h f w box copy at hand may (Done outcome) p = let bad = ap may_only_end p in cc
+turn_ranks room blocks next h f w box copy at hand may _ p = let bad = ap may_only_end p in cc
 
 pub unlocks_decided : (room blocks : ℕ) (next : ℕ → ℕ) (h : House) → IsReached room blocks h → IsDecided room next h 7
 unlocks_decided room blocks next h f =
@@ -227,11 +213,7 @@ release_ranks : (room blocks : ℕ) (next : ℕ → ℕ) (h : House) → IsReach
 unfolding release_moves
 release_ranks room blocks next h f w box copy at hand held is (Done outcome) p =
     (goes_on (TheWorker w) room next h (release_moves room blocks next h f w box copy at hand outcome p held), refl)
-release_ranks room blocks next h f w box copy at hand held is Taken p = let bad = ap is_done p in cc
-release_ranks room blocks next h f w box copy at hand held is (Going lock written) p = let bad = ap is_done p in cc
-release_ranks room blocks next h f w box copy at hand held is (Full lock) p = let bad = ap is_done p in cc
-release_ranks room blocks next h f w box copy at hand held is (Synced lock) p = let bad = ap is_done p in cc
-release_ranks room blocks next h f w box copy at hand held is (CutBack lock) p = let bad = ap is_done p in cc
+release_ranks room blocks next h f w box copy at hand held is _ p = let bad = ap is_done p in cc
 
 pub releases_decided : (room blocks : ℕ) (next : ℕ → ℕ) (h : House) → IsReached room blocks h → IsDecided room next h 8
 releases_decided room blocks next h f =

@@ -4,7 +4,7 @@ use Rattle.std.proofs.Common.{append_assoc, length-append}
 use Rattle.std.specs.Prelude.{map, option_map}
 use Rattle.std.proofs.lemmas.List.{append-nil}
 use Rattle.mail_world.specs.declared.State.{State}
-use Rattle.mail_world.specs.declared.State.TheVariants.{Fresh, Greeted, Sender, Recipients, Content, Waiting, Ended}
+use Rattle.mail_world.specs.declared.State.TheVariants.{Fresh, Content, Waiting, Ended}
 use Rattle.mail_world.specs.Text.{crlf, place_of}
 use Rattle.mail_world.specs.Data.{data_end}
 use Rattle.mail_world.specs.Site.{Site}
@@ -34,14 +34,11 @@ takes_line : (s : List ℕ) (ds : List Disposition) (c : Cut) → cut Fresh s ds
 takes_line s ds c e = cut_one ds ds (λ n. CommandLine (take n s)) (λ n. n + 2) (place_of crlf s) c (λ n. refl) e
 
 takes_by : (state : State) (s : List ℕ) (ds : List Disposition) (c : Cut) → cut state s ds ≡ Some c → ds ≡ disposition_of c.part ++ c.dispositions
-takes_by Fresh s ds c e = takes_line s ds c e
-takes_by Greeted s ds c e = takes_line s ds c e
-takes_by Sender s ds c e = takes_line s ds c e
-takes_by Recipients s ds c e = takes_line s ds c e
 takes_by Content s [] c e = cc
 takes_by Content s (d ∷ ds) c e = cut_one (d ∷ ds) ds (λ n. MailData (take (n + 3) s) d) (λ n. n + 3) (data_end s) c (λ n. refl) e
 takes_by Waiting s ds c e = cc
 takes_by Ended s ds c e = cc
+takes_by _ s ds c e = takes_line s ds c e
 
 prefix_then : (o : Option Cut) (more : Cut → List Part) (ds : List Disposition) → ((c : Cut) → o ≡ Some c → ds ≡ disposition_of c.part ++ c.dispositions)
     → ((c : Cut) → TakesPrefix (dispositions_of (more c)) c.dispositions) → TakesPrefix (dispositions_of (cut_then o more)) ds

@@ -16,12 +16,8 @@ pub record IsMissing (room : ℕ) (missing : List ℕ) : Type 0 where
   pub most : room ≤ from_line_room
 
 abbrev pub IsSoundEnd : Ending → Type 0
-IsSoundEnd Empty = ⊤
-IsSoundEnd (Begun part) = ⊤
 IsSoundEnd (InFromLine room missing) = IsMissing room missing
-IsSoundEnd NoLf = ⊤
-IsSoundEnd OneLf = ⊤
-IsSoundEnd TwoLf = ⊤
+IsSoundEnd _ = ⊤
 
 sound_pick : (t : Bool) (e e' : Ending) → IsSoundEnd e → IsSoundEnd e' → IsSoundEnd (cond t e e')
 sound_pick true e e' h k = h

@@ -13,7 +13,7 @@ use Rattle.mail_world.specs.Data.{data_end, end_of_data}
 use Rattle.mail_world.specs.Site.{Site}
 use Rattle.mail_world.specs.Session.{Session, fresh, Input, step}
 use Rattle.mail_world.specs.Conversation.{Disposition, Part, CommandLine, MailData, cut_line, cut, cut_then, inputs_of, session_after, replies_to, parts}
-use Rattle.mail_world.specs.Conversation.{session_after_parts, size_of, is_data, OutcomesFit, AllFit, NoDataEnded, Conversation, stop_at, inputs, IsAccount}
+use Rattle.mail_world.specs.Conversation.{session_after_parts, size_of, is_data, OutcomesFit, AllFit, NoDataEnded, Conversation, IsAccount}
 use Rattle.mail_world.specs.Dispositions.{disposition_of, dispositions_of}
 use Rattle.mail_world.proofs.Places.{place_of_stands}
 use Rattle.mail_world.proofs.Cuts.{parts-cut}
@@ -124,13 +124,10 @@ ReadsLines Recipients = ⊤
 ReadsLines _ = ⊥
 
 cut-line : (state : State) (s : List ℕ) (ds : List Disposition) → ReadsLines state → cut state s ds ≡ cut_line s ds
-cut-line Fresh s ds h = refl
-cut-line Greeted s ds h = refl
-cut-line Sender s ds h = refl
-cut-line Recipients s ds h = refl
 cut-line Content s ds h = absurd h
 cut-line Waiting s ds h = absurd h
 cut-line Ended s ds h = absurd h
+cut-line _ s ds h = refl
 
 pub line_within : (s : List ℕ) (n : ℕ) → place_of crlf s ≡ Some n → n + 2 ≤ length s
 line_within s n e = let at = place_of_stands crlf s n e in
@@ -169,31 +166,14 @@ handled_data site s at ps n d h content e fit =
     fit
 
 no_cut : (state : State) (s : List ℕ) → HasNoPart state s → cut state s [] ≡ None
-no_cut Fresh s h = ap (λ o. option_map (λ k. record { part = CommandLine (take k s); size = k + 2; dispositions = [] }) o) h
-no_cut Greeted s h = ap (λ o. option_map (λ k. record { part = CommandLine (take k s); size = k + 2; dispositions = [] }) o) h
-no_cut Sender s h = ap (λ o. option_map (λ k. record { part = CommandLine (take k s); size = k + 2; dispositions = [] }) o) h
-no_cut Recipients s h = ap (λ o. option_map (λ k. record { part = CommandLine (take k s); size = k + 2; dispositions = [] }) o) h
 no_cut Content s h = refl
 no_cut Waiting s h = refl
 no_cut Ended s h = refl
+no_cut _ s h = ap (λ o. option_map (λ k. record { part = CommandLine (take k s); size = k + 2; dispositions = [] }) o) h
 
 no_data_ended : (state : State) (s : List ℕ) → HasNoPart state s → NoDataEnded state s
 no_data_ended Content s h = h
-no_data_ended Fresh s h = tt
-no_data_ended Greeted s h = tt
-no_data_ended Sender s h = tt
-no_data_ended Recipients s h = tt
-no_data_ended Waiting s h = tt
-no_data_ended Ended s h = tt
-
-not_stopped : (state : State) → stop_at state false ≡ []
-not_stopped Fresh = refl
-not_stopped Greeted = refl
-not_stopped Sender = refl
-not_stopped Recipients = refl
-not_stopped Content = refl
-not_stopped Waiting = refl
-not_stopped Ended = refl
+no_data_ended _ s h = tt
 
 abbrev pub account_of : List ℕ → List Part → Conversation
 account_of s ps = record { bytes = s; dispositions = dispositions_of ps; stopped = false }
@@ -209,14 +189,6 @@ all_parts site s at ps h none =
     ∙ ap (λ o. cut_then o (λ c. parts site (session_after site session (inputs_of c.part)) (drop c.size (drop at s)) c.dispositions))
     (no_cut session.state (drop at s) none))
     ∙ append-nil ps
-
-pub all_inputs : (site : Site) (s : List ℕ) (ps : List Part) → parts site fresh s (dispositions_of ps) ≡ ps
-    → inputs site (account_of s ps) ≡ flat_map inputs_of ps
-unfolding inputs
-all_inputs site s ps e =
-    ap (λ (l : List Part). flat_map inputs_of l ++ stop_at (session_after_parts site fresh l).state false) e
-    ∙ ap (λ l. flat_map inputs_of ps ++ l) (not_stopped (session_after_parts site fresh ps).state)
-    ∙ append-nil (flat_map inputs_of ps)
 
 pub all_accounted : (site : Site) (s : List ℕ) (at : ℕ) (ps : List Part) → Handled site s at ps
     → HasNoPart (session_after_parts site fresh ps).state (drop at s)

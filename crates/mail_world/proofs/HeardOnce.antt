@@ -8,8 +8,8 @@ use Rattle.mail_world.specs.declared.Slip.{Slip}
 use Rattle.mail_world.specs.Slips.{names, times_named, gather_for, txn_of, own_slip, slip_of}
 use Rattle.mail_world.specs.House.{Post, Copy, Box, Lane, House, IsFreshBox, IsFreshLane, IsStart}
 use Rattle.mail_world.specs.declared.Event.{Event}
-use Rattle.mail_world.specs.declared.Event.TheVariants.{Begin, Put, Cancel, Seal, Split, Offer, HandBack, Collect, Take, Write, Sync, Lock, Miss, Cut, Unlock}
-use Rattle.mail_world.specs.declared.Event.TheVariants.{Release, GiveSlip, Reclaim, Close}
+use Rattle.mail_world.specs.declared.Event.TheVariants.{Begin, Put, Cancel, Seal, Split, Offer, HandBack, Collect, Take}
+use Rattle.mail_world.specs.declared.Event.TheVariants.{GiveSlip, Reclaim, Close}
 use Rattle.mail_world.specs.Events.{Step, LaneIs, BoxIs, without_copy, sealed_up_to, with_heard, outcome_of}
 use Rattle.mail_world.specs.Runs.{HaveTheirTurns, Happened, Run, last_house, finished_by, HearsOnce}
 use Rattle.mail_world.proofs.Accepted.{get_set, each_at}
@@ -173,27 +173,6 @@ bounded_step h (Take w) new sound all st =
     let one : st.box.taken + 1 - 1 ≡ st.box.taken = omega arith in
     box_alone h new w st.box _ (ap (λ (x : House). x.boxes) st.after) (ap (λ (x : House). x.lanes) st.after) st.is
     (ap (λ n. drop n st.box.accepted) (one ∙ ap (finished_by st.box.taken) (sym st.free_hand))) all
-bounded_step h (Write w bytes) new sound all st =
-    box_alone h new w st.box _ (ap (λ (x : House). x.boxes) st.after) (ap (λ (x : House). x.lanes) st.after) st.is
-    (ap (λ hand. drop (finished_by st.box.taken hand) st.box.accepted) (sym st.in_hand)) all
-bounded_step h (Sync w) new sound all st =
-    box_alone h new w st.box _ (ap (λ (x : House). x.boxes) st.after) (ap (λ (x : House). x.lanes) st.after) st.is
-    (ap (λ hand. drop (finished_by st.box.taken hand) st.box.accepted) (sym st.in_hand)) all
-bounded_step h (Lock w bytes) new sound all st =
-    box_alone h new w st.box _ (ap (λ (x : House). x.boxes) st.after) (ap (λ (x : House). x.lanes) st.after) st.is
-    (ap (λ hand. drop (finished_by st.box.taken hand) st.box.accepted) (sym st.in_hand)) all
-bounded_step h (Miss w) new sound all st =
-    box_alone h new w st.box _ (ap (λ (x : House). x.boxes) st.after) (ap (λ (x : House). x.lanes) st.after) st.is
-    (ap (λ hand. drop (finished_by st.box.taken hand) st.box.accepted) (sym st.in_hand)) all
-bounded_step h (Cut w) new sound all st =
-    box_alone h new w st.box _ (ap (λ (x : House). x.boxes) st.after) (ap (λ (x : House). x.lanes) st.after) st.is
-    (ap (λ hand. drop (finished_by st.box.taken hand) st.box.accepted) (sym st.in_hand)) all
-bounded_step h (Unlock w) new sound all st =
-    box_alone h new w st.box _ (ap (λ (x : House). x.boxes) st.after) (ap (λ (x : House). x.lanes) st.after) st.is
-    (ap (λ hand. drop (finished_by st.box.taken hand) st.box.accepted) (sym st.in_hand)) all
-bounded_step h (Release w) new sound all st =
-    box_alone h new w st.box _ (ap (λ (x : House). x.boxes) st.after) (ap (λ (x : House). x.lanes) st.after) st.is
-    (ap (λ hand. drop (finished_by st.box.taken hand) st.box.accepted) (sym st.in_hand)) all
 bounded_step h (GiveSlip w o) new sound all st =
     let hand = held h st.box st.copy st.in_hand (sound w st.box st.is) in
     let next : Lane = record st.lane { slips = st.lane.slips ++ slip_of w st.copy.post.note (outcome_of st.copy) ∷ [] } in
@@ -205,6 +184,9 @@ bounded_step h (GiveSlip w o) new sound all st =
     (λ v lane txn p ne b. fewer v lane h.boxes new.boxes txn p (let e = way txn p in omega arith) b) all
 bounded_step h (Reclaim slot generation) new sound all st = no_lane h new (ap (λ (x : House). x.lanes) st.2) (λ txn p. rw (st.2) (omega arith)) all
 bounded_step h (Close m) new sound all st = box_alone h new m st.0 _ (ap (λ (x : House). x.boxes) st.3) (ap (λ (x : House). x.lanes) st.3) st.1 refl all
+bounded_step h _ new sound all st =
+    box_alone h new _ st.box _ (ap (λ (x : House). x.boxes) st.after) (ap (λ (x : House). x.lanes) st.after) st.is
+    (ap (λ hand. drop (finished_by st.box.taken hand) st.box.accepted) (sym st.in_hand)) all
 
 bounded_run : (h : House) (run : List Happened) → HaveTheirTurns h → AllBounded h → Run h run → AllBounded (last_house h run)
 bounded_run h [] sound all r = all

@@ -13,8 +13,8 @@ use Rattle.mail_world.specs.Slips.{names, times_named, gather_for, txn_of, own_s
 use Rattle.mail_world.specs.Depot.{Key}
 use Rattle.mail_world.specs.House.{Post, Box, SealedMessage, Lane, House, IsFreshBox, IsFreshLane, IsStart}
 use Rattle.mail_world.specs.declared.Event.{Event}
-use Rattle.mail_world.specs.declared.Event.TheVariants.{Begin, Put, Cancel, Seal, Split, Offer, HandBack, Collect, Take, Write, Sync, Lock, Miss, Cut, Unlock}
-use Rattle.mail_world.specs.declared.Event.TheVariants.{Release, GiveSlip, Reclaim, Close}
+use Rattle.mail_world.specs.declared.Event.TheVariants.{Begin, Put, Cancel, Seal, Split, Offer, HandBack, Collect}
+use Rattle.mail_world.specs.declared.Event.TheVariants.{GiveSlip, Reclaim, Close}
 use Rattle.mail_world.specs.Events.{Step, LaneIs, BoxIs, without_copy, sealed_up_to, with_heard, outcome_of}
 use Rattle.mail_world.specs.Runs.{Happened, Run, last_house, events_of, times_copied, is_collect, handed_back_by, handed_back, IsOfMessage, IsHandedBack}
 use Rattle.mail_world.specs.Runs.{HasHeard}
@@ -288,30 +288,6 @@ so_far_step events h (Offer k note) new all st =
     g))
     (λ v lane ne. quiet_lane events (Offer k note) v lane lane h.boxes new.boxes [] (refl, refl) refl refl (sym (append-nil lane.slips)) (λ slip x. x)
     (λ txn p told g. given_elsewhere k v txn p told (copied txn p h.boxes) (copied txn p new.boxes) lane.messages note st.own ne (more txn p) g)) all
-so_far_step events h (Take w) new all st =
-    no_lane events (Take w) h new (ap (λ (x : House). x.lanes) st.after) (one_box h new w st.box _ (ap (λ (x : House). x.boxes) st.after) st.is refl)
-    (λ v. (refl, refl)) all
-so_far_step events h (Write w bytes) new all st =
-    no_lane events (Write w bytes) h new (ap (λ (x : House). x.lanes) st.after) (one_box h new w st.box _ (ap (λ (x : House). x.boxes) st.after) st.is refl)
-    (λ v. (refl, refl)) all
-so_far_step events h (Sync w) new all st =
-    no_lane events (Sync w) h new (ap (λ (x : House). x.lanes) st.after) (one_box h new w st.box _ (ap (λ (x : House). x.boxes) st.after) st.is refl)
-    (λ v. (refl, refl)) all
-so_far_step events h (Lock w bytes) new all st =
-    no_lane events (Lock w bytes) h new (ap (λ (x : House). x.lanes) st.after) (one_box h new w st.box _ (ap (λ (x : House). x.boxes) st.after) st.is refl)
-    (λ v. (refl, refl)) all
-so_far_step events h (Miss w) new all st =
-    no_lane events (Miss w) h new (ap (λ (x : House). x.lanes) st.after) (one_box h new w st.box _ (ap (λ (x : House). x.boxes) st.after) st.is refl)
-    (λ v. (refl, refl)) all
-so_far_step events h (Cut w) new all st =
-    no_lane events (Cut w) h new (ap (λ (x : House). x.lanes) st.after) (one_box h new w st.box _ (ap (λ (x : House). x.boxes) st.after) st.is refl)
-    (λ v. (refl, refl)) all
-so_far_step events h (Unlock w) new all st =
-    no_lane events (Unlock w) h new (ap (λ (x : House). x.lanes) st.after) (one_box h new w st.box _ (ap (λ (x : House). x.boxes) st.after) st.is refl)
-    (λ v. (refl, refl)) all
-so_far_step events h (Release w) new all st =
-    no_lane events (Release w) h new (ap (λ (x : House). x.lanes) st.after) (one_box h new w st.box _ (ap (λ (x : House). x.boxes) st.after) st.is refl)
-    (λ v. (refl, refl)) all
 so_far_step events h (GiveSlip w o) new all st =
     let k : ℕ = st.copy.post.note.txn.lane in
     let slip : Slip = slip_of w st.copy.post.note (outcome_of st.copy) in
@@ -325,6 +301,9 @@ so_far_step events h (Reclaim slot generation) new all st =
 so_far_step events h (Close m) new all st =
     no_lane events (Close m) h new (ap (λ (x : House). x.lanes) st.3) (one_box h new m st.0 _ (ap (λ (x : House). x.boxes) st.3) st.1 refl) (λ v. (refl, refl))
     all
+so_far_step events h event new all st =
+    no_lane events event h new (ap (λ (x : House). x.lanes) st.after) (one_box h new _ st.box _ (ap (λ (x : House). x.boxes) st.after) st.is refl)
+    (λ v. (refl, refl)) all
 
 so_far_run : (events : List Event) (h : House) (run : List Happened) → AllSoFar events h → Run h run → AllSoFar (events ++ events_of run) (last_house h run)
 so_far_run events h [] all r = rw (append-nil events) all

@@ -1,16 +1,14 @@
--- The transactions of parts, one part at a time; what they owe a mailbox, and what was told of it.
+-- The transactions of parts, one part at a time.
 use Rattle.std.proofs.Common.{◌≡◌, ℕ, ◌+◌, List, [], ◌∷◌, ◌++◌, false, cond, refl, sym, ap, ◌∙◌}
 use Rattle.std.specs.Prelude.{flat_map, if◌then◌else◌}
-use Rattle.std.proofs.lemmas.List.{append-nil}
 use Rattle.mail_world.specs.Data.{message}
 use Rattle.mail_world.specs.Site.{Site}
 use Rattle.mail_world.specs.declared.Verdict.{Verdict}
 use Rattle.mail_world.specs.declared.Verdict.TheVariants as verdicts
-use Rattle.mail_world.specs.Session.{Session, fresh, DataEnded}
-use Rattle.mail_world.specs.Conversation.{Disposition, Part, CommandLine, MailData, inputs_of, outcomes_of, session_after, session_after_parts, parts}
-use Rattle.mail_world.specs.Lists.{Transaction, is_content, accepted_after, transactions_of, transactions, copies_owed, due}
-use Rattle.mail_world.specs.Dispositions.{dispositions_of}
-use Rattle.mail_world.proofs.Handled.{session_after-append, account_of}
+use Rattle.mail_world.specs.Session.{Session, DataEnded}
+use Rattle.mail_world.specs.Conversation.{Disposition, Part, CommandLine, MailData, inputs_of, outcomes_of, session_after, session_after_parts}
+use Rattle.mail_world.specs.Lists.{is_content, accepted_after, transactions_of}
+use Rattle.mail_world.proofs.Handled.{session_after-append}
 
 -- how many DATA commands were accepted after one part
 abbrev pub accepted_after_part : Site → ℕ → Session → Part → ℕ
@@ -53,34 +51,3 @@ transactions-append site n session (MailData text d ∷ ps) qs =
     ∙ ap (λ k. transactions_of site n (session_after site session (inputs_of p)) ps
     ++ transactions_of site (accepted_after site k (session_after site session (inputs_of p)) ps) (session_after_parts site session (p ∷ ps)) qs)
     (sym (same_after_data site n session text d)))
-
--- one more part
-pub accepted-snoc : (site : Site) (ps : List Part) (p : Part)
-    → accepted_after site 0 fresh (ps ++ p ∷ []) ≡ accepted_after_part site (accepted_after site 0 fresh ps) (session_after_parts site fresh ps) p
-accepted-snoc site ps p = accepted-append site 0 fresh ps (p ∷ [])
-
-pub transactions-line : (site : Site) (ps : List Part) (text : List ℕ)
-    → transactions_of site 0 fresh (ps ++ CommandLine text ∷ []) ≡ transactions_of site 0 fresh ps
-transactions-line site ps text = transactions-append site 0 fresh ps (CommandLine text ∷ []) ∙ append-nil (transactions_of site 0 fresh ps)
-
--- the transaction that data ends
-abbrev pub transaction_at : Site → List Part → List ℕ → Disposition → Transaction
-transaction_at site ps text d =
-    record { number = accepted_after site 0 fresh ps; session = session_after_parts site fresh ps; message = message text; disposition = d }
-
-pub transactions-data : (site : Site) (ps : List Part) (text : List ℕ) (d : Disposition)
-    → transactions_of site 0 fresh (ps ++ MailData text d ∷ []) ≡ transactions_of site 0 fresh ps ++ transaction_at site ps text d ∷ []
-transactions-data site ps text d = transactions-append site 0 fresh ps (MailData text d ∷ [])
-
--- all parts of a conversation that is the lane's only one
-pub all_transactions : (site : Site) (s : List ℕ) (ps : List Part) → parts site fresh s (dispositions_of ps) ≡ ps
-    → transactions site 0 (account_of s ps ∷ []) ≡ transactions_of site 0 fresh ps
-unfolding transactions
-all_transactions site s ps e =
-    ap (λ (l : List Part). transactions_of site 0 fresh l ++ transactions site (accepted_after site 0 fresh l) []) e
-    ∙ append-nil (transactions_of site 0 fresh ps)
-
-pub all_due : (site : Site) (box : ℕ) (s : List ℕ) (ps : List Part) → parts site fresh s (dispositions_of ps) ≡ ps
-    → due site 0 box (account_of s ps ∷ []) ≡ copies_owed 0 box (transactions_of site 0 fresh ps)
-unfolding due
-all_due site box s ps e = ap (λ ts. copies_owed 0 box ts) (all_transactions site s ps e)

@@ -1,9 +1,9 @@
-use Rattle.std.proofs.Common.{refl}
-use Rattle.mail_world.specs.Records.{record_of}
-use Rattle.mail_world.proofs.OneRefusal.{note, start, one_run, it_starts}
-use Rattle.mail_world.proofs.RefusalSteps.{it_runs, it_shows, it_drained}
+use Rattle.std.proofs.Common.{refl, length, Some}
+use Rattle.mail_world.proofs.OneHouse.{it_starts}
+use Rattle.mail_world.proofs.Moves.{computed}
+use Rattle.mail_world.proofs.ComputedRuns.{note, text, refusing_start, refusing, it_refuses}
 use Rattle.mail_world.proofs.runs.a_run_refuses.Goals as goal
 
 pub returns : goal.returns
-unfolding record_of
-returns c = (start, one_run, note 1, it_starts, it_runs, refl, refl, it_shows, it_drained)
+unfolding computed refusing
+returns c = (refusing_start, refusing.0, note 1, it_starts 4 (Some (length (text 1))), refusing.1, refl, refl, it_refuses.0, it_refuses.1)
