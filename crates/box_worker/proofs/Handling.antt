@@ -38,11 +38,6 @@ pub text_of : (calendar : Calendar) (site : Site) (note : Note) → record_text 
 unfolding record_of
 text_of calendar site note = refl
 
--- each record ends with LF
-pub some_text : (calendar : Calendar) (site : Site) (note : Note) → 1 ≤ length (record_of calendar site note)
-unfolding record_of
-some_text calendar site note = omega arith
-
 -- a count of one more
 counted_more : (n : ℕ) → min (counted n + 1) (2 ^ 64 - 1) ≡ counted (n + 1)
 counted_more n = omega arith

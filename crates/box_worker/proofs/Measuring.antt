@@ -19,15 +19,6 @@ use Rattle.box_worker.specs.Turned.{HasKeptMended, HasNotKeptMended}
 use Rattle.box_worker.specs.Turned.{MeasuresAgain, DoesInTurn, EndsInTurn}
 use Rattle.box_worker.proofs.Counting.{starts_at, let_in, kept_out}
 
--- a turn that ends, by what was done in it
-pub ends_in_turn : (quota : Option ℕ) (text : List ℕ) (outcome : Outcome) (old done new : MailboxState)
-    → DoesInTurn quota text outcome old done → EndsTurn done.state new.state → new.faulty ≡ done.faulty → EndsInTurn quota text outcome old new
-ends_in_turn quota text Stored old done new d e f = (record { done = done.state; does = d.0; ends = e }, f ∙ d.1)
-ends_in_turn quota text OverQuota old done new d e f = (record { done = done.state; does = d.0; ends = e }, f ∙ d.1)
-ends_in_turn quota text Failed old done new d e f = (record { done = done.state; does = d.0; ends = e }, f ∙ d.1)
-ends_in_turn quota text NoRoom old done new d e f = absurd d
-ends_in_turn quota text TooLarge old done new d e f = absurd d
-
 -- what a worker counts at a lock
 pub measures : (locked : SpoolState) (limit new : Limit) (held : ℕ) (tail : Tail) → ending_of tail ≡ ending locked.bytes
     → held ≡ counted (length locked.bytes) → new ≡ record { quota = limit.quota; held = counted (held + missing tail) }

@@ -93,14 +93,6 @@ nothing_then number session now next inbox same took lost same_times after momen
     (way_gone (with_copies notes now.ends.lane number session moment message) gave (txn_of now.ends.lane number) n past old now x
     inbox same.0 same.1 took lost same_times)
 
--- one after the other
-pub awaits_then : (number : ℕ) (session : Session) (a b c : Sending) → b.ends.lane ≡ a.ends.lane → Awaits number session a b → Awaits number session b c
-    → Awaits number session a c
-awaits_then number session a b c same first second moment message notes gave n past old x =
-    let W : ℕ → Type 0 = λ l. IsUnderWay (with_copies notes l number session moment message) gave (txn_of l number) n past old b
-    → IsUnderWay (with_copies notes l number session moment message) gave (txn_of l number) n past old c in
-    subst W same (second moment message notes gave n past old) (first moment message notes gave n past old x)
-
 pub continues_then : (txn : Txn) (xs ys zs : List Note) (a b c : Sending) → xs ++ ys ≡ zs → Continues txn xs a b → Continues txn ys b c → Continues txn zs a c
 continues_then txn xs ys zs a b c e first second notes gave n past old x =
     let given : (gave ++ map Gave xs) ++ map Gave ys ≡ gave ++ map Gave (xs ++ ys) =

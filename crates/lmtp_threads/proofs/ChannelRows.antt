@@ -41,9 +41,6 @@ module _ {X : Type 0} where
   pub All-at : (P : X → Type 0) (xs : List X) → ((k : ℕ) (x : X) → slice_get xs k ≡ Some x → P x) → All P xs
   All-at P xs h k d below = h k (get_or xs k d) (slice_get-get_or xs k d below)
 
-  pub at_All : (P : X → Type 0) (xs : List X) → All P xs → (k : ℕ) (x : X) → slice_get xs k ≡ Some x → P x
-  at_All P xs all k x e = subst P (get_or_from_slice_get xs k x x e) (all k x (slice_get_within xs k x e))
-
   pub at_each : (P : X → Type 0) (xs : List X) → AllByRecursion P xs → (k : ℕ) (x : X) → slice_get xs k ≡ Some x → P x
   at_each P [] all k x e = let bad : ◌≡◌ {A = Option X} None (Some x) = e in absurd (cc)
   at_each P (y ∷ ys) all zero x e = subst P (let s : ◌≡◌ {A = Option X} (Some y) (Some x) = e in cc) all.0

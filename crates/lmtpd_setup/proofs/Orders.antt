@@ -96,13 +96,6 @@ none_said false true true false false t true some all e = cc
 none_said false true true false true true true some all e = cc
 none_said false true true false true false true some all e = refl
 
--- and one that was made
-pub site_made : (suffix : List ℕ) (site : Site) → has_none site ≡ false → list_all (is_usable_name suffix) site.boxes ≡ true → fault_of site ≡ None
-    → first_fault suffix site ≡ None
-site_made suffix site some all sound =
-    none_said (has_none site) (is_host_name site.host) (list_all is_domain_name site.domains) (has_too_many site) (list_all is_box_name site.boxes)
-    (has_twice site.boxes) (list_all (is_usable_name suffix) site.boxes) some all sound
-
 -- a mailbox that alone makes a site: what is said by the name of its file
 lock_said : (h d b lock : Bool)
     → cond (not h) (Some BadHost) (cond (not d) (Some BadDomain) (cond (not (b && true)) (Some BadBox) None)) ≡ None
@@ -113,12 +106,6 @@ lock_said true false b lock e = cc
 lock_said true true false lock e = cc
 lock_said true true true false e = refl
 lock_said true true true true e = refl
-
-pub one_made : (host : List ℕ) (domains : List (Bor (List ℕ))) (suffix name : List ℕ) (lock : Bool) → is_lock_name (name ++ suffix) ≡ lock
-    → fault_of (site_of_one host domains name) ≡ None → first_fault suffix (site_of_one host domains name) ≡ cond lock (Some fault.Box) None
-one_made host domains suffix name lock is sound =
-    lock_said (is_host_name host) (list_all is_domain_name (texts domains)) (is_box_name name) (is_lock_name (name ++ suffix)) sound
-    ∙ ap (λ l. cond l (Some fault.Box) None) is
 
 usable_of : (h d u : Bool) (x : Option Fault)
     → cond (not h) (Some fault.Host) (cond (not d) (Some fault.Domain) (cond (not (u && true)) (Some fault.Box) x)) ≡ None → u ≡ true

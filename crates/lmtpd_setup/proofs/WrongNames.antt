@@ -171,40 +171,9 @@ name_told words fault.NoThread line is = absurd (no_place words.boxes.items is.w
 name_told words fault.ChannelGone line is = absurd (no_place words.boxes.items is.within)
 name_told words fault.Device line is = absurd (no_place words.boxes.items is.within)
 
--- what ends a server that has no site
-pub no_site : (words : ServeWords) (f : Fault) (s : Stop) (tells : Bool) → tells_names words ≡ tells
-    → (f ≡ fault.Memory) ⊎ (site_fault words.site ≡ Some f)
-    → (s ≡ stop.Fault fault.Memory) ⊎ IsToldIf tells words.site f s → IsNoSite words s
-no_site words f s tells is first (inl memory) = inl memory
-no_site words f s tells is (inr first) (inr told) = inr (f, first, subst (λ t. IsToldIf t words.site f s) (sym is) told)
-no_site words f s true is (inl memory) (inr told) = inl (subst (λ g. IsToldOf words.site g s) memory told)
-no_site words f s false is (inl memory) (inr told) = inl (told ∙ ap stop.Fault memory)
-
--- what is found of faults that are about no name
-pub place_of_none : (suffix : List ℕ) (f : Fault) (names : List (List ℕ)) → ¬ (f ≡ fault.Box) → ¬ (f ≡ fault.TooManyBoxes) → ¬ (f ≡ fault.BoxTwice)
-    → wrong_place suffix f names ≡ length names
-place_of_none suffix fault.Box names a b c = absurd (a refl)
-place_of_none suffix fault.TooManyBoxes names a b c = absurd (b refl)
-place_of_none suffix fault.BoxTwice names a b c = absurd (c refl)
-place_of_none suffix fault.Address names a b c = refl
-place_of_none suffix fault.Port names a b c = refl
-place_of_none suffix fault.NoBox names a b c = refl
-place_of_none suffix fault.Host names a b c = refl
-place_of_none suffix fault.Domain names a b c = refl
-place_of_none suffix fault.Memory names a b c = refl
-place_of_none suffix fault.Listen names a b c = refl
-place_of_none suffix fault.Size names a b c = refl
-place_of_none suffix fault.NoThread names a b c = refl
-place_of_none suffix fault.ChannelGone names a b c = refl
-place_of_none suffix fault.Device names a b c = refl
-
 alone : (b : Bool) → cond (not (b && true)) (Some fault.Box) None ≡ Some fault.Box → b ≡ false
 alone true e = cc
 alone false e = refl
-
--- a name that alone is no mailbox's
-pub bad_alone : (suffix name : List ℕ) → first_fault suffix (site_of_one (codes "h") [] name) ≡ Some fault.Box → is_usable_name suffix name ≡ false
-bad_alone suffix name e = alone (is_usable_name suffix name) e
 
 -- the name at this place stands among those before it, or it doesn't
 pub here : (names : List (Bor (List ℕ))) (k : ℕ) (d : Bor (List ℕ)) → k < length names

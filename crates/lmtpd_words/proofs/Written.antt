@@ -23,18 +23,11 @@ Keeps-appends None v x = tt
 Keeps-appends (Some xs) None x = x
 Keeps-appends (Some xs) (Some ys) x = x ∙ append-nil xs
 
-pub Keeps-same : (u : Option (List ℕ)) → Keeps u u
-Keeps-same None = tt
-Keeps-same (Some xs) = refl
-
 -- the writer took the text up to the rest
 pub record WritesUpTo (old new : Option (List ℕ)) (text rest : List ℕ) : Type 0 where
   pub prefix : List ℕ
   pub whole : text ≡ prefix ++ rest
   pub appended : Appends old new prefix
-
-pub writes_none : (u : Option (List ℕ)) (text : List ℕ) → WritesUpTo u u text text
-writes_none u text = record { prefix = []; whole = refl; appended = Appends-nil u }
 
 pub writes_all : (u v : Option (List ℕ)) (text : List ℕ) → WritesUpTo u v text [] → Appends u v text
 writes_all u v text x = let P : List ℕ → Type 0 = λ l. Appends u v l in subst P (sym (x.whole ∙ append-nil x.prefix)) x.appended
@@ -61,13 +54,6 @@ pub writes_more : (u v w : Option (List ℕ)) (text rest : List ℕ) (n : ℕ) �
     → WritesUpTo u w text (take (length rest - n) (drop n rest))
 writes_more u v w text rest n x y = rw (take_rest rest n)
     (writes_next u v w text (take n rest) (drop n rest) (let P : List ℕ → Type 0 = λ l. WritesUpTo u v text l in subst P (sym (take-append-drop n rest)) x) y)
-
-pub breaks_now : (u v w : Option (List ℕ)) (text rest : List ℕ) → WritesUpTo u v text rest → Keeps v w → IsCutOff u w text
-breaks_now u v w text rest x y =
-    record { prefix = x.prefix; begins = record { rest = rest; whole = x.whole }; appended = Appends-keeps u v w x.prefix x.appended y }
-
-pub nothing_taken : (v w : Option (List ℕ)) (rest : List ℕ) (n : ℕ) → n ≡ 0 → Appends v w (take n rest) → Keeps v w
-nothing_taken v w rest n e x = let P : ℕ → Type 0 = λ k. Appends v w (take k rest) in Keeps-appends v w (subst P e x)
 
 -- a list of texts, one by one
 texts_split : {X : Type 0} (f : X → List ℕ) (xs : List X) (k : ℕ) (d : X) → k < length xs

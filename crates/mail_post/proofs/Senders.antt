@@ -62,11 +62,3 @@ module _ {M : Type 0} where
       (λ (is : k ≡ n). ap (λ (j : ℕ). slice_index_or (new_senders channel n ++ last ∷ []) j d) (is ∙ sym len) ∙ at_last (new_senders channel n) last d
       ∙ (λ i. record { channel = channel; number = sym is i; sent = []; sent_at = []; gone = false }))
       (below_or_last k n l)
-
-  -- two names of the one channel
-  pub one_channel : (i : ℕ) (a b : Channel M) (xs : List (Sender M)) → 0 < length xs → AreSendersFrom i a xs → AreSendersFrom i b xs → a ≡ b
-  one_channel i a b [] l x y = absurd (omega arith)
-  one_channel i a b (z ∷ xs) l x y = sym x.0 ∙ y.0
-
-  pub length-lists : (xs : List (Sender M)) → length (sent_by xs) ≡ length xs
-  length-lists xs = length-map xs (λ x. x.sent)

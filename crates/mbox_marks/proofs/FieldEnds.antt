@@ -88,37 +88,8 @@ HasGone-on first bytes at n place next x y =
           ∙ x.goes rest;
     }
 
--- a mark follows
-pub finds_mark : (first : Place) (bytes : List ℕ) (at : ℕ) (place : Place) → HasGone first bytes at place → BeginsMark place (drop at bytes)
-    → FindsMark first bytes (record { at = at; place = Inside; is_mark = true })
-finds_mark first bytes at place x y = record {
-  within = x.within;
-  goes = λ rest. ap (λ (l : List ℕ). take at bytes ++ l) (y.goes rest) ∙ x.goes rest;
-  inside = λ e. refl;
-  smaller = λ e. let weight = y.weight in let smaller = x.smaller in omega (arith, weight, smaller);
-  held = λ e. absurd (true≢false e);
-}
-
--- the others are held back
-pub holds_rest : (first : Place) (bytes : List ℕ) (at : ℕ) (place : Place) → HasGone first bytes at place → MayBeHeld place (drop at bytes)
-    → FindsMark first bytes (record { at = at; place = place; is_mark = false })
-holds_rest first bytes at place x y = record {
-  within = x.within;
-  goes = x.goes;
-  inside = λ e. absurd (true≢false (sym e));
-  smaller = λ e. absurd (true≢false (sym e));
-  held = λ e. y;
-}
-
 stays : (place : Place) → marks_owed place [] ≡ []
 stays Line = refl
 stays Field = refl
 stays Inside = refl
 stays Body = refl
-
--- or there are none
-pub holds_none : (place : Place) (bytes : List ℕ) (at : ℕ) → at ≤ length bytes → length bytes ≤ at → MayBeHeld place (drop at bytes)
-holds_none place bytes at low high =
-    let all : at ≡ length bytes = omega arith in
-    let none : drop at bytes ≡ [] = ap (λ n. drop n bytes) all ∙ drop-length bytes in
-    subst (MayBeHeld place) (sym none) (record { few = omega arith; whole = stays place })

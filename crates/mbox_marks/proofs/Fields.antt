@@ -44,10 +44,6 @@ either_tells None None bytes f g h k = record {
 
 -- ---- marks by their names
 
-pub mark_by : (text : List ℕ) → is_named text ≡ true → is_mark text ≡ true
-mark_by [] e = cc
-mark_by (b ∷ text) e = rw e refl
-
 pub no_mark_by : (text : List ℕ) → is_named text ≡ false → begins_with was text ≡ false → is_mark text ≡ false
 no_mark_by [] e h = refl
 no_mark_by (b ∷ text) e h = rw (e, h) refl
@@ -60,17 +56,6 @@ not_x b e = elim (cases_Bool (88 == b)) [
   | inl is ↦ absurd (true≢false (subst (λ b. (to_ascii_lowercase b == 120) ≡ false) (sym (eqb-true 88 b is)) e))
   | inr other ↦ other
 ]
-
--- by its first byte
-pub first_other : (b : ℕ) (text : List ℕ)
-    → ((to_ascii_lowercase b == 115) || (to_ascii_lowercase b == 120) || (to_ascii_lowercase b == 99)) ≡ false → is_mark (b ∷ text) ≡ false
-first_other b text e =
-    let p = or_parts ((to_ascii_lowercase b == 115) || (to_ascii_lowercase b == 120)) (to_ascii_lowercase b == 99) e in
-    let q = or_parts (to_ascii_lowercase b == 115) (to_ascii_lowercase b == 120) p.0 in
-    let no_s : (115 == to_ascii_lowercase b) ≡ false = other_way (to_ascii_lowercase b) 115 q.0 in
-    let no_x : (120 == to_ascii_lowercase b) ≡ false = other_way (to_ascii_lowercase b) 120 q.1 in
-    let no_c : (99 == to_ascii_lowercase b) ≡ false = other_way (to_ascii_lowercase b) 99 p.1 in
-    no_mark_by (b ∷ text) (rw (no_s, no_x, no_c) refl) (rw (not_x b q.1) refl)
 
 -- neither of two texts begins with the other
 pub neither : (needed piece rest : List ℕ) → begins_with needed piece ≡ false → begins_with piece needed ≡ false
@@ -91,22 +76,9 @@ unended_prefix (c ∷ a) b h =
     let p = and_parts (not (ends_field c)) (is_unended (a ++ b)) h in
     and_from (not (ends_field c)) (is_unended a) p.0 (unended_prefix a b p.1)
 
--- a part of `X-Was-`
-pub was_begun : (bytes more : List ℕ) → was ≡ bytes ++ more → Tells (Some false) bytes is_named → begins_with was bytes ≡ false
-    → Tells None bytes is_mark
-was_begun bytes more e other no_was =
-    let len = ap length e in record {
-      few = omega (arith, len, length-append bytes more);
-      unended = unended_prefix bytes more (ap is_unended (sym e));
-      other = no_mark_by bytes (nothing_more bytes is_named false other) no_was;
-    }
-
 pub no_was : (bytes : List ℕ) → Tells (Some false) bytes is_named → begins_with was bytes ≡ false → begins_with bytes was ≡ false
     → Tells (Some false) bytes is_mark
 no_was bytes other h k = λ rest. no_mark_by (bytes ++ rest) (other rest) (neither was bytes rest h k)
-
-pub begun_name : (bytes : List ℕ) → Tells None bytes is_named → begins_with was bytes ≡ false → Tells None bytes is_mark
-begun_name bytes h no_was = record { few = h.few; unended = h.unended; other = no_mark_by bytes h.other no_was }
 
 -- ---- steps at a field's beginning
 
@@ -139,13 +111,6 @@ goes_begun (b ∷ bytes) h = record { few = h.few; whole = held_by b bytes h.oth
 
 -- ---- and at a line's
 
-pub goes_empty : (bytes : List ℕ) → Tells (Some true) bytes is_empty_line → GoesOn Line bytes 0 Body
-goes_empty bytes h = record {
-  within = omega arith;
-  smaller = omega arith;
-  goes = λ rest. sym (head_ends (bytes ++ rest) (h rest));
-}
-
 pub line_as_field : (bytes : List ℕ) (step : Step) → Tells (Some false) bytes is_empty_line → IsStep Field bytes step → IsStep Line bytes step
 line_as_field bytes (steps.On n next) h k = record {
   within = k.within;
@@ -158,9 +123,6 @@ line_as_field bytes steps.Held h k = record {
   whole = line_first bytes (nothing_more bytes is_empty_line false h) ∙ k.whole;
 }
 
-pub goes_cr : (bytes : List ℕ) → bytes ≡ cr ∷ [] → MayBeHeld Line bytes
-goes_cr bytes e = subst (MayBeHeld Line) (sym e) (record { few = omega arith; whole = refl })
-
 -- ---- a name, byte by byte
 
 -- the first i bytes are those of the name, whatever the case of its letters
@@ -168,23 +130,6 @@ pub record IsMatched (name bytes : List ℕ) (i : ℕ) : Type 0 where
   pub within : i ≤ length name
   pub same : (rest : List ℕ) → has_name name (bytes ++ rest) ≡ has_name (drop i name) (drop i bytes ++ rest)
   pub unended : is_unended (take i bytes) ≡ true
-
--- the byte after the name
-pub name_ends : (name bytes : List ℕ) (i b : ℕ) → IsMatched name bytes i → i ≡ length name → i < length bytes → get_or bytes i 0 ≡ b
-    → (is : Bool) → is ≡ has_byte (codes ": \t") b → Tells (Some is) bytes (has_name name)
-name_ends name bytes i b h e low at is said = λ rest.
-    let cut : drop i bytes ≡ get_or bytes i 0 ∷ drop (i + 1) bytes = drop_more bytes i 0 low in
-    let none : drop i name ≡ [] = ap (λ n. drop n name) e ∙ drop-length name in
-    h.same rest ∙ ap₂ (λ n t. has_name n (t ++ rest)) none cut ∙ ap (has_byte (codes ": \t")) at ∙ sym said
-
--- another byte than the name's
-pub name_differs : (name bytes : List ℕ) (i c b : ℕ) → IsMatched name bytes i → i < length name → i < length bytes
-    → get_or name i 0 ≡ c → get_or bytes i 0 ≡ b → (to_ascii_lowercase c == to_ascii_lowercase b) ≡ false
-    → Tells (Some false) bytes (has_name name)
-name_differs name bytes i c b h low_name low c_at b_at e = λ rest.
-    let cut : drop i bytes ≡ b ∷ drop (i + 1) bytes = drop_more bytes i 0 low ∙ ap (λ b. b ∷ drop (i + 1) bytes) b_at in
-    let name_cut : drop i name ≡ c ∷ drop (i + 1) name = drop_more name i 0 low_name ∙ ap (λ c. c ∷ drop (i + 1) name) c_at in
-    h.same rest ∙ ap₂ (λ n t. has_name n (t ++ rest)) name_cut cut ∙ rw e refl
 
 -- no field ends with a byte of the name
 plain_at : (name : List ℕ) (i : ℕ) → is_plain_name name ≡ true → i < length name → ends_field (to_ascii_lowercase (get_or name i 0)) ≡ false
@@ -207,23 +152,6 @@ unended_more [] b h e = rw e refl
 unended_more (c ∷ a) b h e =
     let p = and_parts (not (ends_field c)) (is_unended a) h in
     and_from (not (ends_field c)) (is_unended (a ++ b ∷ [])) p.0 (unended_more a b p.1 e)
-
--- one more byte of the name
-pub name_goes_on : (name bytes : List ℕ) (i c b : ℕ) → IsMatched name bytes i → is_plain_name name ≡ true → i < length name → i < length bytes
-    → get_or name i 0 ≡ c → get_or bytes i 0 ≡ b → (to_ascii_lowercase c == to_ascii_lowercase b) ≡ true
-    → IsMatched name bytes (i + 1)
-name_goes_on name bytes i c b h plain low_name low c_at b_at e = record {
-  within = omega arith;
-  same = λ rest.
-      let cut : drop i bytes ≡ b ∷ drop (i + 1) bytes = drop_more bytes i 0 low ∙ ap (λ b. b ∷ drop (i + 1) bytes) b_at in
-      let name_cut : drop i name ≡ c ∷ drop (i + 1) name = drop_more name i 0 low_name ∙ ap (λ c. c ∷ drop (i + 1) name) c_at in
-      h.same rest ∙ ap₂ (λ n t. has_name n (t ++ rest)) name_cut cut ∙ rw e refl;
-  unended =
-      ap is_unended (take_more bytes i 0 low ∙ ap (λ b. take i bytes ++ b ∷ []) b_at)
-      ∙ unended_more (take i bytes) b h.unended (
-      unended_by c b e (ap (λ c. ends_field (to_ascii_lowercase c)) (sym c_at) ∙ plain_at name i plain low_name)
-      );
-}
 
 -- no byte is left
 pub name_begun : (name bytes : List ℕ) (i : ℕ) → IsMatched name bytes i → length bytes ≤ i → length name ≤ 14 → i ≤ length bytes → Tells None bytes (has_name name)

@@ -23,10 +23,6 @@ stays (b ∷ line) one =
     let parts = or_parts (b == lf) (has_byte line lf) one in
     ap (λ e. ending_from e line) (rw parts.0 refl) ∙ stays line parts.1
 
-pub no_lf-tail : (line : List ℕ) → has_byte line lf ≡ false → has_byte (drop 1 line) lf ≡ false
-no_lf-tail [] one = refl
-no_lf-tail (b ∷ line) one = (or_parts (b == lf) (has_byte line lf) one).1
-
 -- ---- after its LF
 
 -- the last byte is an LF

@@ -56,31 +56,6 @@ module _ (calendar : Calendar) (site : Site) (e : Envelope) (message : List ℕ)
       ∙ ap (λ (l : List ℕ). head ++ l) (append_assoc x.text (bytes_owed last []) (lf ∷ []))
       ∙ sym (append_assoc head x.text (bytes_owed last [] ++ lf ∷ []))
 
-  pub record_taken : (s t u v : SpoolState) (first last : Writer) → SpoolTook s t head → BeginsRecord site first
-      → WritesPiece t u first last message → SpoolTook u v (bytes_owed last [] ++ lf ∷ []) → SpoolTook s v text
-  record_taken s t u v first last h begins x y =
-      SpoolTook-as s v text ((head ++ x.text) ++ (bytes_owed last [] ++ lf ∷ [])) (record_parts t u first last begins x)
-      (SpoolTook-then s u v (head ++ x.text) (bytes_owed last [] ++ lf ∷ []) (SpoolTook-then s t u head x.text h x.taken) y)
-
   -- a failure at the head, within a piece, at the end
   pub head_failed : (s t : SpoolState) → SpoolFailed s t head → SpoolFailed s t text
   head_failed s t h = SpoolFailed-as s t text (head ++ (content ++ lf ∷ [])) whole (SpoolFailed-first s t head (content ++ lf ∷ []) h)
-
-  pub end_failed : (s t u v : SpoolState) (first last : Writer) → SpoolTook s t head → BeginsRecord site first
-      → WritesPiece t u first last message → SpoolFailed u v (bytes_owed last [] ++ lf ∷ []) → SpoolFailed s v text
-  end_failed s t u v first last h begins x y =
-      SpoolFailed-as s v text ((head ++ x.text) ++ (bytes_owed last [] ++ lf ∷ [])) (record_parts t u first last begins x)
-      (SpoolFailed-later s u v (head ++ x.text) (bytes_owed last [] ++ lf ∷ []) (SpoolTook-then s t u head x.text h x.taken) y)
-
--- whatever message the piece was a prefix of
-pub piece_failed : (calendar : Calendar) (site : Site) (e : Envelope) (piece rest : List ℕ) (s t u : SpoolState) (first : Writer)
-    → SpoolTook s t (head_text calendar site e) → BeginsRecord site first → FailsPiece t u first piece
-    → SpoolFailed s u (record_text calendar site e (piece ++ rest))
-piece_failed calendar site e piece rest s t u first h begins x =
-    let prefix = x.sure rest in
-    let head = head_text calendar site e in
-    let content : quoted_text (stored_text site (piece ++ rest)) ++ lf ∷ [] ≡ x.text ++ (prefix.rest ++ lf ∷ []) =
-    ap (λ (l : List ℕ). l ++ lf ∷ []) (sym (begins (piece ++ rest)) ∙ prefix.whole) ∙ append_assoc x.text prefix.rest (lf ∷ []) in
-    SpoolFailed-as s u _ _
-    (record_split calendar site e (piece ++ rest) ∙ append_assoc head _ (lf ∷ []) ∙ ap (λ (l : List ℕ). head ++ l) content)
-    (SpoolFailed-later s t u head _ h (SpoolFailed-first t u x.text (prefix.rest ++ lf ∷ []) x.failed))

@@ -177,11 +177,6 @@ module _ (writer view : Writer) (is : writer ≡ view) (h : IsWriter writer) (s 
       ap (λ (l : List ℕ). l ++ lf ∷ []) (owed_last ∙ sym (x.goes []))
       ∙ append_assoc x.text (quoted_owed next []) (lf ∷ [])
 
-  pub end_taken : (next : Pending) → Writes s t (λ more. quoted_owed writer.quoted (writer.held ++ more)) (quoted_owed next)
-      → SpoolTook t u (quoted_owed next [] ++ lf ∷ []) → SpoolTook s u (bytes_owed view [] ++ lf ∷ [])
-  end_taken next x y =
-      SpoolTook-as s u _ _ (owed_parts next x) (SpoolTook-then s t u x.text (quoted_owed next [] ++ lf ∷ []) x.taken y)
-
   pub end_fails : (next : Pending) → Writes s t (λ more. quoted_owed writer.quoted (writer.held ++ more)) (quoted_owed next)
       → SpoolFailed t u (quoted_owed next [] ++ lf ∷ []) → SpoolFailed s u (bytes_owed view [] ++ lf ∷ [])
   end_fails next x y =
