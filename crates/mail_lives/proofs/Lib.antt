@@ -3,3 +3,6 @@ pub mod Mending
 pub mod Bodies
 pub mod Torn
 pub mod Stepping
+pub mod Lived
+pub mod Alone
+pub mod Stays

@@ -1,0 +1,104 @@
+-- The lives of a server at a mailbox: in each it takes turns, until it stops, is killed, or the power goes.
+use Rattle.std.specs.Prelude.{◌≡◌, ◌≢◌, ℕ, false, List, [], ◌∷◌, ◌++◌, flat_map, sum_by, count_by, Option, Some, None}
+use Rattle.mail_world.specs.declared.Note.{Note}
+use Rattle.mail_world.specs.declared.Outcome.{Outcome}
+use Rattle.mail_world.specs.declared.Outcome.TheVariants.{Stored, Failed}
+use Rattle.mail_world.specs.Records.{Calendar}
+use Rattle.mail_world.specs.Reading.{Letter}
+use Rattle.mail_world.specs.Turns.{Standing, Turn, NotHad, Had, Told, HaveTurns, breaks_last}
+use Rattle.mail_lives.specs.Fates.{Fate}
+use Rattle.mail_lives.specs.Steps.{Step, Others, Stores, Rests, Tears, HasLeft, HasTorn}
+use Rattle.mail_world.specs.Site.{Site}
+
+-- what others made of the letters before a turn: what became of each, and which they added
+pub record Gap : Type 0 where
+  pub fates : List Fate
+  pub added : List Letter
+
+-- The copies that a worker took, and their turns; before each turn what others made of the letters, or None where
+-- nothing of the turn is left: it was missed, or it stored nothing and the power went before anything of it was kept.
+pub record Life : Type 0 where
+  pub quota : Option ℕ
+  pub taken : List Note
+  pub turns : List Told
+  pub gaps : List (Option Gap)
+
+-- ---- its bytes
+
+-- What is left of a turn that was had: what stood at its unlock. Of one that broke it is what stood at its lock and any
+-- part of what was to be appended: a loss of power may take what wasn't kept, and bring back what was cut off.
+abbrev pub IsLeft : Calendar → Site → Note → Outcome → Standing → Standing → List ℕ → Type 0
+IsLeft calendar site note Failed lock unlock new = HasTorn calendar site note lock.bytes new
+IsLeft calendar site note _ lock unlock new = new ≡ unlock.bytes
+
+-- from the bytes that were left before a turn to those that are left after it
+abbrev pub TurnLeaves : Calendar → Site → Note → Outcome → Turn → Option Gap → List ℕ → List ℕ → Type 0
+TurnLeaves calendar site note outcome turn None old new = (outcome ≢ Stored) × (new ≡ old)
+TurnLeaves calendar site note outcome NotHad (Some gap) old new = ⊥
+TurnLeaves calendar site note outcome (Had lock unlock) (Some gap) old new =
+    HasLeft gap.fates gap.added old lock.bytes × IsLeft calendar site note outcome lock unlock new
+
+abbrev pub TurnsLeave : Calendar → Site → List Note → List Told → List (Option Gap) → List ℕ → List ℕ → Type 0
+TurnsLeave calendar site [] [] [] old new = new ≡ old
+TurnsLeave calendar site (note ∷ notes) (told ∷ turns) (gap ∷ gaps) old new =
+    (between : List ℕ) × TurnLeaves calendar site note told.outcome told.turn gap old between
+    × TurnsLeave calendar site notes turns gaps between new
+TurnsLeave calendar site _ _ _ old new = ⊥
+
+-- what a life made of a mailbox, from the bytes that it found to those that it left
+pub record HasLived (calendar : Calendar) (site : Site) (life : Life) (old new : List ℕ) : Type 0 where
+  pub are : HaveTurns calendar site life.quota life.taken life.turns
+  pub leave : TurnsLeave calendar site life.taken life.turns life.gaps old new
+
+-- lives one after another, each from what the one before it left
+abbrev pub HaveLived : Calendar → Site → List Life → List ℕ → List ℕ → Type 0
+HaveLived calendar site [] old new = new ≡ old
+HaveLived calendar site (life ∷ lives) old new =
+    (between : List ℕ) × HasLived calendar site life old between × HaveLived calendar site lives between new
+
+-- ---- its steps
+
+-- what a turn does that is left
+abbrev pub turn_step : Note → Outcome → Step
+turn_step note Stored = Stores note
+turn_step note Failed = Tears note
+turn_step note _ = Rests
+
+abbrev pub turn_steps : Note → Outcome → Option Gap → List Step
+turn_steps note outcome None = []
+turn_steps note outcome (Some gap) = Others gap.fates gap.added ∷ turn_step note outcome ∷ []
+
+abbrev pub turns_steps : List Note → List Told → List (Option Gap) → List Step
+turns_steps (note ∷ notes) (told ∷ turns) (gap ∷ gaps) =
+    turn_steps note told.outcome gap ++ turns_steps notes turns gaps
+turns_steps _ _ _ = []
+
+abbrev pub steps_of : Life → List Step
+steps_of life = turns_steps life.taken life.turns life.gaps
+
+abbrev pub lives_steps : List Life → List Step
+lives_steps lives = flat_map steps_of lives
+
+-- ---- what was told
+
+abbrev pub taken_through : List Life → List Note
+taken_through lives = flat_map (λ life. life.taken) lives
+
+-- the copies that were told Stored, in the order of their turns
+abbrev pub if_stored : Note → Outcome → List Note
+if_stored note Stored = note ∷ []
+if_stored note _ = []
+
+abbrev pub told_stored : List Note → List Told → List Note
+told_stored (note ∷ notes) (told ∷ turns) = if_stored note told.outcome ++ told_stored notes turns
+told_stored _ _ = []
+
+abbrev pub told_through : List Life → List Note
+told_through lives = flat_map (λ life. told_stored life.taken life.turns) lives
+
+-- how many turns broke
+abbrev pub broken_in : List Told → ℕ
+broken_in turns = count_by (λ told. breaks_last false told.outcome told.turn) turns
+
+abbrev pub broken_through : List Life → ℕ
+broken_through lives = sum_by (λ life. broken_in life.turns) lives
