@@ -1,5 +1,5 @@
 -- The steps of lives: what they leave, which copies they store, and how many are torn.
-use Rattle.std.proofs.Common.{◌≡◌, ℕ, ◌+◌, ◌≤◌, arith, List, [], ◌∷◌, ◌++◌, cond, false, Option}
+use Rattle.std.proofs.Common.{◌≡◌, ℕ, ◌+◌, ◌≤◌, arith, List, [], ◌∷◌, ◌++◌, cond, false, map, Option}
 use Rattle.std.proofs.Common.{Some, None, refl, ap, ◌∙◌, subst}
 use Rattle.std.specs.List.{AllByRecursion}
 use Rattle.std.proofs.lemmas.Grind.{flat_map-append}
@@ -15,7 +15,7 @@ use Rattle.mail_world.specs.Site.{Site}
 use Rattle.mail_lives.specs.ReadAs.{IsReadAs}
 use Rattle.mail_lives.specs.Steps.{Step, StepsLeave, StepsComeTo, IsMailedStep}
 use Rattle.mail_lives.specs.Lives.{Gap, Life, TurnLeaves, TurnsLeave, HaveLived, turn_steps, turns_steps, steps_of}
-use Rattle.mail_lives.specs.Lives.{lives_steps, taken_through, if_stored, told_stored, told_through, broken_in}
+use Rattle.mail_lives.specs.Lives.{lives_steps, taken_through, if_stored, stored_of, told_in, told_through, broken_in}
 use Rattle.mail_lives.specs.Lives.{broken_through}
 use Rattle.mail_lives.specs.ReadBack.{stored_in, if_stores, tears, torn_in}
 use Rattle.mail_lives.proofs.Lists.{all_front, all_back, all_both}
@@ -74,26 +74,29 @@ module _ (calendar : Calendar) (site : Site) where
 
   turns_do : (notes : List Note) (turns : List Told) (gaps : List (Option Gap)) (quota : Option ℕ) (old new : List ℕ)
       → HaveTurns calendar site quota notes turns → TurnsLeave calendar site notes turns gaps old new
-      → Does (turns_steps notes turns gaps) (told_stored notes turns) (broken_in turns) old new
+      → Does (turns_steps notes turns gaps) (stored_of notes (map (λ told. told.outcome) turns)) (broken_in turns) old new
   turns_do [] [] [] quota old new are h = nothing 0 old new h
   turns_do [] [] (g ∷ gaps) quota old new are h = absurd h
   turns_do [] (t ∷ turns) gaps quota old new are h = absurd are
   turns_do (n ∷ notes) [] gaps quota old new are h = absurd are
   turns_do (n ∷ notes) (t ∷ turns) [] quota old new are h = absurd h
   turns_do (n ∷ notes) (t ∷ turns) (g ∷ gaps) quota old new are h =
-      both (turn_steps n t.outcome g) (turns_steps notes turns gaps) (if_stored n t.outcome) (told_stored notes turns)
+      both (turn_steps n t.outcome g) (turns_steps notes turns gaps) (if_stored n t.outcome)
+      (stored_of notes (map (λ told. told.outcome) turns))
       (cond (breaks_last false t.outcome t.turn) 1 0) (broken_in turns) (broken_in (t ∷ turns)) old h.0 new
       (sum_by-cons (λ told. cond (breaks_last false told.outcome told.turn) 1 0) t turns)
       (turn_does n t.outcome t.turn g quota old h.0 are.0 h.1) (turns_do notes turns gaps quota h.0 new are.1 h.2)
 
   pub lives_do : (lives : List Life) (old new : List ℕ) → HaveLived calendar site lives old new
       → Does (lives_steps lives) (told_through lives) (broken_through lives) old new
-  lives_do [] old new h = nothing 0 old new h
+  lives_do [] old new h = nothing 0 old new h.leave
   lives_do (life ∷ lives) old new h =
-      both (steps_of life) (lives_steps lives) (told_stored life.taken life.turns) (told_through lives)
-      (broken_in life.turns) (broken_through lives) (broken_through (life ∷ lives)) old h.0 new
+      let leave = h.leave in
+      both (steps_of life) (lives_steps lives) (told_in life) (told_through lives)
+      (broken_in life.turns) (broken_through lives) (broken_through (life ∷ lives)) old leave.0 new
       (sum_by-cons (λ (l : Life). broken_in l.turns) life lives)
-      (turns_do life.taken life.turns life.gaps life.quota old h.0 h.1.are h.1.leave) (lives_do lives h.0 new h.2)
+      (turns_do life.taken life.turns life.gaps life.quota old leave.0 h.are.0 leave.1)
+      (lives_do lives leave.0 new (record { are = h.are.1; leave = leave.2 }))
 
 -- ---- of copies that transactions make
 

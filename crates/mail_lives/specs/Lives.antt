@@ -1,5 +1,7 @@
 -- The lives of a server at a mailbox: in each it takes turns, until it stops, is killed, or the power goes.
-use Rattle.std.specs.Prelude.{◌≡◌, ◌≢◌, ℕ, false, List, [], ◌∷◌, ◌++◌, flat_map, sum_by, count_by, Option, Some, None}
+use Rattle.std.specs.Prelude.{◌≡◌, ◌≢◌, ℕ, false, List, [], ◌∷◌, ◌++◌, map, flat_map, sum_by, count_by, Option}
+use Rattle.std.specs.Prelude.{Some, None}
+use Rattle.std.specs.List.{AllByRecursion}
 use Rattle.mail_world.specs.declared.Note.{Note}
 use Rattle.mail_world.specs.declared.Outcome.{Outcome}
 use Rattle.mail_world.specs.declared.Outcome.TheVariants.{Stored, Failed}
@@ -45,16 +47,17 @@ TurnsLeave calendar site (note ∷ notes) (told ∷ turns) (gap ∷ gaps) old ne
     × TurnsLeave calendar site notes turns gaps between new
 TurnsLeave calendar site _ _ _ old new = ⊥
 
--- what a life made of a mailbox, from the bytes that it found to those that it left
-pub record HasLived (calendar : Calendar) (site : Site) (life : Life) (old new : List ℕ) : Type 0 where
-  pub are : HaveTurns calendar site life.quota life.taken life.turns
-  pub leave : TurnsLeave calendar site life.taken life.turns life.gaps old new
+-- from the bytes that the first of these lives found to those that the last of them left
+abbrev pub LivesLeave : Calendar → Site → List Life → List ℕ → List ℕ → Type 0
+LivesLeave calendar site [] old new = new ≡ old
+LivesLeave calendar site (life ∷ lives) old new =
+    (between : List ℕ) × TurnsLeave calendar site life.taken life.turns life.gaps old between
+    × LivesLeave calendar site lives between new
 
--- lives one after another, each from what the one before it left
-abbrev pub HaveLived : Calendar → Site → List Life → List ℕ → List ℕ → Type 0
-HaveLived calendar site [] old new = new ≡ old
-HaveLived calendar site (life ∷ lives) old new =
-    (between : List ℕ) × HasLived calendar site life old between × HaveLived calendar site lives between new
+-- lives one after another: each copy has its turn, and each turn begins with what is left of the one before it
+pub record HaveLived (calendar : Calendar) (site : Site) (lives : List Life) (old new : List ℕ) : Type 0 where
+  pub are : AllByRecursion (λ life. HaveTurns calendar site life.quota life.taken life.turns) lives
+  pub leave : LivesLeave calendar site lives old new
 
 -- ---- its steps
 
@@ -84,17 +87,20 @@ lives_steps lives = flat_map steps_of lives
 abbrev pub taken_through : List Life → List Note
 taken_through lives = flat_map (λ life. life.taken) lives
 
--- the copies that were told Stored, in the order of their turns
+-- the copies of these that were told Stored, by what was told of each
 abbrev pub if_stored : Note → Outcome → List Note
 if_stored note Stored = note ∷ []
 if_stored note _ = []
 
-abbrev pub told_stored : List Note → List Told → List Note
-told_stored (note ∷ notes) (told ∷ turns) = if_stored note told.outcome ++ told_stored notes turns
-told_stored _ _ = []
+abbrev pub stored_of : List Note → List Outcome → List Note
+stored_of (note ∷ notes) (outcome ∷ outcomes) = if_stored note outcome ++ stored_of notes outcomes
+stored_of _ _ = []
+
+abbrev pub told_in : Life → List Note
+told_in life = stored_of life.taken (map (λ told. told.outcome) life.turns)
 
 abbrev pub told_through : List Life → List Note
-told_through lives = flat_map (λ life. told_stored life.taken life.turns) lives
+told_through lives = flat_map told_in lives
 
 -- how many turns broke
 abbrev pub broken_in : List Told → ℕ
