@@ -1,0 +1,80 @@
+-- Runs as lives, and what is read back after them.
+use Rattle.std.proofs.Common.{◌≡◌, ℕ, ◌<◌, List, [], ◌∷◌, ◌++◌, length, refl, sym, ◌∙◌, subst, append_assoc}
+use Rattle.std.specs.Prelude.{◌==◌}
+use Rattle.std.specs.List.{AllByRecursion}
+use Rattle.mail_world.specs.declared.Note.{Note}
+use Rattle.mail_world.specs.Reading.{Letter, IsMailed}
+use Rattle.mail_world.specs.Site.{Site}
+use Rattle.mail_world.specs.Text.{IsOneLine}
+use Rattle.mail_world.specs.Turns.{HaveTurns}
+use Rattle.mail_world.proofs.Heard.{weaken}
+use Rattle.mail_lives.specs.ReadAs.{IsReadAs}
+use Rattle.mail_lives.specs.Lives.{Life, HaveLived, LivesLeave, lives_steps, taken_through, told_in, told_through}
+use Rattle.mail_lives.specs.ReadBack.{IsReadBack}
+use Rattle.mail_lives.proofs.Lists.{all_front, all_back}
+use Rattle.mail_lives.proofs.Lived.{lives_read, lives_do}
+use Rattle.mail_lives.proofs.Stays.{stored_stay}
+use Rattle.lmtp_text.specs.Calendar.{civil_at}
+use Rattle.lmtp_threads.specs.Works.{VisitsView, SpoolsView}
+use Rattle.lmtp_lives.specs.Runs.{ServerRun, life_at, lives_at, told_in_run}
+use Rattle.lmtp_lives.specs.ReadBack.{AreReadBack}
+use Rattle.lmtp_lives.proofs.Told.{all_passed, have_turns, told_stored}
+
+-- each of a list stands somewhere in it
+abbrev StandsIn : {A : Type 0} → List A → A → Type 0
+StandsIn {A} all x = (first : List A) × (more : List A) × (all ≡ first ++ x ∷ more)
+
+stand_in : {A : Type 0} (first xs all : List A) → all ≡ first ++ xs → AllByRecursion (StandsIn all) xs
+stand_in first [] all e = tt
+stand_in first (x ∷ xs) all e =
+    ((first, xs, e), stand_in (first ++ x ∷ []) xs all (e ∙ sym (append_assoc first (x ∷ []) xs)))
+
+module _ {V S C : Type 0} {site : Site} {May : C → ℕ → Type 0} {view : VisitsView V} {spools : SpoolsView S}
+    (b : ℕ) (box : b < length site.boxes) where
+  have_lived : (runs : List (ServerRun site May view spools))
+      → AllByRecursion (λ (life : Life). HaveTurns civil_at site life.quota life.taken life.turns) (lives_at b runs)
+  have_lived [] = tt
+  have_lived (run ∷ runs) = (have_turns run b box, have_lived runs)
+
+  pub lived : (runs : List (ServerRun site May view spools)) (old new : List ℕ)
+      → LivesLeave civil_at site (lives_at b runs) old new → HaveLived civil_at site (lives_at b runs) old new
+  lived runs old new leave = record { are = have_lived runs; leave = leave }
+
+  -- what holds of each copy that was told Stored holds of each of which a client was told so
+  each_told : (P : Note → Type 0) (runs : List (ServerRun site May view spools))
+      → AllByRecursion P (told_through (lives_at b runs))
+      → AllByRecursion (λ run. (k : ℕ) → k < length run.old.visits → AllByRecursion P (told_in_run b k run)) runs
+  each_told P [] h = tt
+  each_told P (run ∷ runs) h =
+      let first : List Note = told_in (life_at b run) in
+      let more : List Note = told_through (lives_at b runs) in (
+        λ k lane. subst (AllByRecursion P) (told_stored run b box k lane)
+            (all_passed P (λ note. note.txn.lane == k) first (all_front P first more h)),
+        each_told P runs (all_back P first more h),
+      )
+
+  pub read_back : (runs : List (ServerRun site May view spools)) (old new : List ℕ) (letters : List Letter)
+      → IsOneLine site.host → AllByRecursion IsMailed (taken_through (lives_at b runs)) → IsReadAs old letters
+      → LivesLeave civil_at site (lives_at b runs) old new
+      → (after : List Letter) × IsReadAs new after × AreReadBack b runs letters after
+  read_back runs old new letters one mailed was leave =
+      let lives : List Life = lives_at b runs in
+      let have = lived runs old new leave in
+      let read = lives_read civil_at site lives old new letters one mailed was have in
+      let did = lives_do civil_at site lives old new have in
+      let Back : Note → Type 0 =
+      λ note. (first : List Note) × IsReadBack civil_at site first note (lives_steps lives) letters read.0 in (
+        read.0,
+        read.1,
+        record {
+          come = read.2;
+          stored = did.stores;
+          torn = did.torn;
+          told = each_told Back runs (weaken (StandsIn (told_through lives)) Back
+              (λ note at. (
+                at.0,
+                stored_stay civil_at site (lives_steps lives) letters read.0 at.0 at.1 note (did.stores ∙ at.2) read.2,
+              ))
+              (told_through lives) (stand_in [] (told_through lives) (told_through lives) refl));
+        },
+      )
