@@ -6,3 +6,5 @@ pub mod Stepping
 pub mod Lived
 pub mod Alone
 pub mod Stays
+pub mod MailedNames
+pub mod MailedDue

@@ -7,4 +7,5 @@
 #![tactic(auto)]
 
 pub mod laws;
+pub mod mailed;
 pub mod rows;
