@@ -187,7 +187,7 @@ module _ (k : ℕ) (heard : List Slip) where
 
 module _ {V S C : Type 0} {site : Site} {May : C → ℕ → Type 0} {view : VisitsView V} {spools : SpoolsView S}
     (run : ServerRun site May view spools) (b : ℕ) (box : b < length site.boxes) where
-  within : b < length run.old.spools
+  pub within : b < length run.old.spools
   within = omega (arith, run.each_box, box)
 
   pub have_turns : HaveTurns civil_at site run.old.quota (run.ran.boxes b).taken (run.ran.boxes b).turns

@@ -24,12 +24,12 @@ pub fn told_is_stored<V: Visits, S: Spool, C: Clock>()
         → of_lane k (told_in (life_at b run)) ≡ told_in_run b k run }
 {}
 
-/// To each mailbox a server's runs are lives, so that the laws of lives hold of them.
+/// To each mailbox a server's runs are lives of copies that transactions make, so that the laws of lives hold of them.
 pub fn runs_are_lives<V: Visits, S: Spool, C: Clock>()
     ensures { (site : Site) (runs : List (ServerRun site C.May (visits_view V.MayGive V.finished V.over)
         (spools_view S.state S.MayFind S.MayRefuse)))
         (b : ℕ) (old new : List ℕ) → b < length site.boxes → LivesLeave civil_at site (lives_at b runs) old new
-        → HaveLived civil_at site (lives_at b runs) old new }
+        → HaveLived civil_at site (lives_at b runs) old new × AllByRecursion IsMailed (taken_through (lives_at b runs)) }
 {}
 
 /// Whatever any client of any run was told that it is stored, by its slip, is read back after the last run: once,
@@ -38,7 +38,6 @@ pub fn told_is_read_back<V: Visits, S: Spool, C: Clock>()
     ensures { (site : Site) (runs : List (ServerRun site C.May (visits_view V.MayGive V.finished V.over)
         (spools_view S.state S.MayFind S.MayRefuse)))
         (b : ℕ) (old new : List ℕ) (letters : List Letter) → IsOneLine site.host → b < length site.boxes
-        → AllByRecursion IsMailed (taken_through (lives_at b runs))
         → IsReadAs old letters → LivesLeave civil_at site (lives_at b runs) old new
         → (after : List Letter) × IsReadAs new after × AreReadBack b runs letters after }
 {}

@@ -2,5 +2,5 @@ use Rattle.lmtp_lives.proofs.ReadBack.{read_back}
 use Rattle.lmtp_lives.proofs.laws.told_is_read_back.Goals as goal
 
 pub returns : goal.returns
-returns g c = λ site runs b old new letters one box mailed was leave.
-    read_back b box runs old new letters one mailed was leave
+returns g c = λ site runs b old new letters one box was leave.
+    read_back b box runs old new letters one was leave
