@@ -1,13 +1,15 @@
 -- The steps of lives: what they leave, which copies they store, and how many are torn.
 use Rattle.std.proofs.Common.{◌≡◌, ℕ, ◌+◌, ◌≤◌, arith, List, [], ◌∷◌, ◌++◌, cond, false, map, Option}
-use Rattle.std.proofs.Common.{Some, None, refl, ap, ◌∙◌, subst}
+use Rattle.std.proofs.Common.{Some, None, refl, sym, ap, ◌∙◌, subst, append-nil}
+use Rattle.std.proofs.lemmas.List.{append_cancel_left}
 use Rattle.std.specs.List.{AllByRecursion}
 use Rattle.std.proofs.lemmas.Grind.{flat_map-append}
 use Rattle.std.proofs.lemmas.List.Sums.{sum_by-cons, sum_by-append}
 use Rattle.mail_world.specs.declared.Note.{Note}
 use Rattle.mail_world.specs.declared.Outcome.{Outcome}
 use Rattle.mail_world.specs.declared.Outcome.TheVariants.{Stored, Failed, OverQuota, NoRoom, TooLarge}
-use Rattle.mail_world.specs.Records.{Calendar}
+use Rattle.mail_world.specs.Endings.{mended}
+use Rattle.mail_world.specs.Records.{Calendar, record_of}
 use Rattle.mail_world.specs.Reading.{Letter, IsMailed}
 use Rattle.mail_world.specs.Text.{IsOneLine}
 use Rattle.mail_world.specs.Turns.{Turn, NotHad, Had, Told, IsTurn, HaveTurns, breaks_last}
@@ -57,24 +59,38 @@ module _ (calendar : Calendar) (site : Site) where
   turn_does note NoRoom turn None quota old new is h = nothing _ old new h.1
   turn_does note TooLarge turn None quota old new is h = nothing _ old new h.1
   turn_does note outcome NotHad (Some gap) quota old new is h = absurd h
-  turn_does note Stored (Had lock unlock) (Some gap) quota old new is h = record {
-    leave = (lock.bytes, h.0, (new, h.1 ∙ is.whole, refl));
-    stores = refl;
-    torn = omega arith;
-  }
-  turn_does note OverQuota (Had lock unlock) (Some gap) quota old new is h = record {
-    leave = (lock.bytes, h.0, (new, h.1 ∙ is.same, refl));
-    stores = refl;
-    torn = omega arith;
-  }
+  turn_does note Stored (Had lock unlock) (Some gap) quota old new is h =
+      let record' : List ℕ = record_of calendar site note in
+      let is_added : h.3.0 ≡ mended lock.bytes ++ record' =
+      append_cancel_left lock.bytes h.3.0 (mended lock.bytes ++ record') (sym h.3.1 ∙ is.whole) in record {
+        leave = (
+          h.0,
+          h.1,
+          (
+            new,
+            h.3.2 ∙ ap (λ (l : List ℕ). h.0 ++ l) (is_added ∙ ap (λ (l : List ℕ). l ++ record') (sym h.2)),
+            refl,
+          ),
+        );
+        stores = refl;
+        torn = omega arith;
+      }
+  turn_does note OverQuota (Had lock unlock) (Some gap) quota old new is h =
+      let none : h.3.0 ≡ [] =
+      append_cancel_left lock.bytes h.3.0 [] (sym h.3.1 ∙ is.same ∙ sym (append-nil lock.bytes)) in record {
+        leave = (h.0, h.1, (new, h.3.2 ∙ ap (λ (l : List ℕ). h.0 ++ l) none ∙ append-nil h.0, refl));
+        stores = refl;
+        torn = omega arith;
+      }
   turn_does note Failed (Had lock unlock) (Some gap) quota old new is h =
-      record { leave = (lock.bytes, h.0, (new, h.1, refl)); stores = refl; torn = omega arith }
+      record { leave = (h.0, h.1, (new, h.3, refl)); stores = refl; torn = omega arith }
   turn_does note NoRoom (Had lock unlock) (Some gap) quota old new is h = absurd is
   turn_does note TooLarge (Had lock unlock) (Some gap) quota old new is h = absurd is
 
   turns_do : (notes : List Note) (turns : List Told) (gaps : List (Option Gap)) (quota : Option ℕ) (old new : List ℕ)
       → HaveTurns calendar site quota notes turns → TurnsLeave calendar site notes turns gaps old new
-      → Does (turns_steps notes turns gaps) (stored_of notes (map (λ told. told.outcome) turns)) (broken_in turns) old new
+      → Does (turns_steps notes turns gaps) (stored_of notes (map (λ told. told.outcome) turns)) (broken_in turns)
+      old new
   turns_do [] [] [] quota old new are h = nothing 0 old new h
   turns_do [] [] (g ∷ gaps) quota old new are h = absurd h
   turns_do [] (t ∷ turns) gaps quota old new are h = absurd are

@@ -6,6 +6,7 @@ use Rattle.mail_world.specs.declared.Note.{Note}
 use Rattle.mail_world.specs.declared.Outcome.{Outcome}
 use Rattle.mail_world.specs.declared.Outcome.TheVariants.{Stored, Failed}
 use Rattle.mail_world.specs.Records.{Calendar}
+use Rattle.mail_world.specs.Endings.{mended}
 use Rattle.mail_world.specs.Reading.{Letter}
 use Rattle.mail_world.specs.Turns.{Standing, Turn, NotHad, Had, Told, HaveTurns, breaks_last}
 use Rattle.mail_lives.specs.Fates.{Fate}
@@ -27,18 +28,22 @@ pub record Life : Type 0 where
 
 -- ---- its bytes
 
--- What is left of a turn that was had: what stood at its unlock. Of one that broke it is what stood at its lock and any
--- part of what was to be appended: a loss of power may take what wasn't kept, and bring back what was cut off.
-abbrev pub IsLeft : Calendar → Site → Note → Outcome → Standing → Standing → List ℕ → Type 0
-IsLeft calendar site note Failed lock unlock new = HasTorn calendar site note lock.bytes new
-IsLeft calendar site note _ lock unlock new = new ≡ unlock.bytes
+-- What is left of a turn that was had, at whose lock these bytes stood there: they, and what was appended. Of one that
+-- broke any part of what was to be appended is left: a loss of power may take what wasn't kept, and bring back what was
+-- cut off.
+abbrev pub IsLeft : Calendar → Site → Note → Outcome → Standing → Standing → List ℕ → List ℕ → Type 0
+IsLeft calendar site note Failed lock unlock found new = HasTorn calendar site note found new
+IsLeft calendar site note _ lock unlock found new =
+    (appended : List ℕ) × (unlock.bytes ≡ lock.bytes ++ appended) × (new ≡ found ++ appended)
 
--- from the bytes that were left before a turn to those that are left after it
+-- From the bytes that were left before a turn to those that are left after it. A spool may know no more of what others
+-- leave than how it ends: the bytes that it tells at the lock are mended as those that stand there.
 abbrev pub TurnLeaves : Calendar → Site → Note → Outcome → Turn → Option Gap → List ℕ → List ℕ → Type 0
 TurnLeaves calendar site note outcome turn None old new = (outcome ≢ Stored) × (new ≡ old)
 TurnLeaves calendar site note outcome NotHad (Some gap) old new = ⊥
 TurnLeaves calendar site note outcome (Had lock unlock) (Some gap) old new =
-    HasLeft gap.fates gap.added old lock.bytes × IsLeft calendar site note outcome lock unlock new
+    (found : List ℕ) × HasLeft gap.fates gap.added old found × (mended found ≡ mended lock.bytes)
+    × IsLeft calendar site note outcome lock unlock found new
 
 abbrev pub TurnsLeave : Calendar → Site → List Note → List Told → List (Option Gap) → List ℕ → List ℕ → Type 0
 TurnsLeave calendar site [] [] [] old new = new ≡ old
