@@ -10,6 +10,7 @@ use Rattle.mail_world.specs.Site.{Site}
 use Rattle.mail_world.specs.Text.{IsOneLine}
 use Rattle.mail_world.specs.Turns.{HaveTurns}
 use Rattle.mail_world.proofs.Heard.{weaken}
+use Rattle.mail_runs.proofs.ByTime.{all_filter}
 use Rattle.mail_lives.specs.ReadAs.{IsReadAs}
 use Rattle.mail_lives.specs.Lives.{Life, HaveLived, LivesLeave, lives_steps, taken_through, told_in, told_through}
 use Rattle.mail_lives.specs.ReadBack.{IsReadBack}
@@ -21,7 +22,7 @@ use Rattle.lmtp_text.specs.Calendar.{civil_at}
 use Rattle.lmtp_threads.specs.Works.{VisitsView, SpoolsView}
 use Rattle.lmtp_lives.specs.Runs.{ServerRun, life_at, lives_at, told_in_run}
 use Rattle.lmtp_lives.specs.ReadBack.{AreReadBack}
-use Rattle.lmtp_lives.proofs.Told.{all_passed, within, have_turns, told_stored}
+use Rattle.lmtp_lives.proofs.Told.{within, have_turns, told_stored}
 use Rattle.mail_world.specs.Lists.{of_lane}
 use Rattle.lmtp_lane.specs.Visits.{conversations_of}
 
@@ -62,7 +63,8 @@ module _ {V S C : Type 0} {site : Site} {May : C → ℕ → Type 0} {view : Vis
       → LivesLeave civil_at site (lives_at b runs) old new → HaveLived civil_at site (lives_at b runs) old new
   lived runs old new leave = record { are = have_lived runs; leave = leave }
 
-  pub taken_mailed : (runs : List (ServerRun site May view spools)) → AllByRecursion IsMailed (taken_through (lives_at b runs))
+  pub taken_mailed : (runs : List (ServerRun site May view spools))
+      → AllByRecursion IsMailed (taken_through (lives_at b runs))
   taken_mailed [] = tt
   taken_mailed (run ∷ runs) =
       let ran = run.ran in
@@ -81,7 +83,7 @@ module _ {V S C : Type 0} {site : Site} {May : C → ℕ → Type 0} {view : Vis
       let first : List Note = told_in (life_at b run) in
       let more : List Note = told_through (lives_at b runs) in (
         λ k lane. subst (AllByRecursion P) (told_stored run b box k lane)
-            (all_passed P (λ note. note.txn.lane == k) first (all_front P first more h)),
+            (all_filter P (λ note. note.txn.lane == k) first (all_front P first more h)),
         each_told P runs (all_back P first more h),
       )
 

@@ -30,21 +30,11 @@ use Rattle.lmtp_threads.specs.Works.{VisitsView, SpoolsView}
 use Rattle.lmtp_threads.proofs.ChannelRows.{at}
 use Rattle.mail_world.proofs.GivenAway.{count-cons}
 use Rattle.mail_world.proofs.Heard.{weaken}
+use Rattle.mail_runs.proofs.ByTime.{all_filter}
 use Rattle.mail_runs.proofs.OneLane.{many}
 use Rattle.lmtp_house.proofs.AnsweredAll.{found_counts}
 use Rattle.lmtp_house.proofs.NamedOnce.{named_once}
 use Rattle.lmtp_lives.specs.Runs.{ServerRun, life_at, told_in_run}
-
--- those that pass are among all
-passed_by : {A : Type 0} (P : A → Type 0) (t : Bool) (x : A) (xs : List A) → P x → AllByRecursion P xs
-    → AllByRecursion P (cond t (x ∷ xs) xs)
-passed_by P true x xs h k = (h, k)
-passed_by P false x xs h k = k
-
-pub all_passed : {A : Type 0} (P : A → Type 0) (p : A → Bool) (xs : List A) → AllByRecursion P xs
-    → AllByRecursion P (filter p xs)
-all_passed P p [] h = tt
-all_passed P p (x ∷ xs) h = passed_by P (p x) x (filter p xs) h.0 (all_passed P p xs h.1)
 
 -- ---- each slip that a lane heard is the answer of its place
 
@@ -145,8 +135,9 @@ module _ (k : ℕ) (heard : List Slip) where
       let first : Some o ≡ answer (txn_of k t.number) heard place = cc in
       let rest : map (λ (x : Outcome). Some x) outcomes
       ≡ map (answer (txn_of k t.number) heard) (range_with_len (place + 1) (length boxes)) = cc in
-      place_by (box == b) (copy_at k t place box) o
-      (filter (λ note. note.mailbox == b) (copies_from k t (place + 1) boxes)) (outcomes_for b boxes outcomes) first (by_places b t boxes (place + 1) outcomes rest)
+      let more : List Note = filter (λ note. note.mailbox == b) (copies_from k t (place + 1) boxes) in
+      place_by (box == b) (copy_at k t place box) o more (outcomes_for b boxes outcomes) first
+      (by_places b t boxes (place + 1) outcomes rest)
 
   by_verdict : (b : ℕ) (t : Transaction) (v : Verdict) → OutcomesIn k heard t v
       → AreAnswers (told_if b t v) (filter (λ note. note.mailbox == b) (copies_if k t v))
@@ -155,7 +146,8 @@ module _ (k : ℕ) (heard : List Slip) where
   by_verdict b t verdicts.NoRoom e = refl
 
   by_transactions : (b : ℕ) (ts : List Transaction)
-      → AllByRecursion (λ t. OutcomesIn k heard t t.disposition.verdict) ts → AreAnswers (told_all b ts) (copies_owed k b ts)
+      → AllByRecursion (λ t. OutcomesIn k heard t t.disposition.verdict) ts
+      → AreAnswers (told_all b ts) (copies_owed k b ts)
   by_transactions b [] h = refl
   by_transactions b (t ∷ ts) h =
       let owed : List Note = filter (λ note. note.mailbox == b) (copies k t) in
@@ -218,7 +210,7 @@ module _ {V S C : Type 0} {site : Site} {May : C → ℕ → Type 0} {view : Vis
       (λ c low. ran.owed k c lane low) in
       let slips : AllByRecursion (IsAnswer heard) (owed_to b outcomes k (ran.boxes b).taken) =
       subst (AllByRecursion (IsAnswer heard)) (ran.told k b lane within)
-      (all_passed (IsAnswer heard) (λ slip. slip.worker == b) heard (each_answers heard once)) in
+      (all_filter (IsAnswer heard) (λ slip. slip.worker == b) heard (each_answers heard once)) in
       by_turns k heard b (ran.boxes b).taken outcomes (many (server_of site run.old) _ _ have_turns) slips
       ∙ ap (flat_map (told_one k heard)) (ran.owed k b lane within)
       ∙ sym (by_conversations k heard site b cs (answered k lane))

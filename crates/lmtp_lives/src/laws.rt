@@ -29,7 +29,8 @@ pub fn runs_are_lives<V: Visits, S: Spool, C: Clock>()
     ensures { (site : Site) (runs : List (ServerRun site C.May (visits_view V.MayGive V.finished V.over)
         (spools_view S.state S.MayFind S.MayRefuse)))
         (b : ℕ) (old new : List ℕ) → b < length site.boxes → LivesLeave civil_at site (lives_at b runs) old new
-        → HaveLived civil_at site (lives_at b runs) old new × AllByRecursion IsMailed (taken_through (lives_at b runs)) }
+        → HaveLived civil_at site (lives_at b runs) old new
+        × AllByRecursion IsMailed (taken_through (lives_at b runs)) }
 {}
 
 /// Whatever any client of any run was told that it is stored, by its slip, is read back after the last run: once,

@@ -6,5 +6,7 @@
 #![tactic(auto)]
 
 mod laws;
+mod rows;
 
 pub use laws::{runs_are_lives, told_is_read_back, told_is_stored};
+pub use rows::killed_runs_exist;
