@@ -1,6 +1,6 @@
 -- Runs as lives, and what is read back after them.
-use Rattle.std.proofs.Common.{◌≡◌, ℕ, ◌<◌, Bool, true, false, cond, List, [], ◌∷◌, ◌++◌, length, refl, sym, ◌∙◌}
-use Rattle.std.proofs.Common.{subst, append_assoc, eq-eqb}
+use Rattle.std.proofs.Common.{ℕ, ◌<◌, Bool, true, false, cond, List, [], ◌∷◌, length, refl, sym}
+use Rattle.std.proofs.Common.{subst, eq-eqb}
 use Rattle.std.proofs.lemmas.Bool.{cond-true}
 use Rattle.std.specs.Prelude.{◌==◌}
 use Rattle.std.specs.List.{AllByRecursion}
@@ -9,7 +9,6 @@ use Rattle.mail_world.specs.Reading.{Letter, IsMailed}
 use Rattle.mail_world.specs.Site.{Site}
 use Rattle.mail_world.specs.Text.{IsOneLine}
 use Rattle.mail_world.specs.Turns.{HaveTurns}
-use Rattle.mail_world.proofs.Heard.{weaken}
 use Rattle.mail_runs.proofs.ByTime.{all_filter}
 use Rattle.mail_lives.specs.ReadAs.{IsReadAs}
 use Rattle.mail_lives.specs.Lives.{Life, HaveLived, LivesLeave, lives_steps, taken_through, told_in, told_through}
@@ -25,15 +24,6 @@ use Rattle.lmtp_lives.specs.ReadBack.{AreReadBack}
 use Rattle.lmtp_lives.proofs.Told.{within, have_turns, told_stored}
 use Rattle.mail_world.specs.Lists.{of_lane}
 use Rattle.lmtp_lane.specs.Visits.{conversations_of}
-
--- each of a list stands somewhere in it
-abbrev StandsIn : {A : Type 0} → List A → A → Type 0
-StandsIn {A} all x = (first : List A) × (more : List A) × (all ≡ first ++ x ∷ more)
-
-stand_in : {A : Type 0} (first xs all : List A) → all ≡ first ++ xs → AllByRecursion (StandsIn all) xs
-stand_in first [] all e = tt
-stand_in first (x ∷ xs) all e =
-    ((first, xs, e), stand_in (first ++ x ∷ []) xs all (e ∙ sym (append_assoc first (x ∷ []) xs)))
 
 -- what holds of each lane's copies holds of all
 rest_of : (P : Note → Type 0) (t : Bool) (note : Note) (notes : List Note)
@@ -96,19 +86,14 @@ module _ {V S C : Type 0} {site : Site} {May : C → ℕ → Type 0} {view : Vis
       let have = lived runs old new leave in
       let read = lives_read civil_at site lives old new letters one (taken_mailed runs) was have in
       let did = lives_do civil_at site lives old new have in
-      let Back : Note → Type 0 =
-      λ note. (first : List Note) × IsReadBack civil_at site first note (lives_steps lives) letters read.0 in (
+      let Back : Note → Type 0 = IsReadBack civil_at site (lives_steps lives) letters read.0 in (
         read.0,
         read.1,
         record {
           come = read.2;
           stored = did.stores;
           torn = did.torn;
-          told = each_told Back runs (weaken (StandsIn (told_through lives)) Back
-              (λ note at. (
-                at.0,
-                stored_stay civil_at site (lives_steps lives) letters read.0 at.0 at.1 note (did.stores ∙ at.2) read.2,
-              ))
-              (told_through lives) (stand_in [] (told_through lives) (told_through lives) refl));
+          told = each_told Back runs (subst (AllByRecursion Back) did.stores
+              (stored_stay civil_at site (lives_steps lives) letters read.0 read.2));
         },
       )

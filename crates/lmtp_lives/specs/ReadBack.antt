@@ -1,7 +1,6 @@
 -- What is read back of what clients were told.
 use Rattle.std.specs.Prelude.{◌≡◌, ◌<◌, ◌≤◌, ℕ, List, length}
 use Rattle.std.specs.List.{AllByRecursion}
-use Rattle.mail_world.specs.declared.Note.{Note}
 use Rattle.mail_world.specs.Reading.{Letter}
 use Rattle.mail_world.specs.Site.{Site}
 use Rattle.mail_lives.specs.Steps.{StepsComeTo}
@@ -21,5 +20,4 @@ pub record AreReadBack {V S C : Type 0} {site : Site} {May : C → ℕ → Type 
   pub stored : stored_in (lives_steps (lives_at b runs)) ≡ told_through (lives_at b runs)
   pub torn : torn_in (lives_steps (lives_at b runs)) ≤ broken_through (lives_at b runs)
   pub told : AllByRecursion (λ run. (k : ℕ) → k < length run.old.visits
-      → AllByRecursion (λ note. (first : List Note)
-      × IsReadBack civil_at site first note (lives_steps (lives_at b runs)) old new) (told_in_run b k run)) runs
+      → AllByRecursion (IsReadBack civil_at site (lives_steps (lives_at b runs)) old new) (told_in_run b k run)) runs

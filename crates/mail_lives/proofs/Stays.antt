@@ -1,13 +1,15 @@
 -- Letters that stay where they are.
 use Rattle.std.proofs.Common.{◌≡◌, List, [], ◌∷◌, ◌++◌, refl, sym, ap, ◌∙◌, subst, append_assoc, append-nil}
+use Rattle.std.specs.List.{AllByRecursion}
 use Rattle.mail_world.specs.declared.Note.{Note}
+use Rattle.mail_world.proofs.Heard.{weaken}
 use Rattle.mail_world.specs.Prefixes.{IsPrefix}
 use Rattle.mail_world.specs.Records.{Calendar}
 use Rattle.mail_world.specs.Reading.{Letter, letter_of}
 use Rattle.mail_world.specs.Site.{Site}
 use Rattle.mail_lives.specs.Fates.{Fate, Untouched, Changed, Removed, left_of}
 use Rattle.mail_lives.specs.Steps.{Step, Others, Stores, Rests, Tears, StepComesTo, StepsComeTo}
-use Rattle.mail_lives.specs.ReadBack.{if_stores, stored_in, left_through, IsReadBack}
+use Rattle.mail_lives.specs.ReadBack.{stored_in, left_through, IsReadBack}
 
 -- what becomes of letters is told of the first of them first
 front_left : (fates : List Fate) (front rest : List Letter)
@@ -47,48 +49,41 @@ module _ (calendar : Calendar) (site : Site) where
       → IsPrefix (left_through steps old) new
   old_stay steps old new come = stay steps old [] old new (sym (append-nil old)) come
 
-  -- one step more before
-  later : (step : Step) (steps : List Step) (first : List Note) (note : Note) (old between new : List Letter)
-      → StepComesTo calendar site step old between → IsReadBack calendar site first note steps between new
-      → IsReadBack calendar site (if_stores step ++ first) note (step ∷ steps) old new
-  later step steps first note old between new come back = record {
-    earlier = step ∷ back.earlier;
-    later = back.later;
-    whole = ap (λ (l : List Step). step ∷ l) back.whole;
-    order = ap (λ (l : List Note). if_stores step ++ l) back.order;
-    before = back.before;
-    come = (between, come, back.come);
-    stands = back.stands;
-  }
+  abbrev Back : List Step → List Letter → List Letter → Note → Type 0
+  Back steps old new note = IsReadBack calendar site steps old new note
 
-  pub stored_stay : (steps : List Step) (old new : List Letter) (first more : List Note) (note : Note)
-      → stored_in steps ≡ first ++ note ∷ more → StepsComeTo calendar site steps old new
-      → IsReadBack calendar site first note steps old new
-  stored_stay [] old new [] more note at come = cc
-  stored_stay [] old new (x ∷ first) more note at come = cc
-  stored_stay (Others fates added ∷ steps) old new first more note at come =
-      later (Others fates added) steps first note old come.0 new come.1
-      (stored_stay steps come.0 new first more note at come.2)
-  stored_stay (Rests ∷ steps) old new first more note at come =
-      later Rests steps first note old come.0 new come.1 (stored_stay steps come.0 new first more note at come.2)
-  stored_stay (Tears torn ∷ steps) old new first more note at come =
-      later (Tears torn) steps first note old come.0 new come.1 (stored_stay steps come.0 new first more note at come.2)
-  stored_stay (Stores other ∷ steps) old new (x ∷ first) more note at come =
-      let same : other ≡ x = cc in
-      let rest : stored_in steps ≡ first ++ note ∷ more = cc in
-      subst (λ (n : Note). IsReadBack calendar site (n ∷ first) note (Stores other ∷ steps) old new) same
-      (later (Stores other) steps first note old come.0 new come.1
-      (stored_stay steps come.0 new first more note rest come.2))
-  stored_stay (Stores other ∷ steps) old new [] more note at come =
-      let same : other ≡ note = cc in
-      subst (λ (n : Note). IsReadBack calendar site [] n (Stores other ∷ steps) old new) same
-      (record {
-        earlier = [];
-        later = steps;
-        whole = refl;
-        order = refl;
-        before = old;
-        come = refl;
-        stands = subst (λ (l : List Letter). IsPrefix (left_through steps l) new) come.1
-            (old_stay steps come.0 new come.2);
-      })
+  -- one step more before
+  later : (step : Step) (steps : List Step) (old between new : List Letter) → StepComesTo calendar site step old between
+      → AllByRecursion (Back steps between new) (stored_in steps)
+      → AllByRecursion (Back (step ∷ steps) old new) (stored_in steps)
+  later step steps old between new come back = weaken (Back steps between new) (Back (step ∷ steps) old new)
+      (λ note is. record {
+        earlier = step ∷ is.earlier;
+        later = is.later;
+        whole = ap (λ (l : List Step). step ∷ l) is.whole;
+        before = is.before;
+        come = (between, come, is.come);
+        stands = is.stands;
+      }) (stored_in steps) back
+
+  pub stored_stay : (steps : List Step) (old new : List Letter) → StepsComeTo calendar site steps old new
+      → AllByRecursion (Back steps old new) (stored_in steps)
+  stored_stay [] old new come = tt
+  stored_stay (Others fates added ∷ steps) old new come =
+      later (Others fates added) steps old come.0 new come.1 (stored_stay steps come.0 new come.2)
+  stored_stay (Rests ∷ steps) old new come =
+      later Rests steps old come.0 new come.1 (stored_stay steps come.0 new come.2)
+  stored_stay (Tears note ∷ steps) old new come =
+      later (Tears note) steps old come.0 new come.1 (stored_stay steps come.0 new come.2)
+  stored_stay (Stores note ∷ steps) old new come = (
+    record {
+      earlier = [];
+      later = steps;
+      whole = refl;
+      before = old;
+      come = refl;
+      stands = subst (λ (l : List Letter). IsPrefix (left_through steps l) new) come.1
+          (old_stay steps come.0 new come.2);
+    },
+    later (Stores note) steps old come.0 new come.1 (stored_stay steps come.0 new come.2),
+  )

@@ -44,14 +44,13 @@ left_through [] letters = letters
 left_through (Others fates added ∷ steps) letters = left_through steps (left_of fates letters)
 left_through (_ ∷ steps) letters = left_through steps letters
 
--- The copy is stored in one of these steps, after those first ones: its letter is added after all that stand there
--- then, and what others make later of these and of it stands first at the end.
-pub record IsReadBack (calendar : Calendar) (site : Site) (first : List Note) (note : Note) (steps : List Step)
-    (old new : List Letter) : Type 0 where
+-- The copy is stored in one of these steps: its letter is added after all that stand there then, and what others make
+-- later of these and of it stands first at the end.
+pub record IsReadBack (calendar : Calendar) (site : Site) (steps : List Step) (old new : List Letter) (note : Note)
+    : Type 0 where
   pub earlier : List Step
   pub later : List Step
   pub whole : steps ≡ earlier ++ Stores note ∷ later
-  pub order : stored_in earlier ≡ first
   pub before : List Letter
   pub come : StepsComeTo calendar site earlier old before
   pub stands : IsPrefix (left_through later (before ++ letter_of calendar site note ∷ [])) new

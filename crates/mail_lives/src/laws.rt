@@ -1,8 +1,7 @@
 //! Laws of the definitions: each is the contract of a function with an empty body.
 
-ghost use Rattle.std.specs.Prelude.{◌≡◌, ℕ, ◌*◌, ◌≤◌, List, ◌∷◌, ◌++◌, map};
+ghost use Rattle.std.specs.Prelude.{◌≡◌, ℕ, ◌*◌, ◌≤◌, List, ◌++◌, map};
 ghost use Rattle.std.specs.List.{AllByRecursion};
-ghost use Rattle.mail_world.specs.declared.Note.{Note};
 ghost use Rattle.mail_world.specs.Text.{IsOneLine};
 ghost use Rattle.mail_world.specs.Prefixes.{IsPrefix};
 ghost use Rattle.mail_world.specs.Records.{Calendar};
@@ -54,6 +53,6 @@ pub fn letters_stay()
     ensures old { (calendar : Calendar) (site : Site) (steps : List Step) (old new : List Letter)
         → StepsComeTo calendar site steps old new → IsPrefix (left_through steps old) new }
     ensures stored { (calendar : Calendar) (site : Site) (steps : List Step) (old new : List Letter)
-        (first more : List Note) (note : Note) → stored_in steps ≡ first ++ note ∷ more
-        → StepsComeTo calendar site steps old new → IsReadBack calendar site first note steps old new }
+        → StepsComeTo calendar site steps old new
+        → AllByRecursion (IsReadBack calendar site steps old new) (stored_in steps) }
 {}
