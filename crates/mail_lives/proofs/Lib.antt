@@ -3,5 +3,8 @@ pub mod Mending
 pub mod Bodies
 pub mod Torn
 pub mod Stepping
+pub mod Lived
+pub mod Alone
+pub mod Stays
 pub mod MailedNames
 pub mod MailedDue

@@ -2,3 +2,5 @@ pub mod ReadAs
 pub mod Fates
 pub mod Steps
 pub mod Rows
+pub mod Lives
+pub mod ReadBack

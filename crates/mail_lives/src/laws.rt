@@ -1,12 +1,15 @@
 //! Laws of the definitions: each is the contract of a function with an empty body.
 
-ghost use Rattle.std.specs.Prelude.{ℕ, List};
+ghost use Rattle.std.specs.Prelude.{◌≡◌, ℕ, ◌*◌, ◌≤◌, List, ◌++◌, map};
 ghost use Rattle.std.specs.List.{AllByRecursion};
 ghost use Rattle.mail_world.specs.Text.{IsOneLine};
+ghost use Rattle.mail_world.specs.Prefixes.{IsPrefix};
 ghost use Rattle.mail_world.specs.Records.{Calendar};
-ghost use Rattle.mail_world.specs.Reading.{Letter};
+ghost use Rattle.mail_world.specs.Reading.{Letter, IsMailed, letter_of};
 ghost use Rattle.mail_lives.specs.ReadAs.{IsReadAs};
 ghost use Rattle.mail_lives.specs.Steps.{Step, StepsLeave, StepsComeTo, IsMailedStep};
+ghost use Rattle.mail_lives.specs.Lives.{Life, HaveLived, lives_steps, taken_through, told_through, broken_through};
+ghost use Rattle.mail_lives.specs.ReadBack.{stored_in, torn_in, LeavesAlone, StandAmong, left_through, IsReadBack};
 ghost use Rattle.mail_world.specs.Site.{Site};
 
 /// Whatever is stored, torn, or left by others, in whatever order: a mailbox that is read as letters is so afterwards,
@@ -17,4 +20,39 @@ pub fn steps_are_read()
         → IsOneLine site.host → AllByRecursion IsMailedStep steps
         → IsReadAs old letters → StepsLeave calendar site steps old new
         → (after : List Letter) × IsReadAs new after × StepsComeTo calendar site steps letters after }
+{}
+
+/// After any number of lives a mailbox that was read as letters is so, and its letters are those that the lives' steps
+/// come to. What these steps store is just what was told Stored, in the order of the turns, and no more of them are
+/// torn than turns broke.
+pub fn lives_are_read()
+    ensures read { (calendar : Calendar) (site : Site) (lives : List Life) (old new : List ℕ) (letters : List Letter)
+        → IsOneLine site.host → AllByRecursion IsMailed (taken_through lives)
+        → IsReadAs old letters → HaveLived calendar site lives old new
+        → (after : List Letter) × IsReadAs new after × StepsComeTo calendar site (lives_steps lives) letters after }
+    ensures stored { (calendar : Calendar) (site : Site) (lives : List Life) (old new : List ℕ)
+        → HaveLived calendar site lives old new → stored_in (lives_steps lives) ≡ told_through lives }
+    ensures torn { (calendar : Calendar) (site : Site) (lives : List Life) (old new : List ℕ)
+        → HaveLived calendar site lives old new → torn_in (lives_steps lives) ≤ broken_through lives }
+{}
+
+/// Where others change nothing, the letters that were there still are, and after them each that was told Stored, once,
+/// whole and in the order of the turns; besides these two at most for each turn that broke.
+pub fn told_are_read()
+    ensures { (calendar : Calendar) (site : Site) (lives : List Life) (old new : List ℕ) (letters : List Letter)
+        → IsOneLine site.host → AllByRecursion IsMailed (taken_through lives)
+        → AllByRecursion LeavesAlone (lives_steps lives)
+        → IsReadAs old letters → HaveLived calendar site lives old new
+        → (more : List Letter) × IsReadAs new (letters ++ more)
+        × StandAmong (map (letter_of calendar site) (told_through lives)) (2 * broken_through lives) more }
+{}
+
+/// Only others take a letter away or change it. What they leave of the letters that stand there at any time stands
+/// first afterwards, in its order; so it is of each copy that is stored, from the step on that stores it.
+pub fn letters_stay()
+    ensures old { (calendar : Calendar) (site : Site) (steps : List Step) (old new : List Letter)
+        → StepsComeTo calendar site steps old new → IsPrefix (left_through steps old) new }
+    ensures stored { (calendar : Calendar) (site : Site) (steps : List Step) (old new : List Letter)
+        → StepsComeTo calendar site steps old new
+        → AllByRecursion (IsReadBack calendar site steps old new) (stored_in steps) }
 {}

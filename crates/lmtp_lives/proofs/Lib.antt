@@ -1,0 +1,3 @@
+pub mod Told
+pub mod ReadBack
+pub mod KilledRuns

@@ -1,0 +1,50 @@
+-- The worked example: clients and spools of which all is told, a message, and a run that is killed.
+use Rattle.std.specs.Prelude.{◌≡◌, ℕ, true, false, List, [], ◌∷◌, ◌++◌, take, codes, ⊤}
+use Rattle.mail_world.specs.declared.Note.{Note}
+use Rattle.mail_world.specs.declared.Outcome.{Outcome}
+use Rattle.mail_world.specs.declared.Outcome.TheVariants.{Failed}
+use Rattle.mail_world.specs.Conversation.{Conversation, conversation}
+use Rattle.mail_world.specs.Rows.{site_with, delivery, hello, whole}
+use Rattle.mail_world.specs.Site.{Site}
+use Rattle.mail_world.specs.Turns.{Standing, Had, addition}
+use Rattle.lmtp_text.specs.Calendar.{civil_at}
+use Rattle.mbox_record.specs.Spool.{SpoolState}
+use Rattle.lmtp_lane.specs.Visits.{VisitsTold}
+use Rattle.lmtp_threads.specs.Works.{VisitsView, SpoolsView, visits_view, spools_view}
+use Rattle.lmtp_lives.specs.Runs.{ServerRun}
+
+abbrev pub site : Site
+site = site_with (codes "mx.example") [] (codes "anna" ∷ [])
+
+abbrev pub view : VisitsView VisitsTold
+view = visits_view (λ told peer. ⊤) (λ told. told) (λ told. true)
+
+abbrev pub spools : SpoolsView SpoolState
+spools = spools_view (λ state. state) (λ last now. ⊤) (λ broke refused. ⊤)
+
+abbrev pub Run : Type 0
+Run = ServerRun {C = ℕ} site (λ clock moment. ⊤) view spools
+
+-- the relay sends anna a message, and that is said of it; and its copy
+abbrev pub sent : Outcome → Conversation
+sent outcome = conversation (delivery hello) (whole (outcome ∷ []) ∷ [])
+
+abbrev pub note : Note
+note = record {
+  txn = record { lane = 0; number = 1 };
+  place = 0;
+  mailbox = 0;
+  sender = codes "carl@a.example";
+  client = codes "relay.example";
+  utf8 = false;
+  moment = 0;
+  message = codes "Subject: hi\r\n\r\nhello\r\n";
+}
+
+-- The run is killed in the turn of that copy: n bytes of what it appends stand there after these.
+pub record IsKilledAt (n : ℕ) (old : List ℕ) (run : Run) : Type 0 where
+  pub lock : Standing
+  pub unlock : Standing
+  pub turns : (run.ran.boxes 0).turns ≡ record { outcome = Failed; turn = Had lock unlock } ∷ []
+  pub found : lock.bytes ≡ old
+  pub left : unlock.bytes ≡ old ++ take n (addition civil_at site note old)

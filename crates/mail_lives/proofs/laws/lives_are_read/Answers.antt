@@ -1,0 +1,9 @@
+use Rattle.mail_lives.proofs.Lived.{lives_read, lives_do}
+use Rattle.mail_lives.proofs.laws.lives_are_read.Goals as goal
+
+pub returns : goal.returns
+returns c = record {
+  read = lives_read;
+  stored = λ calendar site lives old new h. (lives_do calendar site lives old new h).stores;
+  torn = λ calendar site lives old new h. (lives_do calendar site lives old new h).torn;
+}
