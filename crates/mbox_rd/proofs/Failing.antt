@@ -71,24 +71,18 @@ module _ {F : Type 0} (state : F → FileState) where
       } in subst (Fails text old) (sym breaks) now rises
 
   -- once its turn is over
-  abbrev over : FileSpool F → F → List ℕ → Bool → TurnLog → FileSpool F
-  over spool file waiting unsettled log = record spool {
-    file = file;
-    waiting = waiting;
-    in_turn = false;
-    is_unsettled = unsettled;
-    log = log;
-  }
+  abbrev over : FileSpool F → F → List ℕ → TurnLog → FileSpool F
+  over spool file waiting log = record spool { file = file; waiting = waiting; in_turn = false; log = log }
 
-  pub ends : (old seen : FileSpool F) (file : F) (waiting : List ℕ) (unsettled : Bool) (log : TurnLog) → seen ≡ old
+  pub ends : (old seen : FileSpool F) (file : F) (waiting : List ℕ) (log : TurnLog) → seen ≡ old
       → IsInOrder state seen → seen.in_turn ≡ true
       → HasEndedTurn (state seen.file) (state file) seen.has_failed seen.began → waiting ≡ []
       → log ≡ ended_at seen.log (standing_of (state file) seen.failures)
-      → EndsTurn (state_of state old) (state_of state (over seen file waiting unsettled log))
-  ends old seen file waiting unsettled log view order turn ended empty listed =
+      → EndsTurn (state_of state old) (state_of state (over seen file waiting log))
+  ends old seen file waiting log view order turn ended empty listed =
       let S = state_of state in
       let at : List ℕ → Standing = λ b. record { bytes = b; synced = (state file).kept; failures = seen.failures } in
-      let last = over seen file [] unsettled (ended_at seen.log (at (state file).bytes)) in
+      let last = over seen file [] (ended_at seen.log (at (state file).bytes)) in
       let all = append_nil (state file).bytes in
       let ends : EndsTurn (S seen) (S last) = record {
         stays = λ sound synced. (
@@ -107,7 +101,7 @@ module _ {F : Type 0} (state : F → FileState) where
           turns = (ended_at seen.log (at b)).turns;
         } in ap listing (sym all);
       } in
-      let P : FileSpool F → Type 0 = λ s. EndsTurn (S s) (S (over seen file waiting unsettled log)) in
-      let Q : List ℕ → Type 0 = λ w. EndsTurn (S seen) (S (over seen file w unsettled log)) in
-      let R : TurnLog → Type 0 = λ l. EndsTurn (S seen) (S (over seen file [] unsettled l)) in
+      let P : FileSpool F → Type 0 = λ s. EndsTurn (S s) (S (over seen file waiting log)) in
+      let Q : List ℕ → Type 0 = λ w. EndsTurn (S seen) (S (over seen file w log)) in
+      let R : TurnLog → Type 0 = λ l. EndsTurn (S seen) (S (over seen file [] l)) in
       subst P view (subst Q (sym empty) (subst R (sym listed) ends))

@@ -25,6 +25,9 @@ prefix_of xs ys zs x y = record {
 pub prefix_itself : (xs : List ℕ) → IsPrefix xs xs
 prefix_itself xs = record { rest = []; whole = sym (append-nil xs) }
 
+pub prefix_appended : (xs ys : List ℕ) → IsPrefix xs (xs ++ ys)
+prefix_appended xs ys = record { rest = ys; whole = refl }
+
 first_ones : (n : ℕ) (xs : List ℕ) → IsPrefix (take n xs) xs
 first_ones n xs = record { rest = drop n xs; whole = sym (take-append-drop n xs) }
 
@@ -113,7 +116,7 @@ module _ (least : ℕ) (a b : FileState) (most : List ℕ) (few : least ≤ a.ke
         } in
         one_call P a b (at_write a text) (ap (λ (s : FileState). s.moments) x.same) written
         (λ left at. is_left least a.kept (a.bytes ++ x.prefix) most a.cut_off left few (longer x.prefix)
-            (prefix_of (a.bytes ++ x.prefix) (a.bytes ++ text) most some part) (at_b _ x.same left at))
+        (prefix_of (a.bytes ++ x.prefix) (a.bytes ++ text) most some part) (at_b _ x.same left at))
 
   module _ (part : IsPrefix a.bytes most) where
     there : (kept : ℕ) → least ≤ kept → (cut_off : List (List ℕ)) → (left : List ℕ)
@@ -128,7 +131,7 @@ module _ (least : ℕ) (a b : FileState) (most : List ℕ) (few : least ≤ a.ke
     pub keeps : {T E : Type 0} (r : Result T E) → OnOk r (KeepsFile a b) → OnErr r (FailsToKeep a b) → LeavesOnly P a b
     keeps (Ok value) x y = one_call P a b (at_now a) (ap (λ (s : FileState). s.moments) x) (there a.kept few a.cut_off)
         (λ left at. ⊎_elim (λ begins. inl begins) (λ none. absurd none)
-            (there (length a.bytes) long [] left (at_b _ x left at)))
+        (there (length a.bytes) long [] left (at_b _ x left at)))
     keeps (Err cause) x y =
         let more = y.kept in
         one_call P a b (at_now a) (ap (λ (s : FileState). s.moments) y.same) (there a.kept few a.cut_off)
@@ -141,8 +144,8 @@ module _ (least : ℕ) (a b : FileState) (most : List ℕ) (few : least ≤ a.ke
         let size_left = length-take size a.bytes in
         one_call P a b (at_cut a size) (ap (λ (s : FileState). s.moments) x) (there (min a.kept size) kept a.cut_off)
         (λ left at. among left (is_left least (min a.kept size) (take size a.bytes) most (a.bytes ∷ a.cut_off) left kept
-            (omega (arith, size_left)) (prefix_of (take size a.bytes) a.bytes most (first_ones size a.bytes) part)
-            (at_b _ x left at)))
+        (omega (arith, size_left)) (prefix_of (take size a.bytes) a.bytes most (first_ones size a.bytes) part)
+        (at_b _ x left at)))
     cuts (Err cause) size within x y =
         let kept : least ≤ min a.kept size = omega arith in
         one_call P a b (at_cut a size) (ap (λ (s : FileState). s.moments) y.same)
@@ -187,9 +190,9 @@ module _ (lock : Standing) (began : ℕ) (a : FileState) (at : BeginsWith lock b
       let sum = length-append a.bytes text in
       leaves_then (IsLeft lock.synced (a.bytes ++ text) a.cut_off) a b c (after_write b text x)
       (subst (λ (l : List (List ℕ)). LeavesOnly (IsLeft lock.synced (a.bytes ++ text) l) b c)
-          (ap (λ (s : FileState). s.cut_off) x)
-          (keeps lock.synced b c (a.bytes ++ text) (omega (arith, few, kept)) (omega (arith, long, size, sum))
-          (subst (λ (l : List ℕ). IsPrefix l (a.bytes ++ text)) (sym bytes) (prefix_itself (a.bytes ++ text))) r ok err))
+      (ap (λ (s : FileState). s.cut_off) x)
+      (keeps lock.synced b c (a.bytes ++ text) (omega (arith, few, kept)) (omega (arith, long, size, sum))
+      (subst (λ (l : List ℕ). IsPrefix l (a.bytes ++ text)) (sym bytes) (prefix_itself (a.bytes ++ text))) r ok err))
 
   pub after_cut : {T E : Type 0} (r : Result T E) (b : FileState) → OnOk r (HasCut a b began)
       → OnErr r (HasNotCut a b began) → LeavesOfTurn lock a.bytes a b
@@ -206,10 +209,10 @@ module _ (lock : Standing) (began : ℕ) (a : FileState) (at : BeginsWith lock b
       let was_cut : Result T E = Ok value in
       leaves_then (IsLeft lock.synced a.bytes a.cut_off) a b c (after_cut was_cut b x tt)
       (leaves_as (IsLeft lock.synced a.bytes b.cut_off) (IsLeft lock.synced a.bytes a.cut_off) b c
-          (λ left one. among lock.synced a b a.bytes few long (prefix_itself a.bytes) left
-              (subst (λ (l : List (List ℕ)). IsLeft lock.synced a.bytes l left) (ap (λ (s : FileState). s.cut_off) x) one))
-          (keeps lock.synced b c a.bytes (omega (arith, few, within, kept)) (omega (arith, long, within, size))
-          (subst (λ (l : List ℕ). IsPrefix l a.bytes) (sym bytes) (first_ones began a.bytes)) s ok err))
+      (λ left one. among lock.synced a b a.bytes few long (prefix_itself a.bytes) left
+      (subst (λ (l : List (List ℕ)). IsLeft lock.synced a.bytes l left) (ap (λ (s : FileState). s.cut_off) x) one))
+      (keeps lock.synced b c a.bytes (omega (arith, few, within, kept)) (omega (arith, long, within, size))
+      (subst (λ (l : List ℕ). IsPrefix l a.bytes) (sym bytes) (first_ones began a.bytes)) s ok err))
 
 -- ---- at a lock
 
@@ -252,7 +255,7 @@ pub locks : (a b c : FileState) (end : FileEnd) → HasBegun a b end → HasSett
 locks a b c end begun settled =
     let P : List ℕ → List (List ℕ) → Type 0 = λ bytes cut_off. LeavesOnly (IsLeft 0 bytes cut_off) b c in
     let x = subst (λ (l : List (List ℕ)). P c.bytes l) begun.untouched.cut_off
-        (subst (λ (l : List ℕ). P l b.cut_off) (sym (ap (λ (s : FileState). s.bytes) settled.same)) settled.leaves) in record {
+    (subst (λ (l : List ℕ). P l b.cut_off) (sym (ap (λ (s : FileState). s.bytes) settled.same)) settled.leaves) in record {
       more = x.more;
       since = x.since ∙ ap (λ (l : List Moment). l ++ x.more) begun.untouched.moments;
       each = x.each;

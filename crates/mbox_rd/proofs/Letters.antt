@@ -15,11 +15,13 @@ use Rattle.mail_lives.proofs.Stepping.{steps_read}
 use Rattle.mbox_file.specs.MailboxFile.{FileState, at_now, HasAppended, HasNotAppended}
 use Rattle.mbox_file.specs.Moment.{LeavesOne, LeavesAt}
 use Rattle.mbox_record.specs.TurnLog.{TurnLog, begun_at}
-use Rattle.mbox_rd.specs.FileSpool.{FileSpool, BeginsWith, StandsOn, IsCovered, IsInOrder, IsKept, KeepsWritten, KeepsAll}
+use Rattle.mbox_rd.specs.FileSpool.{FileSpool, BeginsWith, StandsOn, IsCovered, IsInOrder, IsKept, KeepsWritten}
 use Rattle.mbox_rd.specs.FileSpool.{contents_of, standing_of}
 use Rattle.mbox_rd.specs.Moments.{LeavesOnly, IsLeft, LeavesOfTurn, LeavesInTurn, IsTurnOf, whole_of, IsReadTorn}
 use Rattle.mbox_rd.specs.Moments.{AnyMoment, Stores}
+use Rattle.mbox_rd.specs.Turn.{HasLetGo}
 use Rattle.mbox_rd.proofs.Leaving.{at_rest, after_write, after_failed_write, leaves_as, prefix_of, prefix_itself}
+use Rattle.mbox_rd.proofs.Leaving.{prefix_appended}
 
 module _ (calendar : Calendar) (site : Site) (note : Note) (letters : List Letter) (lock : Standing)
     (turn : IsTurnOf calendar site note letters lock) where
@@ -27,14 +29,14 @@ module _ (calendar : Calendar) (site : Site) (note : Note) (letters : List Lette
       → IsReadTorn calendar site note letters left
   read_torn left part above =
       let all : lock.bytes ++ addition calendar site note lock.bytes ≡ lock.bytes ++ (above.rest ++ part.rest) =
-          part.whole ∙ ap (λ (l : List ℕ). l ++ part.rest) above.whole ∙ append_assoc lock.bytes above.rest part.rest in
+      part.whole ∙ ap (λ (l : List ℕ). l ++ part.rest) above.whole ∙ append_assoc lock.bytes above.rest part.rest in
       let torn : HasTorn calendar site note lock.bytes left = record {
         prefix = above.rest;
         part = record { rest = part.rest; whole = append_cancel_left lock.bytes _ _ all };
         left = above.whole;
       } in
       let read = steps_read calendar site turn.host (Tears note ∷ []) lock.bytes left letters (turn.mailed, tt) turn.read
-          (left, torn, refl) in
+      (left, torn, refl) in
       let came = read.2.1 in
       (came.0, came.1, subst (λ (l : List Letter). IsReadAs left l) (read.2.2 ∙ came.2) read.1)
 
@@ -42,7 +44,7 @@ module _ (calendar : Calendar) (site : Site) (note : Note) (letters : List Lette
       → IsReadAs left (letters ++ letter_of calendar site note ∷ [])
   read_stored left is =
       let read = steps_read calendar site turn.host (StoresNote note ∷ []) lock.bytes left letters (turn.mailed, tt)
-          turn.read (left, is, refl) in
+      turn.read (left, is, refl) in
       subst (λ (l : List Letter). IsReadAs left l) (read.2.2 ∙ read.2.1) read.1
 
   left_read : (bytes left : List ℕ) (cut_off : List (List ℕ)) → IsPrefix bytes (whole_of calendar site note lock)
@@ -105,13 +107,13 @@ module _ {F : Type 0} (state : F → FileState) where
       → AnyMoment state old new more
   any_moment old new bytes more part leaves =
       let longer : (lock : Standing) → old.log.began ≡ Some lock
-          → LeavesOfTurn lock more (state old.file) (state new.file) = λ lock is.
-          leaves_as (IsLeft lock.synced bytes (state old.file).cut_off) (IsLeft lock.synced more (state old.file).cut_off)
-          _ _ (longer_left lock.synced bytes more (state old.file).cut_off part) (leaves lock is) in record {
+      → LeavesOfTurn lock more (state old.file) (state new.file) = λ lock is.
+      leaves_as (IsLeft lock.synced bytes (state old.file).cut_off) (IsLeft lock.synced more (state old.file).cut_off)
+      _ _ (longer_left lock.synced bytes more (state old.file).cut_off part) (leaves lock is) in record {
         in_bytes = longer;
         in_letters = λ lock is calendar site note letters turn within.
             leaves_as (IsLeft lock.synced more (state old.file).cut_off) (λ left. IsPrefix lock.bytes left
-                → IsReadTorn calendar site note letters left ⊎ LeavesOne lock.synced (state old.file).cut_off left)
+            → IsReadTorn calendar site note letters left ⊎ LeavesOne lock.synced (state old.file).cut_off left)
             _ _ (λ left. left_read calendar site note letters lock turn more left (state old.file).cut_off within)
             (longer lock is);
       }
@@ -121,7 +123,7 @@ module _ {F : Type 0} (state : F → FileState) where
       → LeavesInTurn old.began bytes (state old.file) (state new.file) → AnyMoment state old new more
   moments_of_file old new bytes more order part leaves = any_moment old new bytes more part
       (λ lock is. leaves lock (stands_on old.in_turn old.log.began old.began (state old.file) old.waiting lock order.free
-          order.stands is))
+      order.stands is))
 
   pub moments_of_write : (old new : FileSpool F) → IsInOrder state old
       → HasAppended (state old.file) (state new.file) old.waiting → AnyMoment state old new (contents_of state old)
@@ -144,44 +146,37 @@ module _ {F : Type 0} (state : F → FileState) where
       (subst P is (leaves old.began))
 
   -- of none
-  pub moments_at_rest : (old new : FileSpool F) (text : List ℕ) → IsInOrder state old → new.file ≡ old.file
-      → AnyMoment state old new (contents_of state old ++ text)
-  moments_at_rest old new text order same =
+  pub moments_at_rest : (old new : FileSpool F) (more : List ℕ) → IsInOrder state old → IsPrefix (contents_of state old) more
+      → new.file ≡ old.file → AnyMoment state old new more
+  moments_at_rest old new more order part same =
       let a = state old.file in
-      let part : IsPrefix a.bytes (contents_of state old ++ text) = record {
-        rest = old.waiting ++ text;
-        whole = append_assoc a.bytes old.waiting text;
-      } in
-      moments_of_file old new (contents_of state old ++ text) (contents_of state old ++ text) order
-      (prefix_itself (contents_of state old ++ text))
-      (λ lock at. subst (λ f. LeavesOfTurn lock (contents_of state old ++ text) a (state f)) (sym same)
-          (at_rest lock old.began a at (contents_of state old ++ text) part))
+      moments_of_file old new more more order (prefix_itself more)
+      (λ lock at. subst (λ f. LeavesOfTurn lock more a (state f)) (sym same) (at_rest lock old.began a at more
+      (prefix_of a.bytes (contents_of state old) more (prefix_appended a.bytes old.waiting) part)))
 
   -- of one that left the file so
-  pub moments_then : (old mid new : FileSpool F) (text : List ℕ) → AnyMoment state old mid (contents_of state old)
-      → new.file ≡ mid.file → AnyMoment state old new (contents_of state old ++ text)
-  moments_then old mid new text x same =
-      any_moment old new (contents_of state old) (contents_of state old ++ text) (record { rest = text; whole = refl })
+  pub moments_then : (old mid new : FileSpool F) (more : List ℕ) → IsPrefix (contents_of state old) more
+      → AnyMoment state old mid (contents_of state old) → new.file ≡ mid.file → AnyMoment state old new more
+  moments_then old mid new more part x same =
+      any_moment old new (contents_of state old) more part
       (λ lock is. subst (λ f. LeavesOfTurn lock (contents_of state old) (state old.file) (state f)) (sym same)
-          (x.in_bytes lock is))
+      (x.in_bytes lock is))
 
-  stores : (old new : FileSpool F) → (state new.file).bytes ≡ contents_of state old → IsKept (state new.file)
-      → Stores state old new
+  stores : (old : FileSpool F) (new : FileState) → new.bytes ≡ contents_of state old → IsKept new → Stores state old new
   stores old new bytes kept = λ lock is calendar site note letters turn whole left at.
-      let all = all_left (state new.file) left kept at ∙ bytes ∙ whole in
+      let all = all_left new left kept at ∙ bytes ∙ whole in
       (all, read_stored calendar site note letters lock turn left all)
 
-  pub stores_all : (old new : FileSpool F) → KeepsAll state old new → Stores state old new
-  stores_all old new x = stores old new x.contents (kept_of (state old.file) (state new.file) old.waiting x)
+  pub stores_all : (old : FileSpool F) (new : FileState) → KeepsWritten (state old.file) new old.waiting
+      → Stores state old new
+  stores_all old new x = stores old new x.contents (kept_of (state old.file) new old.waiting x)
 
   -- so it is at the end of a turn in which nothing failed since its sync
-  pub stays_stored : (old new : FileSpool F) → IsInOrder state old → old.in_turn ≡ true → old.has_failed ≡ false
-      → old.is_unsynced ≡ false → (state new.file).bytes ≡ (state old.file).bytes
-      → (state new.file).kept ≡ (state old.file).kept → (state new.file).cut_off ≡ (state old.file).cut_off
-      → Stores state old new
-  stays_stored old new order turn sound synced bytes kept cut_off = λ lock is calendar site note letters is_turn whole.
+  pub stays_stored : (old : FileSpool F) (new : FileState) → IsInOrder state old → old.in_turn ≡ true
+      → old.has_failed ≡ false → old.is_unsynced ≡ false → HasLetGo (state old.file) new → Stores state old new
+  stays_stored old new order turn sound synced gone = λ lock is calendar site note letters is_turn whole.
       by_cover lock is calendar site note letters is_turn whole
-      (subst (λ (o : Option Standing). IsCovered o (state old.file)) is (order.covered turn sound synced))
+      (subst (λ (o : Option Standing). IsCovered o a) is (order.covered turn sound synced))
     where
       a : FileState
       a = state old.file
@@ -189,15 +184,17 @@ module _ {F : Type 0} (state : F → FileState) where
       nothing_waits : contents_of state old ≡ a.bytes ++ []
       nothing_waits = ap (λ (l : List ℕ). a.bytes ++ l) (order.synced synced)
 
+      same : IsKept a → IsKept new
+      same all = subst IsKept (sym gone.same) (record { kept = all.kept; cut_off = all.cut_off })
+
       by_cover : (lock : Standing) → old.log.began ≡ Some lock → (calendar : Calendar) (site : Site) (note : Note)
           (letters : List Letter) → IsTurnOf calendar site note letters lock
           → contents_of state old ≡ whole_of calendar site note lock → IsCovered (Some lock) a → (left : List ℕ)
-          → LeavesAt (at_now (state new.file)) left → (left ≡ whole_of calendar site note lock)
-              × IsReadAs left (letters ++ letter_of calendar site note ∷ [])
+          → LeavesAt (at_now new) left → (left ≡ whole_of calendar site note lock)
+          × IsReadAs left (letters ++ letter_of calendar site note ∷ [])
       by_cover lock is calendar site note letters is_turn whole (inl none) left at =
           absurd (some_appended calendar site note lock.bytes
           (ap (λ (l : List ℕ). l ++ []) (sym none) ∙ sym nothing_waits ∙ whole))
       by_cover lock is calendar site note letters is_turn whole (inr all) left at =
-          stores old new (bytes ∙ sym (append-nil a.bytes) ∙ sym nothing_waits)
-          (record { kept = kept ∙ all.kept ∙ ap length (sym bytes); cut_off = cut_off ∙ all.cut_off })
-          lock is calendar site note letters is_turn whole left at
+          stores old new (ap (λ (s : FileState). s.bytes) gone.same ∙ sym (append-nil a.bytes) ∙ sym nothing_waits)
+          (same all) lock is calendar site note letters is_turn whole left at

@@ -79,12 +79,12 @@ pub record AnyMoment {F : Type 0} (state : F → FileState) (old new : FileSpool
       → (calendar : Calendar) (site : Site) (note : Note) (letters : List Letter)
       → IsTurnOf calendar site note letters lock → IsPrefix bytes (whole_of calendar site note lock)
       → LeavesOnly (λ left. IsPrefix lock.bytes left
-          → IsReadTorn calendar site note letters left ⊎ LeavesOne lock.synced (state old.file).cut_off left)
-          (state old.file) (state new.file)
+      → IsReadTorn calendar site note letters left ⊎ LeavesOne lock.synced (state old.file).cut_off left)
+      (state old.file) (state new.file)
 
 -- Where all of the record was appended a crash leaves all, and with the letters the copy's own.
-abbrev pub Stores : {F : Type 0} → (F → FileState) → FileSpool F → FileSpool F → Type 0
+abbrev pub Stores : {F : Type 0} → (F → FileState) → FileSpool F → FileState → Type 0
 Stores state old new = (lock : Standing) → old.log.began ≡ Some lock
     → (calendar : Calendar) (site : Site) (note : Note) (letters : List Letter) → IsTurnOf calendar site note letters lock
-    → contents_of state old ≡ whole_of calendar site note lock → (left : List ℕ) → LeavesAt (at_now (state new.file)) left
+    → contents_of state old ≡ whole_of calendar site note lock → (left : List ℕ) → LeavesAt (at_now new) left
     → (left ≡ whole_of calendar site note lock) × IsReadAs left (letters ++ letter_of calendar site note ∷ [])

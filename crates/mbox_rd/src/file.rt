@@ -341,7 +341,8 @@ impl<F: MailboxFile + Drop, C: Clock + Drop> Spool for FileSpool<F, C> {
         ensures stops { self.old.in_turn ≡ true → StopsTurn F.state self.old self.new }
         ensures ended { self.old.in_turn ≡ true → HasEnded F.state self.old self.new }
         ensures any_moment { AnyMoment F.state self.old self.new (contents_of F.state self.old) }
-        ensures stored { self.old.has_failed ≡ false → self.old.is_unsynced ≡ false → Stores F.state self.old self.new }
+        ensures stored { self.old.in_turn ≡ true → self.old.has_failed ≡ false → self.old.is_unsynced ≡ false
+            → Stores F.state self.old (F.state self.new.file) }
 
         // what every spool ensures
         ensures none { (⟦<FileSpool<F, C> as Spool>⟧.state self.old).turn.in_turn ≡ false
@@ -353,10 +354,12 @@ impl<F: MailboxFile + Drop, C: Clock + Drop> Spool for FileSpool<F, C> {
         if !self.in_turn {
             return;
         }
-        let is_settled = end_turn(&mut self.file, self.has_failed, self.began);
-        if self.has_failed {
-            self.is_unsettled = !is_settled;
-        }
+        self.is_unsettled = end_turn(
+            &mut self.file,
+            self.has_failed,
+            self.began,
+            self.is_unsettled,
+        );
         self.waiting.clear();
         self.in_turn = false;
         let ended = Turns::after::<Brand, F>(&self.turns, &self.file, self.failures);
@@ -411,7 +414,7 @@ impl<F: MailboxFile + Drop, C: Clock + Drop> Spool for FileSpool<F, C> {
         ensures lost { self.old.in_turn ≡ true → self.old.has_failed ≡ false → self.old.is_unsettled ≡ false
             → OnErr result (HasLost F.state self.old self.new) }
         ensures any_moment { AnyMoment F.state self.old self.new (contents_of F.state self.old) }
-        ensures stored { OnOk result (Stores F.state self.old self.new) }
+        ensures stored { OnOk result (Stores F.state self.old (F.state self.new.file)) }
 
         // what every spool ensures
         ensures ok { OnOk result (HasSynced (⟦<FileSpool<F, C> as Spool>⟧.state self.old)

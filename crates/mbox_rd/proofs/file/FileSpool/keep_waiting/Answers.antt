@@ -23,10 +23,10 @@ pub returns-in-Ok-clause-any_moment : goal.returns-in-Ok-clause-any_moment
 returns-in-Ok-clause-any_moment g c =
     let S = g.F.MailboxFile.state in
     rw (← c.self.view_is) (moments_of_keep S _ _ c.deref.result.now c.self.invariant.2 c.deref.ensures.value
-        c.write_and_keep.ensures.moments)
+    c.write_and_keep.ensures.moments)
 
 pub returns-in-Err-clause-any_moment : goal.returns-in-Err-clause-any_moment
 returns-in-Err-clause-any_moment g c =
     let S = g.F.MailboxFile.state in
     rw (← c.self.view_is) (moments_of_keep S _ _ c.deref.result.now c.self.invariant.2 c.deref.ensures.value
-        c.write_and_keep.ensures.moments)
+    c.write_and_keep.ensures.moments)
