@@ -1,20 +1,21 @@
 -- What a crash leaves at the moments of a call, and of calls one after another.
-use Rattle.std.proofs.Common.{◌≡◌, ◌⊎◌, inl, inr, ⊎_elim, ℕ, ◌≤◌, arith, List, [], ◌∷◌, ◌++◌, length, take, drop, min}
+use Rattle.std.proofs.Common.{◌≡◌, inl, inr, ⊎_elim, ℕ, ◌≤◌, arith, true, List, [], ◌∷◌, ◌++◌, length, take, min}
 use Rattle.std.proofs.Common.{Result, Ok, Err, OnOk, OnErr, refl, sym, ap, ◌∙◌, subst, append_assoc, append-nil}
-use Rattle.std.proofs.Common.{length-append, true}
+use Rattle.std.proofs.Common.{length-append}
 use Rattle.std.specs.List.{AllByRecursion}
 use Rattle.std.specs.Result.{is_ok}
-use Rattle.std.proofs.lemmas.List.{take-append-drop, length-take}
+use Rattle.std.proofs.lemmas.List.{length-take, take_at}
 use Rattle.mail_world.specs.Prefixes.{IsPrefix}
 use Rattle.mail_world.specs.Turns.{Standing}
 use Rattle.mail_lives.proofs.Lists.{all_both}
 use Rattle.mbox_file.specs.declared.file.FileEnd.{FileEnd}
 use Rattle.mbox_file.specs.MailboxFile.{FileState, at_now, at_write, at_cut, HasAppended, HasNotAppended, KeepsFile}
 use Rattle.mbox_file.specs.MailboxFile.{FailsToKeep, HasCut, HasNotCut}
-use Rattle.mbox_file.specs.Moment.{Moment, LeavesFirst, LeavesOne, LeavesAt}
+use Rattle.mbox_file.specs.Moment.{Moment, LeavesOne, LeavesAt}
+use Rattle.mbox_file.proofs.Written.{part_of}
 use Rattle.mbox_rd.specs.FileSpool.{BeginsWith}
-use Rattle.mbox_rd.specs.Moments.{LeavesOnly, IsBeginning, IsLeft, LeavesOfTurn, HasSettled}
-use Rattle.mbox_rd.specs.Turn.{HasLetGo, HasBegun}
+use Rattle.mbox_rd.specs.Moments.{LeavesOnly, LeavesOfTurn}
+use Rattle.mbox_rd.specs.Turn.{HasLetGo, HasBegun, StaysThere}
 
 pub prefix_of : (xs ys zs : List ℕ) → IsPrefix xs ys → IsPrefix ys zs → IsPrefix xs zs
 prefix_of xs ys zs x y = record {
@@ -28,9 +29,6 @@ prefix_itself xs = record { rest = []; whole = sym (append-nil xs) }
 pub prefix_appended : (xs ys : List ℕ) → IsPrefix xs (xs ++ ys)
 prefix_appended xs ys = record { rest = ys; whole = refl }
 
-first_ones : (n : ℕ) (xs : List ℕ) → IsPrefix (take n xs) xs
-first_ones n xs = record { rest = drop n xs; whole = sym (take-append-drop n xs) }
-
 one_weaker : (least kept : ℕ) (contents : List (List ℕ)) (left : List ℕ) → least ≤ kept → LeavesOne kept contents left
     → LeavesOne least contents left
 one_weaker least kept [] left few none = none
@@ -38,17 +36,18 @@ one_weaker least kept (content ∷ contents) left few (inl first) =
     let kept_are = first.kept_are in inl (record { n = first.n; kept_are = omega arith; is = first.is })
 one_weaker least kept (content ∷ contents) left few (inr one) = inr (one_weaker least kept contents left few one)
 
--- one content that is a beginning of the bytes, and what was cut off
-is_left : (least kept : ℕ) (content bytes : List ℕ) (cut_off : List (List ℕ)) (left : List ℕ) → least ≤ kept
+-- a content that is a beginning of the bytes, and what was cut off
+pub is_left : (least kept : ℕ) (content bytes : List ℕ) (cut_off : List (List ℕ)) (left : List ℕ) → least ≤ kept
     → least ≤ length content → IsPrefix content bytes → LeavesOne kept (content ∷ cut_off) left
-    → IsLeft least bytes cut_off left
+    → LeavesOne least (bytes ∷ cut_off) left
 is_left least kept content bytes cut_off left few long part (inl first) =
     let size = ap length first.is ∙ length-take first.n content in
     let kept_are = first.kept_are in
-    inl (record {
-      part = subst (λ (l : List ℕ). IsPrefix l bytes) (sym first.is)
-          (prefix_of (take first.n content) content bytes (first_ones first.n content) part);
-      kept = omega (arith, size);
+    let begins : IsPrefix left bytes = prefix_of left content bytes
+    (subst (λ (l : List ℕ). IsPrefix l content) (sym first.is) (part_of first.n content)) part in inl (record {
+      n = length left;
+      kept_are = omega (arith, size);
+      is = sym (ap (λ (l : List ℕ). take (length left) l) begins.whole ∙ take_at left begins.rest (length left) refl);
     })
 is_left least kept content bytes cut_off left few long part (inr one) = inr (one_weaker least kept cut_off left few one)
 
@@ -67,7 +66,7 @@ leaves_as P Q a b h x = record {
   now = λ left at. h left (x.now left at);
 }
 
-pub leaves_then : (P : List ℕ → Type 0) (a b c : FileState) → LeavesOnly P a b → LeavesOnly P b c → LeavesOnly P a c
+leaves_then : (P : List ℕ → Type 0) (a b c : FileState) → LeavesOnly P a b → LeavesOnly P b c → LeavesOnly P a c
 leaves_then P a b c x y = record {
   more = x.more ++ y.more;
   since = y.since ∙ ap (λ (l : List Moment). l ++ y.more) x.since ∙ append_assoc a.moments x.more y.more;
@@ -75,91 +74,52 @@ leaves_then P a b c x y = record {
   now = y.now;
 }
 
-one_call : (P : List ℕ → Type 0) (a b : FileState) (moment : Moment) → b.moments ≡ a.moments ++ moment ∷ []
-    → ((left : List ℕ) → LeavesAt moment left → P left) → ((left : List ℕ) → LeavesAt (at_now b) left → P left)
-    → LeavesOnly P a b
-one_call P a b moment since here now = record { more = moment ∷ []; since = since; each = (here, tt); now = now }
+at_as : (b c : FileState) → b ≡ c → (left : List ℕ) → LeavesAt (at_now b) left → LeavesAt (at_now c) left
+at_as b c same left at = subst (λ (s : FileState). LeavesAt (at_now s) left) same at
 
--- no call, and each call, at a file that has so many bytes at least and keeps them
-rests : (least : ℕ) (a : FileState) (most : List ℕ) → least ≤ a.kept → least ≤ length a.bytes → IsPrefix a.bytes most
-    → LeavesOnly (IsLeft least most a.cut_off) a a
-rests least a most few long part = record {
-  more = [];
-  since = sym (append-nil a.moments);
-  each = tt;
-  now = λ left at. is_left least a.kept a.bytes most a.cut_off left few long part at;
-}
+-- where both locks are given back a crash leaves what it might have left before
+pub still_left : (b c : FileState) → HasLetGo b c → (left : List ℕ) → LeavesAt (at_now c) left → LeavesAt (at_now b) left
+still_left b c gone left at = at_as c _ gone.same left at
 
-module _ (least : ℕ) (a b : FileState) (most : List ℕ) (few : least ≤ a.kept) (long : least ≤ length a.bytes) where
-  abbrev P : List ℕ → Type 0
-  P left = IsLeft least most a.cut_off left
-
-  at_b : (c : FileState) → b ≡ c → (left : List ℕ) → LeavesAt (at_now b) left → LeavesAt (at_now c) left
-  at_b c same left at = subst (λ (s : FileState). LeavesAt (at_now s) left) same at
-
-  longer : (text : List ℕ) → least ≤ length (a.bytes ++ text)
-  longer text = let sum = length-append a.bytes text in omega (arith, sum)
-
-  module _ (text : List ℕ) (part : IsPrefix (a.bytes ++ text) most) where
-    written : (left : List ℕ) → LeavesAt (at_write a text) left → P left
-    written left at = is_left least a.kept (a.bytes ++ text) most a.cut_off left few (longer text) part at
-
-    pub writes : HasAppended a b text → LeavesOnly P a b
-    writes x = one_call P a b (at_write a text) (ap (λ (s : FileState). s.moments) x) written
-        (λ left at. written left (at_b _ x left at))
-
-    pub fails_to_write : HasNotAppended a b text → LeavesOnly P a b
-    fails_to_write x =
-        let some : IsPrefix (a.bytes ++ x.prefix) (a.bytes ++ text) = record {
-          rest = x.part.rest;
-          whole = ap (λ (l : List ℕ). a.bytes ++ l) x.part.whole ∙ sym (append_assoc a.bytes x.prefix x.part.rest);
-        } in
-        one_call P a b (at_write a text) (ap (λ (s : FileState). s.moments) x.same) written
-        (λ left at. is_left least a.kept (a.bytes ++ x.prefix) most a.cut_off left few (longer x.prefix)
-        (prefix_of (a.bytes ++ x.prefix) (a.bytes ++ text) most some part) (at_b _ x.same left at))
-
-  module _ (part : IsPrefix a.bytes most) where
-    there : (kept : ℕ) → least ≤ kept → (cut_off : List (List ℕ)) → (left : List ℕ)
-        → LeavesOne kept (a.bytes ∷ cut_off) left → IsLeft least most cut_off left
-    there kept so_many cut_off left one = is_left least kept a.bytes most cut_off left so_many long part one
-
-    -- what was cut off in this turn too
-    pub among : (left : List ℕ) → IsLeft least most (a.bytes ∷ a.cut_off) left → P left
-    among left (inl begins) = inl begins
-    among left (inr one) = there least (omega arith) a.cut_off left one
-
-    pub keeps : {T E : Type 0} (r : Result T E) → OnOk r (KeepsFile a b) → OnErr r (FailsToKeep a b) → LeavesOnly P a b
-    keeps (Ok value) x y = one_call P a b (at_now a) (ap (λ (s : FileState). s.moments) x) (there a.kept few a.cut_off)
-        (λ left at. ⊎_elim (λ begins. inl begins) (λ none. absurd none)
-        (there (length a.bytes) long [] left (at_b _ x left at)))
-    keeps (Err cause) x y =
-        let more = y.kept in
-        one_call P a b (at_now a) (ap (λ (s : FileState). s.moments) y.same) (there a.kept few a.cut_off)
-        (λ left at. there b.kept (omega arith) a.cut_off left (at_b _ y.same left at))
-
-    pub cuts : {T E : Type 0} (r : Result T E) (size : ℕ) → least ≤ size → OnOk r (HasCut a b size)
-        → OnErr r (HasNotCut a b size) → LeavesOnly P a b
-    cuts (Ok value) size within x y =
-        let kept : least ≤ min a.kept size = omega arith in
-        let size_left = length-take size a.bytes in
-        one_call P a b (at_cut a size) (ap (λ (s : FileState). s.moments) x) (there (min a.kept size) kept a.cut_off)
-        (λ left at. among left (is_left least (min a.kept size) (take size a.bytes) most (a.bytes ∷ a.cut_off) left kept
-        (omega (arith, size_left)) (prefix_of (take size a.bytes) a.bytes most (first_ones size a.bytes) part)
-        (at_b _ x left at)))
-    cuts (Err cause) size within x y =
-        let kept : least ≤ min a.kept size = omega arith in
-        one_call P a b (at_cut a size) (ap (λ (s : FileState). s.moments) y.same)
-        (there (min a.kept size) kept a.cut_off)
-        (λ left at. among left (there a.kept few (a.bytes ∷ a.cut_off) left (at_b _ y.same left at)))
-
--- and then both locks are given back
 pub leaves_and_lets_go : (P : List ℕ → Type 0) (a b c : FileState) → HasLetGo b c → LeavesOnly P a b → LeavesOnly P a c
 leaves_and_lets_go P a b c gone x = record {
   more = x.more;
   since = ap (λ (s : FileState). s.moments) gone.same ∙ x.since;
   each = x.each;
-  now = λ left at. x.now left (subst (λ (s : FileState). LeavesAt (at_now s) left) gone.same at);
+  now = λ left at. x.now left (still_left b c gone left at);
 }
+
+one_call : (P : List ℕ → Type 0) (a b : FileState) (moment : Moment) → b.moments ≡ a.moments ++ moment ∷ []
+    → ((left : List ℕ) → LeavesAt moment left → P left) → ((left : List ℕ) → LeavesAt (at_now b) left → P left)
+    → LeavesOnly P a b
+one_call P a b moment since here now = record { more = moment ∷ []; since = since; each = (here, tt); now = now }
+
+-- no call, or a keep, at a file that has so many bytes at least and keeps them
+module _ (least : ℕ) (a : FileState) (most : List ℕ) (few : least ≤ a.kept) (long : least ≤ length a.bytes)
+    (part : IsPrefix a.bytes most) where
+  there : (kept : ℕ) → least ≤ kept → (cut_off : List (List ℕ)) → (left : List ℕ)
+      → LeavesOne kept (a.bytes ∷ cut_off) left → LeavesOne least (most ∷ cut_off) left
+  there kept so_many cut_off left one = is_left least kept a.bytes most cut_off left so_many long part one
+
+  -- what was cut off in this turn too
+  among : (left : List ℕ) → LeavesOne least (most ∷ a.bytes ∷ a.cut_off) left → LeavesOne least (most ∷ a.cut_off) left
+  among left (inl first) = inl first
+  among left (inr one) = there least (omega arith) a.cut_off left one
+
+  pub rests : LeavesOnly (LeavesOne least (most ∷ a.cut_off)) a a
+  rests = record { more = []; since = sym (append-nil a.moments); each = tt; now = there a.kept few a.cut_off }
+
+  pub keeps : {T E : Type 0} (r : Result T E) (b : FileState) → OnOk r (KeepsFile a b) → OnErr r (FailsToKeep a b)
+      → LeavesOnly (LeavesOne least (most ∷ a.cut_off)) a b
+  keeps (Ok value) b x y =
+      one_call (LeavesOne least (most ∷ a.cut_off)) a b (at_now a) (ap (λ (s : FileState). s.moments) x)
+      (there a.kept few a.cut_off)
+      (λ left at. ⊎_elim (λ first. inl first) (λ none. absurd none)
+      (there (length a.bytes) long [] left (at_as b _ x left at)))
+  keeps (Err cause) b x y =
+      let more = y.kept in
+      one_call (LeavesOne least (most ∷ a.cut_off)) a b (at_now a) (ap (λ (s : FileState). s.moments) y.same)
+      (there a.kept few a.cut_off) (λ left at. there b.kept (omega arith) a.cut_off left (at_as b _ y.same left at))
 
 -- ---- in a turn
 
@@ -173,91 +133,96 @@ module _ (lock : Standing) (began : ℕ) (a : FileState) (at : BeginsWith lock b
   pub at_rest : (bytes : List ℕ) → IsPrefix a.bytes bytes → LeavesOfTurn lock bytes a a
   at_rest bytes part = rests lock.synced a bytes few long part
 
-  pub after_write : (b : FileState) (text : List ℕ) → HasAppended a b text → LeavesOfTurn lock (a.bytes ++ text) a b
-  after_write b text x = writes lock.synced a b (a.bytes ++ text) few long text (prefix_itself (a.bytes ++ text)) x
+  module _ (text : List ℕ) where
+    -- a part of it is written
+    written : (prefix : List ℕ) → IsPrefix prefix text → (left : List ℕ) → LeavesAt (at_write a prefix) left
+        → LeavesOne lock.synced ((a.bytes ++ text) ∷ a.cut_off) left
+    written prefix part left one =
+        let sum = length-append a.bytes prefix in
+        is_left lock.synced a.kept (a.bytes ++ prefix) (a.bytes ++ text) a.cut_off left few (omega (arith, long, sum)) (record {
+          rest = part.rest;
+          whole = ap (λ (l : List ℕ). a.bytes ++ l) part.whole ∙ sym (append_assoc a.bytes prefix part.rest);
+        }) one
 
-  pub after_failed_write : (b : FileState) (text : List ℕ) → HasNotAppended a b text
-      → LeavesOfTurn lock (a.bytes ++ text) a b
-  after_failed_write b text x =
-      fails_to_write lock.synced a b (a.bytes ++ text) few long text (prefix_itself (a.bytes ++ text)) x
+    pub after_write : (b : FileState) → HasAppended a b text → LeavesOfTurn lock (a.bytes ++ text) a b
+    after_write b x = let all = written text (prefix_itself text) in
+        one_call _ a b (at_write a text) (ap (λ (s : FileState). s.moments) x) all
+        (λ left one. all left (at_as b _ x left one))
 
-  pub after_keep : {T E : Type 0} (r : Result T E) (b c : FileState) (text : List ℕ) → HasAppended a b text
-      → OnOk r (KeepsFile b c) → OnErr r (FailsToKeep b c) → LeavesOfTurn lock (a.bytes ++ text) a c
-  after_keep r b c text x ok err =
-      let kept : b.kept ≡ a.kept = ap (λ (s : FileState). s.kept) x in
-      let bytes : b.bytes ≡ a.bytes ++ text = ap (λ (s : FileState). s.bytes) x in
-      let size : length b.bytes ≡ length (a.bytes ++ text) = ap length bytes in
-      let sum = length-append a.bytes text in
-      leaves_then (IsLeft lock.synced (a.bytes ++ text) a.cut_off) a b c (after_write b text x)
-      (subst (λ (l : List (List ℕ)). LeavesOnly (IsLeft lock.synced (a.bytes ++ text) l) b c)
-      (ap (λ (s : FileState). s.cut_off) x)
-      (keeps lock.synced b c (a.bytes ++ text) (omega (arith, few, kept)) (omega (arith, long, size, sum))
-      (subst (λ (l : List ℕ). IsPrefix l (a.bytes ++ text)) (sym bytes) (prefix_itself (a.bytes ++ text))) r ok err))
+    pub after_failed_write : (b : FileState) → HasNotAppended a b text → LeavesOfTurn lock (a.bytes ++ text) a b
+    after_failed_write b x =
+        one_call _ a b (at_write a text) (ap (λ (s : FileState). s.moments) x.same) (written text (prefix_itself text))
+        (λ left one. written x.prefix x.part left (at_as b _ x.same left one))
+
+    pub after_keep : {T E : Type 0} (r : Result T E) (b c : FileState) → HasAppended a b text → OnOk r (KeepsFile b c)
+        → OnErr r (FailsToKeep b c) → LeavesOfTurn lock (a.bytes ++ text) a c
+    after_keep r b c x ok err =
+        let P : FileState → Type 0 = λ s. LeavesOnly (LeavesOne lock.synced ((a.bytes ++ text) ∷ a.cut_off)) s c in
+        let written : FileState = record a {
+          bytes = a.bytes ++ text;
+          moments = a.moments ++ at_write a text ∷ [];
+        } in
+        let kept : lock.synced ≤ length (a.bytes ++ text) =
+        let sum = length-append a.bytes text in omega (arith, long, sum) in
+        let whole = prefix_itself (a.bytes ++ text) in
+        leaves_then (LeavesOne lock.synced ((a.bytes ++ text) ∷ a.cut_off)) a b c (after_write b x)
+        (subst P (sym x) (keeps lock.synced written (a.bytes ++ text) few kept whole r c
+        (subst (λ (s : FileState). OnOk r (KeepsFile s c)) x ok)
+        (subst (λ (s : FileState). OnErr r (FailsToKeep s c)) x err)))
+
+  -- once it is cut to its bytes at the lock
+  abbrev cut : FileState
+  cut = record a {
+    bytes = take began a.bytes;
+    kept = min a.kept began;
+    cut_off = a.bytes ∷ a.cut_off;
+    moments = a.moments ++ at_cut a began ∷ [];
+  }
+
+  kept_then : lock.synced ≤ min a.kept began
+  kept_then = let within = at.within in omega (arith, few)
+
+  long_then : lock.synced ≤ length (take began a.bytes)
+  long_then = let within = at.within in let size = length-take began a.bytes in omega (arith, long, size)
 
   pub after_cut : {T E : Type 0} (r : Result T E) (b : FileState) → OnOk r (HasCut a b began)
       → OnErr r (HasNotCut a b began) → LeavesOfTurn lock a.bytes a b
-  after_cut r b ok err = cuts lock.synced a b a.bytes few long (prefix_itself a.bytes) r began at.within ok err
+  after_cut (Ok value) b x y =
+      let whole = prefix_itself a.bytes in
+      one_call _ a b (at_cut a began) (ap (λ (s : FileState). s.moments) x)
+      (there lock.synced a a.bytes few long whole (min a.kept began) kept_then a.cut_off)
+      (λ left one. among lock.synced a a.bytes few long whole left (is_left lock.synced (min a.kept began)
+      (take began a.bytes) a.bytes cut.cut_off left kept_then long_then (part_of began a.bytes) (at_as b _ x left one)))
+  after_cut (Err cause) b x y =
+      let whole = prefix_itself a.bytes in
+      one_call _ a b (at_cut a began) (ap (λ (s : FileState). s.moments) y.same)
+      (there lock.synced a a.bytes few long whole (min a.kept began) kept_then a.cut_off)
+      (λ left one. among lock.synced a a.bytes few long whole left
+      (there lock.synced a a.bytes few long whole a.kept few cut.cut_off left (at_as b _ y.same left one)))
 
   pub after_cut_and_keep : {T E U V : Type 0} (r : Result T E) (s : Result U V) (b c : FileState) → is_ok r ≡ true
       → OnOk r (HasCut a b began) → OnOk s (KeepsFile b c) → OnErr s (FailsToKeep b c) → LeavesOfTurn lock a.bytes a c
   after_cut_and_keep (Err cause) s b c is_cut x ok err = cc
   after_cut_and_keep {T} {E} (Ok value) s b c is_cut x ok err =
-      let within = at.within in
-      let kept : b.kept ≡ min a.kept began = ap (λ (s : FileState). s.kept) x in
-      let bytes : b.bytes ≡ take began a.bytes = ap (λ (s : FileState). s.bytes) x in
-      let size : length b.bytes ≡ min began (length a.bytes) = ap length bytes ∙ length-take began a.bytes in
-      let was_cut : Result T E = Ok value in
-      leaves_then (IsLeft lock.synced a.bytes a.cut_off) a b c (after_cut was_cut b x tt)
-      (leaves_as (IsLeft lock.synced a.bytes b.cut_off) (IsLeft lock.synced a.bytes a.cut_off) b c
-      (λ left one. among lock.synced a b a.bytes few long (prefix_itself a.bytes) left
-      (subst (λ (l : List (List ℕ)). IsLeft lock.synced a.bytes l left) (ap (λ (s : FileState). s.cut_off) x) one))
-      (keeps lock.synced b c a.bytes (omega (arith, few, within, kept)) (omega (arith, long, within, size))
-      (subst (λ (l : List ℕ). IsPrefix l a.bytes) (sym bytes) (first_ones began a.bytes)) s ok err))
+      let r : Result T E = Ok value in
+      let P : FileState → Type 0 = λ f. LeavesOnly (LeavesOne lock.synced (a.bytes ∷ a.cut_off)) f c in
+      leaves_then (LeavesOne lock.synced (a.bytes ∷ a.cut_off)) a b c (after_cut r b x tt)
+      (subst P (sym x) (leaves_as (LeavesOne lock.synced (a.bytes ∷ cut.cut_off)) _ cut c
+      (among lock.synced a a.bytes few long (prefix_itself a.bytes))
+      (keeps lock.synced cut a.bytes kept_then long_then (part_of began a.bytes) s c
+      (subst (λ (f : FileState). OnOk s (KeepsFile f c)) x ok)
+      (subst (λ (f : FileState). OnErr s (FailsToKeep f c)) x err))))
 
 -- ---- at a lock
 
-own_fields : (a b : FileState) (kept faults : ℕ) (cut_off : List (List ℕ)) (moments : List Moment)
-    → b ≡ record a { kept = kept; cut_off = cut_off; moments = moments; faults = faults }
-    → b ≡ record a { kept = b.kept; cut_off = b.cut_off; moments = b.moments; faults = b.faults }
-own_fields a b kept faults cut_off moments is = is ∙ ap (λ (s : FileState). record a {
-  kept = s.kept;
-  cut_off = s.cut_off;
-  moments = s.moments;
-  faults = s.faults;
-}) (sym is)
-
-pub settles : {T E : Type 0} (r : Result T E) (a b : FileState) → OnOk r (KeepsFile a b) → OnErr r (FailsToKeep a b)
-    → HasSettled a b
-settles {T} {E} (Ok value) a b ok err =
-    let r : Result T E = Ok value in
-    let kept : b.kept ≡ length a.bytes = ap (λ (s : FileState). s.kept) ok in
-    let size : length b.bytes ≡ length a.bytes = ap (λ (s : FileState). length s.bytes) ok in record {
-      same = own_fields a b (length a.bytes) a.faults [] (a.moments ++ at_now a ∷ []) ok;
-      covered = λ h. omega (arith, kept, size);
-      leaves = keeps 0 a b a.bytes (omega arith) (omega arith) (prefix_itself a.bytes) r ok err;
-    }
-settles {T} {E} (Err cause) a b ok err =
-    let r : Result T E = Err cause in record {
-      same = own_fields a b b.kept b.faults a.cut_off (a.moments ++ at_now a ∷ []) err.same;
-      covered = err.within;
-      leaves = keeps 0 a b a.bytes (omega arith) (omega arith) (prefix_itself a.bytes) r ok err;
-    }
-
-pub settled_at_rest : (a : FileState) → HasSettled a a
-settled_at_rest a = record {
-  same = refl;
-  covered = λ h. h;
-  leaves = rests 0 a a.bytes (omega arith) (omega arith) (prefix_itself a.bytes);
-}
-
-pub locks : (a b c : FileState) (end : FileEnd) → HasBegun a b end → HasSettled b c
-    → LeavesOnly (IsLeft 0 c.bytes a.cut_off) a c
-locks a b c end begun settled =
-    let P : List ℕ → List (List ℕ) → Type 0 = λ bytes cut_off. LeavesOnly (IsLeft 0 bytes cut_off) b c in
-    let x = subst (λ (l : List (List ℕ)). P c.bytes l) begun.untouched.cut_off
-    (subst (λ (l : List ℕ). P l b.cut_off) (sym (ap (λ (s : FileState). s.bytes) settled.same)) settled.leaves) in record {
-      more = x.more;
-      since = x.since ∙ ap (λ (l : List Moment). l ++ x.more) begun.untouched.moments;
-      each = x.each;
-      now = x.now;
+pub locks : (a b c : FileState) (end : FileEnd) → HasBegun a b end → StaysThere b c
+    → LeavesOnly (LeavesOne 0 (b.bytes ∷ b.cut_off)) b c → LeavesOnly (LeavesOne 0 (c.bytes ∷ a.cut_off)) a c
+locks a b c end begun stays x =
+    let P : List ℕ → List (List ℕ) → Type 0 = λ bytes cut_off. LeavesOnly (LeavesOne 0 (bytes ∷ cut_off)) b c in
+    let y = subst (λ (l : List (List ℕ)). P c.bytes l) begun.untouched.cut_off
+    (subst (λ (l : List ℕ). P l b.cut_off) (sym (ap (λ (s : FileState). s.bytes) stays)) x) in record {
+      more = y.more;
+      since = y.since ∙ ap (λ (l : List Moment). l ++ y.more) begun.untouched.moments;
+      each = y.each;
+      now = y.now;
     }

@@ -12,17 +12,12 @@ unwritten old new text x =
     let sum = length-append old.bytes x.prefix in record {
       prefix = x.prefix;
       part = x.part;
-      same = x.same ∙ ap (λ n. record old {
+      same = x.same ∙ ap (λ (s : FileState). record old {
         bytes = old.bytes ++ x.prefix;
-        kept = n;
-        moments = old.moments ++ at_write old text ∷ [];
+        kept = s.kept;
+        moments = s.moments;
         faults = new.faults;
-      }) (sym kept) ∙ ap (λ m. record old {
-        bytes = old.bytes ++ x.prefix;
-        kept = new.kept;
-        moments = m;
-        faults = new.faults;
-      }) (sym (ap (λ (s : FileState). s.moments) x.same));
+      }) (sym x.same);
       kept = omega (arith, kept);
       within = λ h. omega (arith, h, kept, longer, sum);
       failed = x.failed;
@@ -43,12 +38,12 @@ unkept_of old written new text x y =
     }) x in record {
       prefix = text;
       part = record { rest = []; whole = sym (append-nil text) };
-      same = both ∙ ap (λ m. record old {
+      same = both ∙ ap (λ (s : FileState). record old {
         bytes = old.bytes ++ text;
         kept = new.kept;
-        moments = m;
+        moments = s.moments;
         faults = new.faults;
-      }) (sym (ap (λ (s : FileState). s.moments) both));
+      }) (sym both);
       kept = subst (λ n. n ≤ new.kept) kept y.kept;
       within = λ h. y.within (omega (arith, h, kept, longer, sum));
       failed = let e = y.failed in grind (arith, e, faults);

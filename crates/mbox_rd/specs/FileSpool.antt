@@ -1,6 +1,6 @@
 -- What contracts see of a spool over a file, which other programs use too.
-use Rattle.std.specs.Prelude.{◌≡◌, ◌⊎◌, ℕ, ◌+◌, ◌-◌, ◌≤◌, ◌^◌, min, ◌||◌, Bool, true, false, List, [], ◌++◌, length, take}
-use Rattle.std.specs.Prelude.{Option, Some, None, ⊤}
+use Rattle.std.specs.Prelude.{◌≡◌, ℕ, ◌+◌, ◌-◌, ◌≤◌, ◌^◌, min, ◌||◌, Bool, true, false, List, [], ◌++◌, length, take}
+use Rattle.std.specs.Prelude.{Option, Some, None}
 use Rattle.mail_world.specs.Counts.{counted}
 use Rattle.mail_world.specs.Failures.{Rises}
 use Rattle.mail_world.specs.Prefixes.{IsPrefix}
@@ -79,15 +79,6 @@ abbrev pub StandsOn : Option Standing → ℕ → FileState → Type 0
 StandsOn None began file = ⊥
 StandsOn (Some lock) began file = BeginsWith lock began file
 
--- what stood at the lock stands there, or all of it is kept, and nothing is cut off but isn't kept so
-pub record IsKept (file : FileState) : Type 0 where
-  pub kept : file.kept ≡ length file.bytes
-  pub cut_off : file.cut_off ≡ []
-
-abbrev pub IsCovered : Option Standing → FileState → Type 0
-IsCovered None file = ⊤
-IsCovered (Some lock) file = (file.bytes ≡ lock.bytes) ⊎ IsKept file
-
 -- What holds of it between two calls: outside a turn nothing waits, nor after a good sync; in a turn both locks are
 -- held, and the file still begins with what stood there at the lock, of which as much is kept; and as long as no call
 -- failed in it, its end is known.
@@ -98,8 +89,6 @@ pub record IsInOrder {F : Type 0} (state : F → FileState) (spool : FileSpool F
   pub stands : spool.in_turn ≡ true → StandsOn spool.log.began spool.began (state spool.file)
   pub ends : spool.in_turn ≡ true → spool.has_failed ≡ false → KnowsEnd state spool
   pub settled : spool.is_unsettled ≡ false → (state spool.file).cut_off ≡ []
-  pub covered : spool.in_turn ≡ true → spool.has_failed ≡ false → spool.is_unsynced ≡ false
-      → IsCovered spool.log.began (state spool.file)
 
 -- just opened: nothing waits, nothing failed, and it is in no turn
 pub record IsOpened {F : Type 0} (spool : FileSpool F) : Type 0 where

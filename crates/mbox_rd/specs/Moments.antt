@@ -23,33 +23,14 @@ pub record LeavesOnly (P : List ℕ → Type 0) (old new : FileState) : Type 0 w
   pub each : AllByRecursion (λ moment. (left : List ℕ) → LeavesAt moment left → P left) more
   pub now : (left : List ℕ) → LeavesAt (at_now new) left → P left
 
--- a beginning of these bytes, so many of them at least
-pub record IsBeginning (least : ℕ) (bytes left : List ℕ) : Type 0 where
-  pub part : IsPrefix left bytes
-  pub kept : least ≤ length left
-
--- such a beginning; or, where an earlier turn cut the file back and that isn't kept, some of what it cut off
-abbrev pub IsLeft : ℕ → List ℕ → List (List ℕ) → List ℕ → Type 0
-IsLeft least bytes cut_off left = IsBeginning least bytes left ⊎ LeavesOne least cut_off left
-
--- In a turn that began so a crash leaves a beginning of these bytes, and of what was kept at its lock all.
+-- In a turn that began so a crash leaves a beginning of these bytes, and of what was kept at its lock all; or, where an
+-- earlier turn cut the file back and that isn't kept, some of what it cut off.
 abbrev pub LeavesOfTurn : Standing → List ℕ → FileState → FileState → Type 0
-LeavesOfTurn lock bytes old new = LeavesOnly (IsLeft lock.synced bytes old.cut_off) old new
+LeavesOfTurn lock bytes old new = LeavesOnly (LeavesOne lock.synced (bytes ∷ old.cut_off)) old new
 
 -- by its file alone
 abbrev pub LeavesInTurn : ℕ → List ℕ → FileState → FileState → Type 0
 LeavesInTurn began bytes old new = (lock : Standing) → BeginsWith lock began old → LeavesOfTurn lock bytes old new
-
--- what an earlier turn cut off was kept so, or couldn't be, and nothing was written
-pub record HasSettled (old new : FileState) : Type 0 where
-  pub same : new ≡ record old {
-    kept = new.kept;
-    cut_off = new.cut_off;
-    moments = new.moments;
-    faults = new.faults;
-  }
-  pub covered : old.kept ≤ length old.bytes → new.kept ≤ length new.bytes
-  pub leaves : LeavesOnly (IsLeft 0 old.bytes old.cut_off) old new
 
 -- ---- in letters
 

@@ -41,6 +41,15 @@ pub record HasLetGo (old new : FileState) : Type 0 where
   }
   pub free : LeavesNoLockFile old new
 
+-- its bytes and its locks stay
+abbrev pub StaysThere : FileState → FileState → Type 0
+StaysThere old new = new ≡ record old {
+  kept = new.kept;
+  cut_off = new.cut_off;
+  moments = new.moments;
+  faults = new.faults;
+}
+
 -- the path names the open file, which ends so
 pub record HasFoundOwnEnd (old new : FileState) (end : FileEnd) : Type 0 where
   pub same : new ≡ record old { bytes = new.bytes; kept = new.kept; is_named = true }

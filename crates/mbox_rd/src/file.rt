@@ -1,6 +1,6 @@
 //! A mailbox in a file, which other programs read and empty too: it takes bytes in turns, and what stands there is
 //! looked at again in each. Nothing of it lasts from one turn to the next but its file and whether the last turn broke.
-ghost use Rattle.std.specs.Prelude.{◌≡◌, ◌<◌, ◌≤◌, ℕ, [], ◌++◌, true, false, length, take, ⊤};
+ghost use Rattle.std.specs.Prelude.{◌≡◌, ◌<◌, ◌≤◌, ℕ, List, [], ◌∷◌, ◌++◌, true, false, length, take, ⊤};
 ghost use Rattle.std.specs.Prelude.{Err, IsErr, IfOk, OnOk, OnErr};
 ghost use Rattle.mail_world.specs.Endings.{ending, ending_from};
 ghost use Rattle.mail_world.specs.Failures.{Rises};
@@ -8,9 +8,10 @@ ghost use Rattle.mail_world.specs.Prefixes.{IsPrefix};
 ghost use Rattle.mbox_record.specs.Spool.{SpoolTook, SpoolFailed, HasSynced, HasNotSynced, AsksForTurn, EndsTurn};
 ghost use Rattle.mbox_record.specs.Tail.{ending_of};
 ghost use Rattle.mbox_record.specs.TurnState.{knows_end};
-ghost use Rattle.mbox_file.specs.MailboxFile.{IsHeld};
+ghost use Rattle.mbox_file.specs.MailboxFile.{IsHeld, at_now};
 ghost use Rattle.mbox_rd.specs.FileSpool.{KeepsWritten, LosesPart};
-ghost use Rattle.mbox_rd.specs.Moments.{LeavesInTurn};
+ghost use Rattle.mbox_file.specs.Moment.{LeavesOne, LeavesAt};
+ghost use Rattle.mbox_rd.specs.Moments.{LeavesInTurn, LeavesOnly};
 
 use crate::patience::Patience;
 use crate::turn::{end_turn, open_anew, wait_for_turn};
@@ -119,7 +120,6 @@ impl<F: MailboxFile + Drop, C: Clock + Drop> FileSpool<F, C> {
 impl<F: MailboxFile + Drop, C: Clock + Drop> FileSpool<F, C> {
     ghost use Rattle.mbox_file.specs.MailboxFile.{HasAppended, HasNotAppended};
     ghost use Rattle.mbox_rd.specs.FileSpool.{HasWritten, HasNotWritten, KeepsAll, HasLost, contents_of, failed_again};
-    ghost use Rattle.mbox_rd.specs.Moments.{AnyMoment};
 
     // Counts a failure, and throws away what waits.
     fn fail(&mut self) -> SpoolFault
@@ -136,14 +136,14 @@ impl<F: MailboxFile + Drop, C: Clock + Drop> FileSpool<F, C> {
     // where one failed.
     fn write_waiting(&mut self) -> io::Result<()>
         requires turn { self.old.in_turn ≡ true }
-        requires unsynced { self.old.is_unsynced ≡ true }
         requires settled { self.old.is_unsettled ≡ false }
         ensures ok { OnOk result (HasWritten self.old self.new) }
         ensures written { OnOk result (HasAppended (F.state self.old.file) (F.state self.new.file) self.old.waiting) }
         ensures err { OnErr result (HasNotWritten self.old self.new) }
         ensures failed { OnErr result
             (HasNotAppended (F.state self.old.file) (F.state self.new.file) self.old.waiting) }
-        ensures any_moment { AnyMoment F.state self.old self.new (contents_of F.state self.old) }
+        ensures moments { LeavesInTurn self.old.began (contents_of F.state self.old)
+            (F.state self.old.file) (F.state self.new.file) }
     {
         let tail = self.tail();
         match self.file.write(&self.waiting) {
@@ -167,7 +167,8 @@ impl<F: MailboxFile + Drop, C: Clock + Drop> FileSpool<F, C> {
         ensures kept { OnOk result (KeepsAll F.state self.old self.new) }
         ensures err { OnErr result (HasNotWritten self.old self.new) }
         ensures failed { OnErr result (HasLost F.state self.old self.new) }
-        ensures any_moment { AnyMoment F.state self.old self.new (contents_of F.state self.old) }
+        ensures moments { LeavesInTurn self.old.began (contents_of F.state self.old)
+            (F.state self.old.file) (F.state self.new.file) }
     {
         let end = self.tail();
         match write_and_keep(&mut self.file, &self.waiting) {
@@ -198,9 +199,8 @@ fn write_and_keep<F: MailboxFile>(file: &mut F, bytes: &[u8]) -> io::Result<()>
 
 impl<F: MailboxFile + Drop, C: Clock + Drop> FileSpool<F, C> {
     ghost use Rattle.mbox_file.specs.MailboxFile.{IsEnd};
-    ghost use Rattle.mbox_rd.specs.Turn.{HasBegun, HasMissed};
+    ghost use Rattle.mbox_rd.specs.Turn.{HasBegun, HasMissed, StaysThere};
     ghost use Rattle.mbox_rd.specs.FileSpool.{StartsTurn, CountsRefusal, KnowsEnd};
-    ghost use Rattle.mbox_rd.specs.Moments.{HasSettled};
 
     // Asks for a turn. After one that broke, what the path names is opened first.
     fn ask(&mut self) -> Result<FileEnd, InUse>
@@ -220,7 +220,11 @@ impl<F: MailboxFile + Drop, C: Clock + Drop> FileSpool<F, C> {
     fn settle(&mut self)
         requires free { self.old.in_turn ≡ false }
         ensures same { self.new ≡ record self.old { file = self.new.file; is_unsettled = self.new.is_unsettled } }
-        ensures kept { HasSettled (F.state self.old.file) (F.state self.new.file) }
+        ensures stays { StaysThere (F.state self.old.file) (F.state self.new.file) }
+        ensures covered { (F.state self.old.file).kept ≤ length (F.state self.old.file).bytes
+            → (F.state self.new.file).kept ≤ length (F.state self.new.file).bytes }
+        ensures moments { LeavesOnly (LeavesOne 0 ((F.state self.old.file).bytes ∷ (F.state self.old.file).cut_off))
+            (F.state self.old.file) (F.state self.new.file) }
         ensures settled { self.new.is_unsettled ≡ false → (F.state self.new.file).cut_off ≡ [] }
     {
         if self.is_unsettled {
@@ -288,7 +292,7 @@ impl<F: MailboxFile + Drop, C: Clock + Drop> Spool for FileSpool<F, C> {
     ghost use Rattle.mbox_rd.specs.FileSpool.{HasTurn, StartsTurn, CountsRefusal, HasEnded, StopsTurn};
     ghost use Rattle.mbox_rd.specs.FileSpool.{HasTaken, KeepsAll, StaysSound, Breaks, HasLost, failed_again};
     ghost use Rattle.mbox_rd.specs.FileSpool.{KnowsEnd, contents_of, state_of};
-    ghost use Rattle.mbox_rd.specs.Moments.{AnyMoment, IsLeft, LeavesOnly, Stores};
+    ghost use Rattle.mbox_rd.specs.Moments.{AnyMoment, Stores};
     ghost use Rattle.mbox_rd.specs.Turn.{HasMissed};
 
     ghost state = { λ s. state_of F.state s };
@@ -306,7 +310,7 @@ impl<F: MailboxFile + Drop, C: Clock + Drop> Spool for FileSpool<F, C> {
         ensures starts { OnOk result (StartsTurn F.state self.old self.new) }
         ensures had { OnOk result (HasTurn F.state self.new) }
         ensures moments { OnOk result
-            (LeavesOnly (IsLeft 0 (F.state self.new.file).bytes (F.state self.old.file).cut_off)
+            (LeavesOnly (LeavesOne 0 ((F.state self.new.file).bytes ∷ (F.state self.old.file).cut_off))
             (F.state self.old.file) (F.state self.new.file)) }
         ensures anew { self.old.in_turn ≡ false → self.old.has_failed ≡ true
             → OnOk result (Rises (F.state self.old.file).openings (F.state self.new.file).openings) }
@@ -341,8 +345,8 @@ impl<F: MailboxFile + Drop, C: Clock + Drop> Spool for FileSpool<F, C> {
         ensures stops { self.old.in_turn ≡ true → StopsTurn F.state self.old self.new }
         ensures ended { self.old.in_turn ≡ true → HasEnded F.state self.old self.new }
         ensures any_moment { AnyMoment F.state self.old self.new (contents_of F.state self.old) }
-        ensures stored { self.old.in_turn ≡ true → self.old.has_failed ≡ false → self.old.is_unsynced ≡ false
-            → Stores F.state self.old (F.state self.new.file) }
+        ensures stored { self.old.has_failed ≡ false → (left : List ℕ)
+            → LeavesAt (at_now (F.state self.new.file)) left → LeavesAt (at_now (F.state self.old.file)) left }
 
         // what every spool ensures
         ensures none { (⟦<FileSpool<F, C> as Spool>⟧.state self.old).turn.in_turn ≡ false
@@ -374,6 +378,7 @@ impl<F: MailboxFile + Drop, C: Clock + Drop> Spool for FileSpool<F, C> {
         ensures unsettled { self.old.is_unsettled ≡ true → IsErr result × (self.new ≡ failed_again self.old) }
         ensures sound { OnOk result (StaysSound self.old self.new) }
         ensures taken { IfOk result (λ n. HasTaken F.state self.old self.new (take n piece.now)) }
+        ensures settled { OnOk result ((F.state self.old.file).cut_off ≡ []) }
         ensures grows { OnOk result (IsPrefix (F.state self.old.file).bytes (F.state self.new.file).bytes) }
         ensures ends { OnOk result (KnowsEnd F.state self.new) }
         ensures breaks { OnErr result (Breaks self.old self.new) }

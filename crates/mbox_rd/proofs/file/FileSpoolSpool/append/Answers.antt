@@ -1,8 +1,8 @@
-use Rattle.std.proofs.Common.{rules, ap, subst, ◌∙◌}
+use Rattle.std.proofs.Common.{◌≡◌, rules, ap, subst, ◌∙◌}
 use Rattle.mbox_rd.specs.FileSpool.{FileSpool, IsInOrder}
 use Rattle.mbox_rd.proofs.Failing.{fails_now, fails_after}
 use Rattle.mbox_rd.proofs.Leaving.{prefix_appended}
-use Rattle.mbox_rd.proofs.Letters.{moments_at_rest, moments_then}
+use Rattle.mbox_rd.proofs.Letters.{any_moment, in_turn_at_rest}
 use Rattle.mbox_rd.proofs.Losing.{unwritten}
 use Rattle.mbox_rd.proofs.file.FileSpoolSpool.append.Goals as goal
 use Rattle.mbox_rd.proofs.file.FileSpoolSpool.append.Goals.{else-len-eq-BUFFER_SIZE-via-then-len-eq-BUFFER_SIZE+else-is_err}
@@ -16,8 +16,10 @@ returns-then-self-clause-err g c =
 pub returns-then-self-clause-any_moment : goal.returns-then-self-clause-any_moment
 returns-then-self-clause-any_moment g c =
     let S = g.F.MailboxFile.state in let order = subst (IsInOrder S) c.self.view_is c.self.invariant.2 in
-    moments_at_rest S c.args.self.now _ _ order (prefix_appended _ c.args.piece.now)
-    (ap (λ (s : FileSpool _). s.file) c.fail.ensures.new)
+    let old = c.args.self.now in
+    any_moment S old c.fail.new.self old.file _ _ order (ap (λ (s : FileSpool _). s.file) c.fail.ensures.new)
+    (prefix_appended _ old.waiting) (prefix_appended _ c.args.piece.now)
+    (in_turn_at_rest old.began (S old.file) old.waiting)
 
 pub returns-then-is_err-clause-err : goal.returns-then-is_err-clause-err
 returns-then-is_err-clause-err g c =
@@ -27,18 +29,25 @@ returns-then-is_err-clause-err g c =
 
 pub returns-then-is_err-clause-any_moment : goal.returns-then-is_err-clause-any_moment
 returns-then-is_err-clause-any_moment g c =
-    moments_then g.F.MailboxFile.state c.args.self.now c.write_waiting.new.self _ _ (prefix_appended _ c.args.piece.now)
-    c.write_waiting.ensures.any_moment (ap (λ (s : FileSpool _). s.file) c.fail-then-is_err.ensures.new)
+    let S = g.F.MailboxFile.state in let order = subst (IsInOrder S) c.self.view_is c.self.invariant.2 in
+    let old = c.args.self.now in
+    any_moment S old c.fail-then-is_err.new.self c.write_waiting.new.self.file _ _ order
+    (ap (λ (s : FileSpool _). s.file) c.fail-then-is_err.ensures.new) (prefix_appended _ old.waiting)
+    (prefix_appended _ c.args.piece.now) c.write_waiting.ensures.moments
 
 pub returns-clause-any_moment : goal.returns-clause-any_moment
 returns-clause-any_moment g c =
     let S = g.F.MailboxFile.state in let order = subst (IsInOrder S) c.self.view_is c.self.invariant.2 in
-    let taken = ap (λ (s : FileSpool _). s.file) c.take.ensures.new in
+    let old = c.args.self.now in
+    let taken : c.take.new.self.file ≡ c.else-len-eq-BUFFER_SIZE.self.file =
+    ap (λ (s : FileSpool _). s.file) c.take.ensures.new in
     elim c.else-len-eq-BUFFER_SIZE.branch [
       | else-len-eq-BUFFER_SIZE-via-then-len-eq-BUFFER_SIZE+else-is_err w ↦
-          moments_then S c.args.self.now w.write_waiting.new.self _ _ (prefix_appended _ c.args.piece.now)
-          w.write_waiting.ensures.any_moment (taken ∙ ap (λ (s : FileSpool _). s.file) w.self-is)
+          any_moment S old c.take.new.self w.write_waiting.new.self.file _ _ order
+          (taken ∙ ap (λ (s : FileSpool _). s.file) w.self-is) (prefix_appended _ old.waiting)
+          (prefix_appended _ c.args.piece.now) w.write_waiting.ensures.moments
       | else-len-eq-BUFFER_SIZE-via-else-len-eq-BUFFER_SIZE w ↦
-          moments_at_rest S c.args.self.now _ _ order (prefix_appended _ c.args.piece.now)
-          (taken ∙ ap (λ (s : FileSpool _). s.file) w.self-is)
+          any_moment S old c.take.new.self old.file _ _ order (taken ∙ ap (λ (s : FileSpool _). s.file) w.self-is)
+          (prefix_appended _ old.waiting) (prefix_appended _ c.args.piece.now)
+          (in_turn_at_rest old.began (S old.file) old.waiting)
     ]

@@ -1,6 +1,6 @@
-use Rattle.std.proofs.Common.{rules, subst, ap, sym}
-use Rattle.mbox_rd.specs.FileSpool.{HasTurn}
-use Rattle.mbox_rd.specs.Moments.{LeavesOnly, IsLeft}
+use Rattle.std.proofs.Common.{◌∷◌, rules, subst, sym}
+use Rattle.mbox_file.specs.Moment.{LeavesOne}
+use Rattle.mbox_rd.specs.Moments.{LeavesOnly}
 use Rattle.mbox_rd.proofs.Leaving.{locks}
 use Rattle.mbox_rd.proofs.file.FileSpoolSpool.lock.Goals as goal
 
@@ -11,5 +11,5 @@ pub returns-in-Ok-clause-moments : goal.returns-in-Ok-clause-moments
 returns-in-Ok-clause-moments g c =
     let S = g.F.MailboxFile.state in
     let a = S c.args.self.now.file in
-    subst (λ f. LeavesOnly (IsLeft 0 (S f).bytes a.cut_off) a (S f)) (sym c.start.ensures.file)
-    (locks a (S c.ask.new.self.file) _ c.in-Ok.end c.in-Ok.ensures.ok c.settle.ensures.kept)
+    subst (λ f. LeavesOnly (LeavesOne 0 ((S f).bytes ∷ a.cut_off)) a (S f)) (sym c.start.ensures.file)
+    (locks a (S c.ask.new.self.file) _ c.in-Ok.end c.in-Ok.ensures.ok c.settle.ensures.stays c.settle.ensures.moments)

@@ -1,10 +1,9 @@
-use Rattle.std.proofs.Common.{[], arith, rules, ap, subst, sym, ◌∙◌}
-use Rattle.std.proofs.lemmas.Grind.{common_steps}
-use Rattle.mbox_rd.specs.FileSpool.{FileSpool, IsInOrder, KeepsWritten}
+use Rattle.std.proofs.Common.{[], rules, ap, subst, sym, ◌∙◌}
+use Rattle.mbox_rd.specs.FileSpool.{FileSpool, IsInOrder}
 use Rattle.mbox_rd.specs.Moments.{Stores}
 use Rattle.mbox_rd.proofs.Failing.{fails_now, fails_after}
-use Rattle.mbox_rd.proofs.Leaving.{prefix_itself}
-use Rattle.mbox_rd.proofs.Letters.{moments_at_rest, moments_then, covered_by, stores_all}
+use Rattle.mbox_rd.proofs.Leaving.{prefix_itself, prefix_appended}
+use Rattle.mbox_rd.proofs.Letters.{any_moment, in_turn_at_rest, stores}
 use Rattle.mbox_rd.proofs.Tails.{passed}
 use Rattle.mbox_rd.proofs.file.FileSpoolSpool.sync.Goals as goal
 
@@ -16,7 +15,9 @@ returns-then-not-self-clause-err g c =
 pub returns-then-not-self-clause-any_moment : goal.returns-then-not-self-clause-any_moment
 returns-then-not-self-clause-any_moment g c =
     let S = g.F.MailboxFile.state in let order = subst (IsInOrder S) c.self.view_is c.self.invariant.2 in
-    moments_at_rest S c.args.self.now _ _ order (prefix_itself _) (ap (λ (s : FileSpool _). s.file) c.fail.ensures.new)
+    let old = c.args.self.now in
+    any_moment S old c.fail.new.self old.file _ _ order (ap (λ (s : FileSpool _). s.file) c.fail.ensures.new)
+    (prefix_appended _ old.waiting) (prefix_itself _) (in_turn_at_rest old.began (S old.file) old.waiting)
 
 pub returns-then-is_err-clause-err : goal.returns-then-is_err-clause-err
 returns-then-is_err-clause-err g c =
@@ -26,36 +27,20 @@ returns-then-is_err-clause-err g c =
 
 pub returns-then-is_err-clause-any_moment : goal.returns-then-is_err-clause-any_moment
 returns-then-is_err-clause-any_moment g c =
-    moments_then g.F.MailboxFile.state c.args.self.now c.keep_waiting.new.self _ _ (prefix_itself _)
-    c.keep_waiting.ensures.any_moment (ap (λ (s : FileSpool _). s.file) c.fail-then-is_err.ensures.new)
-
-pub invariant_of-self : goal.invariant_of-self
-invariant_of-self g c =
-    let S = g.F.MailboxFile.state in
-    let kept = passed c.keep_waiting.result (sym c.is_err.ensures.value ∙ c.if-is_err.false) c.keep_waiting.ensures.kept in
-    let order = c.self-2.invariant.2 in (
-      search rules,
-      search rules,
-      record {
-        free = order.free;
-        synced = search rules;
-        held = order.held;
-        stands = order.stands;
-        ends = order.ends;
-        settled = order.settled;
-        covered = λ turn sound synced. covered_by c.self-2.inside.turns.log.began (S c.args.self.now.file) _ c.args.self.now.waiting
-            (subst (λ (s : FileSpool _). KeepsWritten (S c.args.self.now.file) (S s.file) c.args.self.now.waiting) (sym c.self-2.view_is) kept);
-      },
-    )
+    let S = g.F.MailboxFile.state in let order = subst (IsInOrder S) c.self.view_is c.self.invariant.2 in
+    any_moment S c.args.self.now c.fail-then-is_err.new.self c.keep_waiting.new.self.file _ _ order
+    (ap (λ (s : FileSpool _). s.file) c.fail-then-is_err.ensures.new) (prefix_appended _ c.args.self.now.waiting)
+    (prefix_itself _) c.keep_waiting.ensures.moments
 
 pub returns-clause-any_moment : goal.returns-clause-any_moment
 returns-clause-any_moment g c =
-    moments_then g.F.MailboxFile.state c.args.self.now c.keep_waiting.new.self _ _ (prefix_itself _)
-    c.keep_waiting.ensures.any_moment (ap (λ (s : FileSpool _). s.file) c.self-2.view_is)
+    let S = g.F.MailboxFile.state in let order = subst (IsInOrder S) c.self.view_is c.self.invariant.2 in
+    any_moment S c.args.self.now _ c.keep_waiting.new.self.file _ _ order (ap (λ (s : FileSpool _). s.file) c.self-2.view_is)
+    (prefix_appended _ c.args.self.now.waiting) (prefix_itself _) c.keep_waiting.ensures.moments
 
 pub returns-clause-stored : goal.returns-clause-stored
 returns-clause-stored g c =
     let S = g.F.MailboxFile.state in
-    let kept = passed c.keep_waiting.result (sym c.is_err.ensures.value ∙ c.if-is_err.false) c.keep_waiting.ensures.kept in
     subst (λ (s : FileSpool _). Stores S c.args.self.now (S s.file)) (sym c.self-2.view_is)
-    (stores_all S c.args.self.now (S c.keep_waiting.new.self.file) kept)
+    (stores S c.args.self.now (S c.keep_waiting.new.self.file)
+    (passed c.keep_waiting.result (sym c.is_err.ensures.value ∙ c.if-is_err.false) c.keep_waiting.ensures.kept))
