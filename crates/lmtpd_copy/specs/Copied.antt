@@ -22,7 +22,7 @@ StaysMade old new = new ≡ record old { bytes = new.bytes; kept = new.kept }
 -- both locks are held, on the file that the path names, and nothing was written to it
 pub record StandsLocked (old new : FileState) : Type 0 where
   pub held : IsHeld new
-  pub unchanged : new.changes ≡ old.changes
+  pub unchanged : new.moments ≡ old.moments
 
 -- Neither lock is left, but the lock file where it couldn't be removed, and nothing was written to the mailbox: the
 -- locks were never had, or both were given back.

@@ -17,8 +17,8 @@ pub struct LoggedFile<F, G> {
     log: G,
     // it was logged that it failed, and not yet that it stores again
     has_failed: bool,
-    // nothing is stored in this turn: a call failed, or the file is cut back
-    is_broken: bool,
+    // something was written in this turn, no call failed since, and the file wasn't cut back
+    stores: bool,
 }
 
 impl<F, G> LoggedFile<F, G> {
@@ -27,14 +27,14 @@ impl<F, G> LoggedFile<F, G> {
         ensures over { file_in result ≡ file }
         ensures name { result.name ≡ name }
         ensures none { result.has_failed ≡ false }
-        ensures sound { result.is_broken ≡ false }
+        ensures unwritten { result.stores ≡ false }
     {
         LoggedFile {
             file,
             name,
             log,
             has_failed: false,
-            is_broken: false,
+            stores: false,
         }
     }
 }
@@ -44,7 +44,7 @@ impl<F, G: Log> LoggedFile<F, G> {
     fn tell_failed(&mut self, reason: io::Error)
         ensures { file_in self.new ≡ file_in self.old }
     {
-        self.is_broken = true;
+        self.stores = false;
         if self.has_failed {
             return;
         }
@@ -57,7 +57,7 @@ impl<F, G: Log> LoggedFile<F, G> {
     fn tell_kept(&mut self)
         ensures { file_in self.new ≡ file_in self.old }
     {
-        if self.is_broken || !self.has_failed {
+        if !self.stores || !self.has_failed {
             return;
         }
         self.has_failed = false;
@@ -71,7 +71,7 @@ impl<F: MailboxFile, G: Log> MailboxFile for LoggedFile<F, G> {
 
     /// Each turn begins by this call.
     fn try_lock_file(&mut self) -> Result<(), InUse> {
-        self.is_broken = false;
+        self.stores = false;
         self.file.try_lock_file()
     }
 
@@ -101,8 +101,9 @@ impl<F: MailboxFile, G: Log> MailboxFile for LoggedFile<F, G> {
 
     fn write(&mut self, bytes: &[u8]) -> io::Result<()> {
         let written = self.file.write(bytes);
-        if let Err(reason) = written {
-            self.tell_failed(reason);
+        match written {
+            Ok(()) => self.stores = true,
+            Err(reason) => self.tell_failed(reason),
         }
         written
     }
@@ -117,7 +118,7 @@ impl<F: MailboxFile, G: Log> MailboxFile for LoggedFile<F, G> {
     }
 
     fn cut(&mut self, size: u64) -> io::Result<()> {
-        self.is_broken = true;
+        self.stores = false;
         self.file.cut(size)
     }
 }

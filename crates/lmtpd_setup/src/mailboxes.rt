@@ -1,6 +1,6 @@
 //! The files of a server's mailboxes.
 
-ghost use Rattle.std.specs.Prelude.{◌≡◌, Some, length, map, string_bytes, vec_len, IfOk, IfErr};
+ghost use Rattle.std.specs.Prelude.{◌≡◌, [], Some, length, map, string_bytes, vec_len, IfOk, IfErr};
 ghost use Rattle.mbox_file.specs.StdFile.{file_mode, file_path};
 ghost use Rattle.lmtpd_log.specs.Logged.{file_in, spool_in};
 ghost use Rattle.lmtpd_setup.specs.Mailboxes.{held_as, held_at, held_in, path_at};
@@ -13,7 +13,7 @@ use crate::stop::Stop;
 use lmtpd_log::{LoggedFile, LoggedMailbox};
 use lmtpd_words::printable;
 use log::{Log, error};
-use mbox_rd::{FileSpool, RangeLock, StdMailboxFile};
+use mbox_rd::{FileSpool, MailboxFile, RangeLock, StdMailboxFile};
 use std::alloc::{AllocError, Global};
 use std::fs::Files;
 use std::io;
@@ -120,6 +120,7 @@ where
     R::File: RangeLock,
     ensures path { IfOk result (λ file. file_path file ≡ path_at access.entry name.entry) }
     ensures mode { IfOk result (λ file. file_mode file ≡ Some access.entry.mode) }
+    ensures settled { IfOk result (λ file. (⟦<StdMailboxFile<R> as MailboxFile>⟧.state file).cut_off ≡ []) }
     ensures err { IfErr result (IsNotOpen access.entry name.entry) }
 {
     let path = match path_of(alloc, access, name) {

@@ -1,6 +1,7 @@
 pub mod Holder
 pub mod MailboxFile
 pub mod MailboxSource
+pub mod Moment
 pub mod StdFile
 pub mod SystemFile
 pub mod Told

@@ -1,9 +1,10 @@
 -- The file under a spool: its bytes, which of them a crash leaves, and its two locks. What a file of the system's tells
 -- is what it was asked and what was answered: which bytes stand at a lock nobody knows but by their length and their
 -- end.
-use Rattle.std.specs.Prelude.{◌≡◌, ◌⊎◌, ℕ, ◌≤◌, Bool, true, false, List, ◌++◌, length, take, min}
+use Rattle.std.specs.Prelude.{◌≡◌, ◌⊎◌, ℕ, ◌≤◌, Bool, true, false, List, [], ◌∷◌, ◌++◌, length, take, min}
 use Rattle.mail_world.specs.Failures.{Rises}
 use Rattle.mail_world.specs.Prefixes.{IsPrefix}
+use Rattle.mbox_file.specs.Moment.{Moment}
 use Rattle.mbox_file.specs.declared.file.FileEnd.{FileEnd}
 use Rattle.mail_world.specs.Endings.{ending}
 use Rattle.mbox_record.specs.Tail.{ending_of}
@@ -15,6 +16,8 @@ pub record FileState : Type 0 where
   pub bytes : List ℕ
   -- how many of its first bytes are kept through a crash
   pub kept : ℕ
+  -- what stood there before a cut that may not be kept yet: a crash may leave that
+  pub cut_off : List (List ℕ)
   -- the lock file is this holder's
   pub has_lock_file : Bool
   -- and so is the lock on the bytes of the open file
@@ -27,10 +30,21 @@ pub record FileState : Type 0 where
   pub refusals : ℕ
   -- how often the lock file couldn't be removed
   pub unremoved : ℕ
-  -- how often this holder wrote or cut
-  pub changes : ℕ
+  -- what a crash might have left: while each call of this holder went on that wrote, kept or cut, and until its next one
+  pub moments : List Moment
   -- how often a write, a keep or a cut failed
   pub faults : ℕ
+
+-- what a crash may leave now
+abbrev pub at_now : FileState → Moment
+at_now file = record { kept = file.kept; contents = file.bytes ∷ file.cut_off }
+
+-- and while these bytes are written, or while it is cut to so many of its first ones
+abbrev pub at_write : FileState → List ℕ → Moment
+at_write file text = at_now (record file { bytes = file.bytes ++ text })
+
+abbrev pub at_cut : FileState → ℕ → Moment
+at_cut file size = at_now (record file { kept = min file.kept size })
 
 -- so it stands, but for what others may have changed
 abbrev pub IsSharedSince : FileState → FileState → Type 0
@@ -107,36 +121,56 @@ pub record HasMeasured (old new : FileState) (end : FileEnd) : Type 0 where
   pub covered : new.kept ≤ length new.bytes
 
 -- the bytes stand after what was there
-pub record HasAppended (old new : FileState) (text : List ℕ) : Type 0 where
-  pub same : new ≡ record old { bytes = old.bytes ++ text; changes = new.changes }
-  pub changed : Rises old.changes new.changes
+abbrev pub HasAppended : FileState → FileState → List ℕ → Type 0
+HasAppended old new text = new ≡ record old {
+  bytes = old.bytes ++ text;
+  moments = old.moments ++ at_write old text ∷ [];
+}
 
 -- a write failed after some of the bytes
 pub record HasNotAppended (old new : FileState) (text : List ℕ) : Type 0 where
   pub prefix : List ℕ
   pub part : IsPrefix prefix text
-  pub same : new ≡ record old { bytes = old.bytes ++ prefix; changes = new.changes; faults = new.faults }
-  pub changed : Rises old.changes new.changes
+  pub same : new ≡ record old {
+    bytes = old.bytes ++ prefix;
+    moments = old.moments ++ at_write old text ∷ [];
+    faults = new.faults;
+  }
   pub failed : Rises old.faults new.faults
 
--- a crash leaves all of it
+-- a crash leaves all of it, and nothing that was cut off
 abbrev pub KeepsFile : FileState → FileState → Type 0
-KeepsFile old new = new ≡ record old { kept = length old.bytes }
+KeepsFile old new = new ≡ record old {
+  kept = length old.bytes;
+  cut_off = [];
+  moments = old.moments ++ at_now old ∷ [];
+}
 
 -- Nobody knows what a crash leaves of what wasn't kept before. No more is kept than there is.
 pub record FailsToKeep (old new : FileState) : Type 0 where
-  pub same : new ≡ record old { kept = new.kept; faults = new.faults }
+  pub same : new ≡ record old {
+    kept = new.kept;
+    moments = old.moments ++ at_now old ∷ [];
+    faults = new.faults;
+  }
   pub kept : old.kept ≤ new.kept
   pub within : old.kept ≤ length old.bytes → new.kept ≤ length new.bytes
   pub failed : Rises old.faults new.faults
 
--- only that many of the first bytes are left
-pub record HasCut (old new : FileState) (size : ℕ) : Type 0 where
-  pub same : new ≡ record old { bytes = take size old.bytes; kept = min old.kept size; changes = new.changes }
-  pub changed : Rises old.changes new.changes
+-- only that many of the first bytes are left, and until a keep a crash may leave all
+abbrev pub HasCut : FileState → FileState → ℕ → Type 0
+HasCut old new size = new ≡ record old {
+  bytes = take size old.bytes;
+  kept = min old.kept size;
+  cut_off = old.bytes ∷ old.cut_off;
+  moments = old.moments ++ at_cut old size ∷ [];
+}
 
 -- a cut failed
-pub record HasNotCut (old new : FileState) : Type 0 where
-  pub same : new ≡ record old { changes = new.changes; faults = new.faults }
-  pub changed : Rises old.changes new.changes
+pub record HasNotCut (old new : FileState) (size : ℕ) : Type 0 where
+  pub same : new ≡ record old {
+    cut_off = old.bytes ∷ old.cut_off;
+    moments = old.moments ++ at_cut old size ∷ [];
+    faults = new.faults;
+  }
   pub failed : Rises old.faults new.faults

@@ -1,8 +1,8 @@
 -- What a file of the system's tells: computed from what it was asked and what was answered, and from nothing else.
-use Rattle.std.specs.Prelude.{◌≡◌, ℕ, ◌+◌, ◌-◌, ◌≤◌, true, false, min, List, [], ◌++◌, length, take, replicate}
+use Rattle.std.specs.Prelude.{◌≡◌, ℕ, ◌+◌, ◌-◌, ◌≤◌, true, false, min, List, [], ◌∷◌, ◌++◌, length, take, replicate}
 use Rattle.mail_world.specs.Endings.{ending}
 use Rattle.mbox_record.specs.Tail.{ending_of}
-use Rattle.mbox_file.specs.MailboxFile.{FileState}
+use Rattle.mbox_file.specs.MailboxFile.{FileState, at_now, at_write, at_cut}
 use Rattle.mbox_file.specs.declared.file.FileEnd.{FileEnd}
 use Rattle.mbox_file.specs.declared.told.Step.{Step}
 use Rattle.mbox_file.specs.declared.told.Step.TheVariants as step
@@ -12,13 +12,14 @@ abbrev pub at_start : FileState
 at_start = record {
   bytes = [];
   kept = 0;
+  cut_off = [];
   has_lock_file = false;
   has_range_lock = false;
   is_named = false;
   openings = 0;
   refusals = 0;
   unremoved = 0;
-  changes = 0;
+  moments = [];
   faults = 0;
 }
 
@@ -45,17 +46,30 @@ after old step.NotNamed = record old { is_named = false; refusals = old.refusals
 after old step.Refused = record old { refusals = old.refusals + 1 }
 after old step.Reopened = record old { has_range_lock = false; is_named = false; openings = old.openings + 1 }
 after old (step.Measured size last) = record old { bytes = bytes_ending size last.now; kept = 0 }
-after old (step.Wrote bytes) = record old { bytes = old.bytes ++ bytes.now; changes = old.changes + 1 }
-after old (step.WroteInPart bytes) = record old {
+after old (step.Holds bytes) = record old { bytes = bytes.now; kept = length bytes.now }
+after old (step.Wrote bytes) = record old {
   bytes = old.bytes ++ bytes.now;
-  changes = old.changes + 1;
+  moments = old.moments ++ at_write old bytes.now ∷ [];
+}
+after old (step.WroteInPart bytes count) = record old {
+  bytes = old.bytes ++ take count bytes.now;
+  moments = old.moments ++ at_write old bytes.now ∷ [];
   faults = old.faults + 1;
 }
-after old step.Kept = record old { kept = length old.bytes }
-after old step.NotKept = record old { faults = old.faults + 1 }
+after old step.Kept = record old {
+  kept = length old.bytes;
+  cut_off = [];
+  moments = old.moments ++ at_now old ∷ [];
+}
+after old step.NotKept = record old { moments = old.moments ++ at_now old ∷ []; faults = old.faults + 1 }
 after old (step.Cut size) = record old {
   bytes = take size old.bytes;
   kept = min old.kept size;
-  changes = old.changes + 1;
+  cut_off = old.bytes ∷ old.cut_off;
+  moments = old.moments ++ at_cut old size ∷ [];
 }
-after old step.NotCut = record old { changes = old.changes + 1; faults = old.faults + 1 }
+after old (step.NotCut size) = record old {
+  cut_off = old.bytes ∷ old.cut_off;
+  moments = old.moments ++ at_cut old size ∷ [];
+  faults = old.faults + 1;
+}

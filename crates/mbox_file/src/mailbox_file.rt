@@ -1,5 +1,5 @@
 //! The file under a spool, as a trait, so that a test can stand in for it and a proof can speak of it.
-ghost use Rattle.std.specs.Prelude.{◌≡◌, true, false, IfOk, OnOk, OnErr};
+ghost use Rattle.std.specs.Prelude.{◌≡◌, [], true, false, IfOk, OnOk, OnErr};
 ghost use Rattle.mbox_file.specs.MailboxFile.{FileState, HasMadeLockFile, HasNotMadeLockFile, HasRemovedLockFile};
 ghost use Rattle.mbox_file.specs.MailboxFile.{HasLockedRange, HasNotLockedRange, HasReopened, HasRefused, HasLooked};
 ghost use Rattle.mbox_file.specs.MailboxFile.{HasMeasured, HasAppended, HasNotAppended, KeepsFile, FailsToKeep, HasCut};
@@ -50,9 +50,11 @@ pub trait MailboxFile {
         ensures ok { IfOk result (HasMeasured (state self.old) (state self.new)) }
         ensures err { OnErr result (HasRefused (state self.old) (state self.new)) };
 
-    /// Writes all the bytes at the end of the open file. An error may come after some of them.
+    /// Writes all the bytes at the end of the open file. An error may come after some of them. Over a cut that isn't
+    /// kept a crash could leave old bytes and new ones.
     fn write(&mut self, bytes: &[u8]) -> io::Result<()>
         requires held { IsHeld (state self.old) }
+        requires settled { (state self.old).cut_off ≡ [] }
         ensures ok { OnOk result (HasAppended (state self.old) (state self.new) bytes.now) }
         ensures err { OnErr result (HasNotAppended (state self.old) (state self.new) bytes.now) };
 
@@ -65,5 +67,5 @@ pub trait MailboxFile {
     fn cut(&mut self, size: u64) -> io::Result<()>
         requires held { IsHeld (state self.old) }
         ensures ok { OnOk result (HasCut (state self.old) (state self.new) size) }
-        ensures err { OnErr result (HasNotCut (state self.old) (state self.new)) };
+        ensures err { OnErr result (HasNotCut (state self.old) (state self.new) size) };
 }

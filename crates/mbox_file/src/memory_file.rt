@@ -1,97 +1,73 @@
 //! A mailbox's file in memory, which tells all.
-ghost use Rattle.std.specs.Prelude.{◌≡◌, ◌≤◌, [], true, false, length, IfOk};
+ghost use Rattle.std.specs.Prelude.{◌≡◌, ◌≤◌, true, length, IfOk};
 
 use crate::file::FileEnd;
 use crate::mailbox_file::MailboxFile;
 use crate::mailbox_source::MailboxSource;
+use crate::told::{Step, Told};
 use mbox_record::{InUse, tail_of};
 use std::alloc::{AllocError, Global};
 use std::io;
 
 /// The file of a mailbox that no other program uses. It keeps its bytes as long as it is there itself, and a write
 /// fails where memory is lacking.
-#[derive(Debug, Drop)]
+#[derive(Drop)]
 pub struct MemoryFile {
     bytes: Vec<u8>,
-    kept: usize,
-    has_lock_file: bool,
-    has_range_lock: bool,
-    openings: u64,
-    changes: u64,
-    faults: u64,
+    told: Told,
     /// How many of its bytes were read.
     read_to: usize,
-    pub ghost covered: { kept ≤ length bytes.items },
+    pub ghost holds: { told.state.bytes ≡ bytes.items },
+    pub ghost covered: { told.state.kept ≤ length bytes.items },
 }
 
 impl MemoryFile {
+    ghost use Rattle.mbox_file.specs.Told.{at_start};
+
     /// Holds these bytes, all of them kept.
     pub fn new(alloc: Global, old: &[u8]) -> Result<MemoryFile, AllocError>
-        ensures { IfOk result (λ file. ⟦<MemoryFile as MailboxFile>⟧.state file ≡ record {
-          bytes = old.now;
-          kept = length old.now;
-          has_lock_file = false;
-          has_range_lock = false;
-          is_named = true;
-          openings = 0;
-          refusals = 0;
-          unremoved = 0;
-          changes = 0;
-          faults = 0;
-        }) }
+        ensures { IfOk result (λ file. ⟦<MemoryFile as MailboxFile>⟧.state file
+            ≡ record at_start { bytes = old.now; kept = length old.now }) }
     {
+        let bytes = Vec::from_slice(alloc, old)?;
+        let mut told = Told::new();
+        told.add(Step::Holds(old));
         Ok(MemoryFile {
-            bytes: Vec::from_slice(alloc, old)?,
-            kept: old.len(),
-            has_lock_file: false,
-            has_range_lock: false,
-            openings: 0,
-            changes: 0,
-            faults: 0,
+            bytes,
+            told,
             read_to: 0,
         })
     }
 }
 
 impl MailboxFile for MemoryFile {
-    ghost state = { λ s. record {
-      bytes = s.bytes.items;
-      kept = s.kept;
-      has_lock_file = s.has_lock_file;
-      has_range_lock = s.has_range_lock;
-      is_named = true;
-      openings = s.openings;
-      refusals = 0;
-      unremoved = 0;
-      changes = s.changes;
-      faults = s.faults;
-    } };
+    ghost state = { λ s. s.told.state };
 
     fn try_lock_file(&mut self) -> Result<(), InUse> {
-        self.has_lock_file = true;
+        self.told.add(Step::LockFileMade);
         Ok(())
     }
 
     fn remove_lock_file(&mut self) {
-        self.has_lock_file = false;
+        self.told.add(Step::LockFileRemoved);
     }
 
     fn try_range_lock(&mut self) -> Result<(), InUse> {
-        self.has_range_lock = true;
+        self.told.add(Step::RangeLocked);
         Ok(())
     }
 
     fn unlock_range(&mut self) {
-        self.has_range_lock = false;
+        self.told.add(Step::RangeUnlocked);
     }
 
     fn is_named(&mut self) -> Result<bool, InUse> {
+        self.told.add(Step::Named);
         Ok(true)
     }
 
     fn reopen(&mut self) -> Result<(), InUse> {
-        self.has_range_lock = false;
-        self.openings = self.openings.saturating_add(1);
+        self.told.add(Step::Reopened);
         Ok(())
     }
 
@@ -103,23 +79,22 @@ impl MailboxFile for MemoryFile {
     }
 
     fn write(&mut self, bytes: &[u8]) -> io::Result<()> {
-        self.changes = self.changes.saturating_add(1);
         if let Err(error) = self.bytes.extend_from_slice(bytes) {
-            self.faults = self.faults.saturating_add(1);
+            self.told.add(Step::WroteInPart(bytes, 0));
             return Err(io::Error::from(error));
         }
+        self.told.add(Step::Wrote(bytes));
         Ok(())
     }
 
     fn keep(&mut self) -> io::Result<()> {
-        self.kept = self.bytes.len();
+        self.told.add(Step::Kept);
         Ok(())
     }
 
     fn cut(&mut self, size: u64) -> io::Result<()> {
-        self.changes = self.changes.saturating_add(1);
         self.bytes.truncate(size as usize);
-        self.kept = self.kept.min(size as usize);
+        self.told.add(Step::Cut(size));
         Ok(())
     }
 }

@@ -1,7 +1,7 @@
 //! The file under a spool in the file system, which tells what it asked of the system and what was answered.
 //!
 //! Each call of the system and what is told of it stand side by side here, and nowhere else is anything told.
-ghost use Rattle.std.specs.Prelude.{◌≡◌, None, Some, IfOk, OnOk, OnErr};
+ghost use Rattle.std.specs.Prelude.{◌≡◌, [], None, Some, IfOk, OnOk, OnErr};
 ghost use Rattle.mbox_file.specs.StdFile.{file_mode, file_path};
 
 use crate::file::FileEnd;
@@ -200,6 +200,7 @@ where
     #[tactic(auto, using(crate::proofs::Written::part_of, crate::proofs::Written::told_all, crate::proofs::Written::told_part))]
     fn write(&mut self, bytes: &[u8]) -> io::Result<()>
         requires held { IsHeld self.old.told.state }
+        requires settled { self.old.told.state.cut_off ≡ [] }
         ensures ok { OnOk result (HasAppended self.old.told.state self.new.told.state bytes.now) }
         ensures err { OnErr result (HasNotAppended self.old.told.state self.new.told.state bytes.now) }
         ensures taken { Appends (known_of R.File.contents self.old.system.open)
@@ -212,7 +213,7 @@ where
                 Ok(())
             }
             (count, Err(error)) => {
-                self.told.add(Step::WroteInPart(&bytes[..count]));
+                self.told.add(Step::WroteInPart(bytes, count));
                 Err(error)
             }
         }
@@ -239,7 +240,7 @@ where
                 Ok(())
             }
             Err(error) => {
-                self.told.add(Step::NotCut);
+                self.told.add(Step::NotCut(size));
                 Err(error)
             }
         }

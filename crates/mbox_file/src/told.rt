@@ -24,13 +24,15 @@ pub(crate) enum Step<'a> {
     Reopened,
     /// The file has that many bytes, of which these are the last.
     Measured(u64, &'a [u8]),
+    /// One in memory has these bytes, all of them kept.
+    Holds(&'a [u8]),
     Wrote(&'a [u8]),
-    /// A write failed after these bytes.
-    WroteInPart(&'a [u8]),
+    /// A write of these bytes failed after so many.
+    WroteInPart(&'a [u8], usize),
     Kept,
     NotKept,
     Cut(u64),
-    NotCut,
+    NotCut(u64),
 }
 
 // What is told. A caller that passes `Brand` picks it.

@@ -23,7 +23,7 @@ is_sound false has_failed h = cc
 stays_or_is_cut : (broke : Bool) (old new : FileState) (n : ℕ) → HasEndedTurn old new broke n
     → (new.bytes ≡ old.bytes) ⊎ (new.bytes ≡ take n old.bytes)
 stays_or_is_cut true old new n ended = (ended.is_cut refl).left
-stays_or_is_cut false old new n ended = inl (ended.stays refl).0
+stays_or_is_cut false old new n ended = inl (ap (λ (s : FileState). s.bytes) (ended.stays refl).same)
 
 module _ {F : Type 0} (state : F → FileState) where
   abbrev bytes_of : FileSpool F → List ℕ
@@ -86,9 +86,9 @@ module _ {F : Type 0} (state : F → FileState) where
       let all = append_nil (state file).bytes in
       let ends : EndsTurn (S seen) (S last) = record {
         stays = λ sound synced. (
-          (all ∙ (ended.stays sound).0 ∙ sym (append_nil (bytes_of seen))
+          (all ∙ ap (λ (s : FileState). s.bytes) (ended.stays sound).same ∙ sym (append_nil (bytes_of seen))
               ∙ ap (λ (l : List ℕ). bytes_of seen ++ l) (sym (order.synced synced))),
-          (ended.stays sound).1,
+          ap (λ (s : FileState). s.kept) (ended.stays sound).same,
         );
         left = cut_left seen.log.began seen.began (state seen.file) seen.waiting [] (state file).bytes (order.stands turn)
             (stays_or_is_cut seen.has_failed (state seen.file) (state file) seen.began ended);

@@ -94,8 +94,10 @@ kept_since true (Some lock) n file now stands ended =
       most = subst (λ (l : List ℕ). now.kept ≤ length l) (sym (append_nil now.bytes)) kept.1;
     }
 kept_since false (Some lock) n file now stands ended =
-    let stays = ended.stays refl in record {
-      least = subst (λ k. lock.synced ≤ k) (sym stays.1) stands.least;
+    let stays = (ended.stays refl).same in
+    let kept : now.kept ≡ file.kept = ap (λ (s : FileState). s.kept) stays in record {
+      least = subst (λ k. lock.synced ≤ k) (sym kept) stands.least;
       most = let P : List ℕ → Type 0 = λ l. now.kept ≤ length l in
-          subst P (sym (append_nil now.bytes ∙ stays.0)) (subst (λ k. k ≤ length file.bytes) (sym stays.1) stands.most);
+          subst P (sym (append_nil now.bytes ∙ ap (λ (s : FileState). s.bytes) stays))
+          (subst (λ k. k ≤ length file.bytes) (sym kept) stands.most);
     }

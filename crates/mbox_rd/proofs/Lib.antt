@@ -3,3 +3,5 @@ pub mod Tails
 pub mod Left
 pub mod Losing
 pub mod Failing
+pub mod Leaving
+pub mod Letters

@@ -3,7 +3,7 @@ use Rattle.std.proofs.Common.{◌≡◌, ℕ, ◌≤◌, arith, refl, ◌∙◌,
 use Rattle.mail_world.specs.Failures.{Rises}
 use Rattle.mbox_file.specs.declared.file.FileEnd.{FileEnd}
 use Rattle.mbox_file.specs.MailboxFile.{FileState, LeavesNoLockFile}
-use Rattle.mbox_rd.specs.Turn.{HasBegun, HasMissed, HasTried, IsBetweenTries}
+use Rattle.mbox_rd.specs.Turn.{HasBegun, HasMissed, HasTried, IsBetweenTries, IsUntouched}
 
 -- from a count that is no larger
 Rises-from : (u v w : ℕ) → u ≤ v → Rises v w → Rises u w
@@ -12,14 +12,20 @@ Rises-from u v w h x = grind arith
 no_fewer : (u v : ℕ) → Rises u v → u ≤ v
 no_fewer u v x = grind arith
 
+untouched-then : (s t u : FileState) → IsUntouched s t → IsUntouched t u → IsUntouched s u
+untouched-then s t u x y = record {
+  cut_off = y.cut_off ∙ x.cut_off;
+  moments = y.moments ∙ x.moments;
+  faults = y.faults ∙ x.faults;
+}
+
 pub between-start : (s : FileState) → IsBetweenTries s s
 between-start s = record {
   range_lock = λ h. h;
   unremoved = omega arith;
   refusals = omega arith;
   openings = omega arith;
-  unchanged = refl;
-  sound = refl;
+  untouched = record { cut_off = refl; moments = refl; faults = refl };
 }
 
 pub between-missed : (s t u : FileState) → IsBetweenTries s t → HasMissed t u → IsBetweenTries s u
@@ -28,8 +34,7 @@ between-missed s t u x y = record {
   unremoved = omega (arith, x.unremoved, y.free.no_fewer);
   refusals = omega (arith, x.refusals, no_fewer t.refusals u.refusals y.refused);
   openings = omega (arith, x.openings, y.openings);
-  unchanged = y.unchanged ∙ x.unchanged;
-  sound = y.sound ∙ x.sound;
+  untouched = untouched-then s t u x.untouched y.untouched;
 }
 
 pub begun-then : (s t u : FileState) (end : FileEnd) → IsBetweenTries s t → HasBegun t u end → HasBegun s u end
@@ -40,8 +45,7 @@ begun-then s t u end x y = record {
   is_end = y.is_end;
   covered = y.covered;
   openings = omega (arith, x.openings, y.openings);
-  unchanged = y.unchanged ∙ x.unchanged;
-  sound = y.sound ∙ x.sound;
+  untouched = untouched-then s t u x.untouched y.untouched;
 }
 
 free-then : (s t u : FileState) → s.unremoved ≤ t.unremoved → LeavesNoLockFile t u → LeavesNoLockFile s u
@@ -59,8 +63,7 @@ missed-then s t u x y = record {
   free = free-then s t u x.unremoved y.free;
   refused = Rises-from s.refusals t.refusals u.refusals x.refusals y.refused;
   openings = omega (arith, x.openings, y.openings);
-  unchanged = y.unchanged ∙ x.unchanged;
-  sound = y.sound ∙ x.sound;
+  untouched = untouched-then s t u x.untouched y.untouched;
 }
 
 -- what one try came to, by its answer

@@ -8,10 +8,10 @@ use Rattle.mail_world.specs.Turns.{Standing}
 use Rattle.mbox_record.specs.Spool.{SpoolState}
 use Rattle.mbox_record.specs.TurnLog.{TurnLog, no_turns, begun_at, missed, ended_at}
 use Rattle.mbox_record.specs.declared.tail.Tail.{Tail}
-use Rattle.mbox_file.specs.MailboxFile.{FileState, LeavesNoLockFile, IsHeld}
+use Rattle.mbox_file.specs.MailboxFile.{FileState, IsHeld}
 use Rattle.mail_world.specs.Endings.{ending}
 use Rattle.mbox_record.specs.Tail.{ending_of}
-use Rattle.mbox_rd.specs.Turn.{IsCutBack}
+use Rattle.mbox_rd.specs.Turn.{HasEndedTurn}
 
 pub record FileSpool (F : Type 0) : Type 0 where
   pub file : F
@@ -25,6 +25,8 @@ pub record FileSpool (F : Type 0) : Type 0 where
   pub has_failed : Bool
   -- an append stands after the last good sync
   pub is_unsynced : Bool
+  -- what an earlier turn cut off may not be kept so, and nothing is appended over that
+  pub is_unsettled : Bool
   -- how long the file was as the turn began
   pub began : ℕ
   -- how the file ended then, with what was written since, as long as no call failed
@@ -86,33 +88,25 @@ pub record IsInOrder {F : Type 0} (state : F → FileState) (spool : FileSpool F
   pub held : spool.in_turn ≡ true → IsHeld (state spool.file)
   pub stands : spool.in_turn ≡ true → StandsOn spool.log.began spool.began (state spool.file)
   pub ends : spool.in_turn ≡ true → spool.has_failed ≡ false → KnowsEnd state spool
+  pub settled : spool.is_unsettled ≡ false → (state spool.file).cut_off ≡ []
 
 -- just opened: nothing waits, nothing failed, and it is in no turn
 pub record IsOpened {F : Type 0} (spool : FileSpool F) : Type 0 where
   pub empty : spool.waiting ≡ []
   pub sound : spool.has_failed ≡ false
   pub free : spool.in_turn ≡ false
+  pub settled : spool.is_unsettled ≡ false
   pub failures : spool.failures ≡ 0
   pub refusals : spool.refusals ≡ 0
   pub turns : spool.log ≡ no_turns
 
 -- A turn began: both locks are on the file that the path names, and its length and end are those that it has now.
--- Nothing was written, and nothing waits.
-pub record HasTurn {F : Type 0} (state : F → FileState) (old new : FileSpool F) : Type 0 where
-  pub lock_file : (state new.file).has_lock_file ≡ true
-  pub range_lock : (state new.file).has_range_lock ≡ true
-  pub named : (state new.file).is_named ≡ true
+-- Nothing waits.
+pub record HasTurn {F : Type 0} (state : F → FileState) (new : FileSpool F) : Type 0 where
+  pub held : IsHeld (state new.file)
   pub began : new.began ≡ length (state new.file).bytes
   pub tail : ending_of new.tail ≡ ending (state new.file).bytes
-  pub unchanged : (state new.file).changes ≡ (state old.file).changes
-
--- It didn't: something was refused, no lock is left but where the lock file couldn't be removed, and nothing was
--- written.
-pub record HasNoTurn {F : Type 0} (state : F → FileState) (old new : FileSpool F) : Type 0 where
-  pub range_lock : (state old.file).has_range_lock ≡ false → (state new.file).has_range_lock ≡ false
-  pub free : LeavesNoLockFile (state old.file) (state new.file)
-  pub refused : Rises (state old.file).refusals (state new.file).refusals
-  pub unchanged : (state new.file).changes ≡ (state old.file).changes
+  pub settled : new.is_unsettled ≡ false → (state new.file).cut_off ≡ []
 
 -- What a turn is to the fields: nothing waits, and no call failed in it yet.
 pub record StartsTurn {F : Type 0} (state : F → FileState) (old new : FileSpool F) : Type 0 where
@@ -123,6 +117,7 @@ pub record StartsTurn {F : Type 0} (state : F → FileState) (old new : FileSpoo
     in_turn = true;
     has_failed = false;
     is_unsynced = false;
+    is_unsettled = new.is_unsettled;
     began = new.began;
     tail = new.tail;
     log = begun_at old.log (standing_of (state new.file) old.failures);
@@ -138,12 +133,8 @@ CountsRefusal old new = new ≡ record old {
 
 -- A turn is over: both locks were given back, but the lock file where it couldn't be removed. The bytes stay, or,
 -- where a call failed in this turn, they are cut back.
-pub record HasEnded {F : Type 0} (state : F → FileState) (old new : FileSpool F) : Type 0 where
-  pub range_lock : (state new.file).has_range_lock ≡ false
-  pub free : LeavesNoLockFile (state old.file) (state new.file)
-  pub stays : old.has_failed ≡ false
-      → ((state new.file).bytes ≡ (state old.file).bytes) × ((state new.file).kept ≡ (state old.file).kept)
-  pub is_cut : old.has_failed ≡ true → IsCutBack (state old.file) (state new.file) old.began
+abbrev pub HasEnded : {F : Type 0} → (F → FileState) → FileSpool F → FileSpool F → Type 0
+HasEnded state old new = HasEndedTurn (state old.file) (state new.file) old.has_failed old.began
 
 -- what the end of a turn is to the fields
 abbrev pub StopsTurn : {F : Type 0} → (F → FileState) → FileSpool F → FileSpool F → Type 0
@@ -151,6 +142,7 @@ StopsTurn state old new = new ≡ record old {
   file = new.file;
   waiting = [];
   in_turn = false;
+  is_unsettled = new.is_unsettled;
   log = ended_at old.log (standing_of (state new.file) old.failures);
 }
 
@@ -159,14 +151,14 @@ pub record HasTaken {F : Type 0} (state : F → FileState) (old new : FileSpool 
   pub contents : contents_of state new ≡ contents_of state old ++ text
   pub same : (state new.file) ≡ record (state old.file) {
     bytes = (state new.file).bytes;
-    changes = (state new.file).changes;
+    moments = (state new.file).moments;
   }
 
 -- the file got all of the text, and keeps all that it has through a crash
 pub record KeepsWritten (old new : FileState) (text : List ℕ) : Type 0 where
   pub contents : new.bytes ≡ old.bytes ++ text
   pub kept : new.kept ≡ length new.bytes
-  pub same : new ≡ record old { bytes = new.bytes; kept = new.kept; changes = new.changes }
+  pub same : new ≡ record old { bytes = new.bytes; kept = new.kept; cut_off = []; moments = new.moments }
 
 -- all that was taken is in the file, which keeps it
 abbrev pub KeepsAll : {F : Type 0} → (F → FileState) → FileSpool F → FileSpool F → Type 0
@@ -198,7 +190,7 @@ pub record LosesPart (old new : FileState) (text : List ℕ) : Type 0 where
   pub same : new ≡ record old {
     bytes = old.bytes ++ prefix;
     kept = new.kept;
-    changes = new.changes;
+    moments = new.moments;
     faults = new.faults;
   }
   pub kept : old.kept ≤ new.kept

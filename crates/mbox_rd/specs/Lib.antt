@@ -1,3 +1,4 @@
 pub mod FileSpool
+pub mod Moments
 pub mod Turn
 pub mod Patience

@@ -1,6 +1,6 @@
 //! A mailbox in a file, which other programs read and empty too: it takes bytes in turns, and what stands there is
 //! looked at again in each. Nothing of it lasts from one turn to the next but its file and whether the last turn broke.
-ghost use Rattle.std.specs.Prelude.{◌≡◌, ◌<◌, ◌≤◌, [], ◌++◌, true, false, length, take, ⊤};
+ghost use Rattle.std.specs.Prelude.{◌≡◌, ◌<◌, ◌≤◌, ℕ, List, [], ◌∷◌, ◌++◌, true, false, length, take, ⊤};
 ghost use Rattle.std.specs.Prelude.{Err, IsErr, IfOk, OnOk, OnErr};
 ghost use Rattle.mail_world.specs.Endings.{ending, ending_from};
 ghost use Rattle.mail_world.specs.Failures.{Rises};
@@ -8,8 +8,10 @@ ghost use Rattle.mail_world.specs.Prefixes.{IsPrefix};
 ghost use Rattle.mbox_record.specs.Spool.{SpoolTook, SpoolFailed, HasSynced, HasNotSynced, AsksForTurn, EndsTurn};
 ghost use Rattle.mbox_record.specs.Tail.{ending_of};
 ghost use Rattle.mbox_record.specs.TurnState.{knows_end};
-ghost use Rattle.mbox_file.specs.MailboxFile.{IsHeld};
+ghost use Rattle.mbox_file.specs.MailboxFile.{IsHeld, at_now};
 ghost use Rattle.mbox_rd.specs.FileSpool.{KeepsWritten, LosesPart};
+ghost use Rattle.mbox_file.specs.Moment.{LeavesOne, LeavesAt};
+ghost use Rattle.mbox_rd.specs.Moments.{LeavesInTurn, LeavesOnly};
 
 use crate::patience::Patience;
 use crate::turn::{end_turn, open_anew, wait_for_turn};
@@ -26,7 +28,8 @@ const BUFFER_SIZE: usize = 65_536;
 /// A spool over a file, which other programs read and empty too. In a turn it has both locks that mail programs take,
 /// and what it takes waits in a buffer of 65,536 bytes until that is full or until a sync. A turn in which a call
 /// failed is broken: each further append and sync in it is a fault, and as it ends the file is cut back to its length
-/// at the lock. The next lock opens what the path names again, and goes on with what stands there.
+/// at the lock. The next lock opens what the path names again, and goes on with what stands there. Where it couldn't be
+/// cut back, or that couldn't be kept, each lock has it kept before anything is appended, until it is.
 #[derive(Drop)]
 pub struct FileSpool<F: MailboxFile + Drop, C: Clock + Drop> {
     file: F,
@@ -41,6 +44,7 @@ pub struct FileSpool<F: MailboxFile + Drop, C: Clock + Drop> {
     in_turn: bool,
     has_failed: bool,
     is_unsynced: bool,
+    is_unsettled: bool,
     turns: Turns,
 }
 
@@ -57,6 +61,7 @@ impl<F: MailboxFile + Drop, C: Clock + Drop> Model for FileSpool<F, C> {
       in_turn = s.in_turn;
       has_failed = s.has_failed;
       is_unsynced = s.is_unsynced;
+      is_unsettled = s.is_unsettled;
       began = s.began;
       tail = s.tail;
       failures = s.failures;
@@ -73,6 +78,7 @@ impl<F: MailboxFile + Drop, C: Clock + Drop> Model for FileSpool<F, C> {
           in_turn = s.in_turn;
           has_failed = s.has_failed;
           is_unsynced = s.is_unsynced;
+          is_unsettled = s.is_unsettled;
           began = s.began;
           tail = s.tail;
           failures = s.failures;
@@ -84,9 +90,10 @@ impl<F: MailboxFile + Drop, C: Clock + Drop> Model for FileSpool<F, C> {
 impl<F: MailboxFile + Drop, C: Clock + Drop> FileSpool<F, C> {
     ghost use Rattle.mbox_rd.specs.FileSpool.{IsOpened};
 
-    /// Over a file with neither lock held. Within a minute locks wait that many seconds for other programs in all,
+    /// Over a file with neither lock held, of which nothing was cut off. Within a minute locks wait that many seconds for other programs in all,
     /// 3,600 at most; 0 is one try each. From here on it takes no memory.
     pub fn new(alloc: Global, file: F, clock: C, wait: u32) -> Result<FileSpool<F, C>, AllocError>
+        requires settled { (F.state file).cut_off ≡ [] }
         ensures opened { IfOk result IsOpened }
         ensures file { IfOk result (λ spool. spool.file ≡ file) }
         ensures wait { IfOk result (λ spool. spool.wait ≡ wait) }
@@ -104,6 +111,7 @@ impl<F: MailboxFile + Drop, C: Clock + Drop> FileSpool<F, C> {
             in_turn: false,
             has_failed: false,
             is_unsynced: false,
+            is_unsettled: false,
             turns: Turns::none(),
         })
     }
@@ -111,7 +119,7 @@ impl<F: MailboxFile + Drop, C: Clock + Drop> FileSpool<F, C> {
 
 impl<F: MailboxFile + Drop, C: Clock + Drop> FileSpool<F, C> {
     ghost use Rattle.mbox_file.specs.MailboxFile.{HasAppended, HasNotAppended};
-    ghost use Rattle.mbox_rd.specs.FileSpool.{HasWritten, HasNotWritten, KeepsAll, HasLost, failed_again};
+    ghost use Rattle.mbox_rd.specs.FileSpool.{HasWritten, HasNotWritten, KeepsAll, HasLost, contents_of, failed_again};
 
     // Counts a failure, and throws away what waits.
     fn fail(&mut self) -> SpoolFault
@@ -128,11 +136,14 @@ impl<F: MailboxFile + Drop, C: Clock + Drop> FileSpool<F, C> {
     // where one failed.
     fn write_waiting(&mut self) -> io::Result<()>
         requires turn { self.old.in_turn ≡ true }
+        requires settled { self.old.is_unsettled ≡ false }
         ensures ok { OnOk result (HasWritten self.old self.new) }
         ensures written { OnOk result (HasAppended (F.state self.old.file) (F.state self.new.file) self.old.waiting) }
         ensures err { OnErr result (HasNotWritten self.old self.new) }
         ensures failed { OnErr result
             (HasNotAppended (F.state self.old.file) (F.state self.new.file) self.old.waiting) }
+        ensures moments { LeavesInTurn self.old.began (contents_of F.state self.old)
+            (F.state self.old.file) (F.state self.new.file) }
     {
         let tail = self.tail();
         match self.file.write(&self.waiting) {
@@ -151,10 +162,13 @@ impl<F: MailboxFile + Drop, C: Clock + Drop> FileSpool<F, C> {
     // The same, and has all of the file kept.
     fn keep_waiting(&mut self) -> io::Result<()>
         requires turn { self.old.in_turn ≡ true }
+        requires settled { self.old.is_unsettled ≡ false }
         ensures ok { OnOk result (HasWritten self.old self.new) }
         ensures kept { OnOk result (KeepsAll F.state self.old self.new) }
         ensures err { OnErr result (HasNotWritten self.old self.new) }
         ensures failed { OnErr result (HasLost F.state self.old self.new) }
+        ensures moments { LeavesInTurn self.old.began (contents_of F.state self.old)
+            (F.state self.old.file) (F.state self.new.file) }
     {
         let end = self.tail();
         match write_and_keep(&mut self.file, &self.waiting) {
@@ -173,8 +187,11 @@ impl<F: MailboxFile + Drop, C: Clock + Drop> FileSpool<F, C> {
 
 fn write_and_keep<F: MailboxFile>(file: &mut F, bytes: &[u8]) -> io::Result<()>
     requires held { IsHeld (F.state file.old) }
+    requires settled { (F.state file.old).cut_off ≡ [] }
     ensures kept { OnOk result (KeepsWritten (F.state file.old) (F.state file.new) bytes.now) }
     ensures lost { OnErr result (LosesPart (F.state file.old) (F.state file.new) bytes.now) }
+    ensures moments { (began : ℕ)
+        → LeavesInTurn began ((F.state file.old).bytes ++ bytes.now) (F.state file.old) (F.state file.new) }
 {
     file.write(bytes)?;
     file.keep()
@@ -182,7 +199,7 @@ fn write_and_keep<F: MailboxFile>(file: &mut F, bytes: &[u8]) -> io::Result<()>
 
 impl<F: MailboxFile + Drop, C: Clock + Drop> FileSpool<F, C> {
     ghost use Rattle.mbox_file.specs.MailboxFile.{IsEnd};
-    ghost use Rattle.mbox_rd.specs.Turn.{HasBegun, HasMissed};
+    ghost use Rattle.mbox_rd.specs.Turn.{HasBegun, HasMissed, StaysThere};
     ghost use Rattle.mbox_rd.specs.FileSpool.{StartsTurn, CountsRefusal, KnowsEnd};
 
     // Asks for a turn. After one that broke, what the path names is opened first.
@@ -199,6 +216,22 @@ impl<F: MailboxFile + Drop, C: Clock + Drop> FileSpool<F, C> {
         wait_for_turn(&mut self.file, &self.clock, &mut self.patience, tries)
     }
 
+    // Has what an earlier turn cut off kept so, where that is owed.
+    fn settle(&mut self)
+        requires free { self.old.in_turn ≡ false }
+        ensures same { self.new ≡ record self.old { file = self.new.file; is_unsettled = self.new.is_unsettled } }
+        ensures stays { StaysThere (F.state self.old.file) (F.state self.new.file) }
+        ensures covered { (F.state self.old.file).kept ≤ length (F.state self.old.file).bytes
+            → (F.state self.new.file).kept ≤ length (F.state self.new.file).bytes }
+        ensures moments { LeavesOnly (LeavesOne 0 ((F.state self.old.file).bytes ∷ (F.state self.old.file).cut_off))
+            (F.state self.old.file) (F.state self.new.file) }
+        ensures settled { self.new.is_unsettled ≡ false → (F.state self.new.file).cut_off ≡ [] }
+    {
+        if self.is_unsettled {
+            self.is_unsettled = self.file.keep().is_err();
+        }
+    }
+
     // Begins a turn on a file that ends so.
     fn start(&mut self, end: FileEnd)
         requires free { self.old.in_turn ≡ false }
@@ -206,6 +239,7 @@ impl<F: MailboxFile + Drop, C: Clock + Drop> FileSpool<F, C> {
         requires end { IsEnd (F.state self.old.file) end }
         requires covered { (F.state self.old.file).kept ≤ length (F.state self.old.file).bytes }
         ensures starts { StartsTurn F.state self.old self.new }
+        ensures same { self.new.is_unsettled ≡ self.old.is_unsettled }
         ensures file { self.new.file ≡ self.old.file }
         ensures began { self.new.began ≡ end.at }
         ensures tail { self.new.tail ≡ end.tail }
@@ -255,9 +289,11 @@ impl<F: MailboxFile + Drop, C: Clock + Drop> FileSpool<F, C> {
 }
 
 impl<F: MailboxFile + Drop, C: Clock + Drop> Spool for FileSpool<F, C> {
-    ghost use Rattle.mbox_rd.specs.FileSpool.{HasTurn, HasNoTurn, StartsTurn, CountsRefusal, HasEnded, StopsTurn};
+    ghost use Rattle.mbox_rd.specs.FileSpool.{HasTurn, StartsTurn, CountsRefusal, HasEnded, StopsTurn};
     ghost use Rattle.mbox_rd.specs.FileSpool.{HasTaken, KeepsAll, StaysSound, Breaks, HasLost, failed_again};
-    ghost use Rattle.mbox_rd.specs.FileSpool.{KnowsEnd, state_of};
+    ghost use Rattle.mbox_rd.specs.FileSpool.{KnowsEnd, contents_of, state_of};
+    ghost use Rattle.mbox_rd.specs.Moments.{AnyMoment, Stores};
+    ghost use Rattle.mbox_rd.specs.Turn.{HasMissed};
 
     ghost state = { λ s. state_of F.state s };
 
@@ -266,17 +302,21 @@ impl<F: MailboxFile + Drop, C: Clock + Drop> Spool for FileSpool<F, C> {
     ghost MayRefuse = { λ broke refused. ⊤ };
 
     /// Waits for programs that have the mailbox locked, as far as what may be waited within a minute isn't used up, and
-    /// after a missed turn not at all. After a turn that broke, what the path names is opened again first. In a turn it
-    /// is refused, and the turn goes on.
+    /// after a missed turn not at all. After a turn that broke, what the path names is opened again first; and what was
+    /// cut off is kept so where that is owed, or else this turn's first append and sync fail. In a turn it is refused,
+    /// and the turn goes on.
     fn lock(&mut self) -> Result<u64, InUse>
         ensures within { self.old.in_turn ≡ true → (result ≡ Err InUse.Locked) × (self.new.file ≡ self.old.file) }
         ensures starts { OnOk result (StartsTurn F.state self.old self.new) }
-        ensures had { OnOk result (HasTurn F.state self.old self.new) }
+        ensures had { OnOk result (HasTurn F.state self.new) }
+        ensures moments { OnOk result
+            (LeavesOnly (LeavesOne 0 ((F.state self.new.file).bytes ∷ (F.state self.old.file).cut_off))
+            (F.state self.old.file) (F.state self.new.file)) }
         ensures anew { self.old.in_turn ≡ false → self.old.has_failed ≡ true
             → OnOk result (Rises (F.state self.old.file).openings (F.state self.new.file).openings) }
         ensures count { IfOk result (λ held. held ≡ self.new.began) }
         ensures refused { OnErr result (CountsRefusal self.old self.new) }
-        ensures not_had { self.old.in_turn ≡ false → OnErr result (HasNoTurn F.state self.old self.new) }
+        ensures not_had { self.old.in_turn ≡ false → OnErr result (HasMissed (F.state self.old.file) (F.state self.new.file)) }
 
         // what every spool ensures
         ensures asks { AsksForTurn (⟦<FileSpool<F, C> as Spool>⟧.state self.old)
@@ -287,6 +327,7 @@ impl<F: MailboxFile + Drop, C: Clock + Drop> Spool for FileSpool<F, C> {
         }
         match self.ask() {
             Ok(end) => {
+                self.settle();
                 self.start(end);
                 Ok(end.at)
             }
@@ -303,6 +344,9 @@ impl<F: MailboxFile + Drop, C: Clock + Drop> Spool for FileSpool<F, C> {
         ensures outside { self.old.in_turn ≡ false → self.new ≡ self.old }
         ensures stops { self.old.in_turn ≡ true → StopsTurn F.state self.old self.new }
         ensures ended { self.old.in_turn ≡ true → HasEnded F.state self.old self.new }
+        ensures any_moment { AnyMoment F.state self.old self.new (contents_of F.state self.old) }
+        ensures stored { self.old.has_failed ≡ false → (left : List ℕ)
+            → LeavesAt (at_now (F.state self.new.file)) left → LeavesAt (at_now (F.state self.old.file)) left }
 
         // what every spool ensures
         ensures none { (⟦<FileSpool<F, C> as Spool>⟧.state self.old).turn.in_turn ≡ false
@@ -314,7 +358,12 @@ impl<F: MailboxFile + Drop, C: Clock + Drop> Spool for FileSpool<F, C> {
         if !self.in_turn {
             return;
         }
-        end_turn(&mut self.file, self.has_failed, self.began);
+        self.is_unsettled = end_turn(
+            &mut self.file,
+            self.has_failed,
+            self.began,
+            self.is_unsettled,
+        );
         self.waiting.clear();
         self.in_turn = false;
         let ended = Turns::after::<Brand, F>(&self.turns, &self.file, self.failures);
@@ -326,13 +375,16 @@ impl<F: MailboxFile + Drop, C: Clock + Drop> Spool for FileSpool<F, C> {
         requires { 0 < length piece.now }
         ensures outside_turn { self.old.in_turn ≡ false → IsErr result × (self.new ≡ failed_again self.old) }
         ensures stays_broken { self.old.has_failed ≡ true → IsErr result × (self.new ≡ failed_again self.old) }
+        ensures unsettled { self.old.is_unsettled ≡ true → IsErr result × (self.new ≡ failed_again self.old) }
         ensures sound { OnOk result (StaysSound self.old self.new) }
         ensures taken { IfOk result (λ n. HasTaken F.state self.old self.new (take n piece.now)) }
+        ensures settled { OnOk result ((F.state self.old.file).cut_off ≡ []) }
         ensures grows { OnOk result (IsPrefix (F.state self.old.file).bytes (F.state self.new.file).bytes) }
         ensures ends { OnOk result (KnowsEnd F.state self.new) }
         ensures breaks { OnErr result (Breaks self.old self.new) }
-        ensures lost { self.old.in_turn ≡ true → self.old.has_failed ≡ false
+        ensures lost { self.old.in_turn ≡ true → self.old.has_failed ≡ false → self.old.is_unsettled ≡ false
             → OnErr result (HasLost F.state self.old self.new) }
+        ensures any_moment { AnyMoment F.state self.old self.new (contents_of F.state self.old ++ piece.now) }
 
         // what every spool ensures
         ensures within { IfOk result (λ n. (1 ≤ n) × (n ≤ length piece.now)) }
@@ -345,7 +397,7 @@ impl<F: MailboxFile + Drop, C: Clock + Drop> Spool for FileSpool<F, C> {
             → IsErr result × ((⟦<FileSpool<F, C> as Spool>⟧.state self.new).bytes
             ≡ (⟦<FileSpool<F, C> as Spool>⟧.state self.old).bytes) }
     {
-        if self.has_failed || !self.in_turn {
+        if self.has_failed || !self.in_turn || self.is_unsettled {
             return Err(self.fail());
         }
         if self.waiting.len() == BUFFER_SIZE && self.write_waiting().is_err() {
@@ -358,13 +410,16 @@ impl<F: MailboxFile + Drop, C: Clock + Drop> Spool for FileSpool<F, C> {
     fn sync(&mut self) -> Result<(), SpoolFault>
         ensures outside_turn { self.old.in_turn ≡ false → IsErr result × (self.new ≡ failed_again self.old) }
         ensures stays_broken { self.old.has_failed ≡ true → IsErr result × (self.new ≡ failed_again self.old) }
+        ensures unsettled { self.old.is_unsettled ≡ true → IsErr result × (self.new ≡ failed_again self.old) }
         ensures sound { OnOk result (StaysSound self.old self.new) }
         ensures written { self.new.waiting ≡ [] }
         ensures kept { OnOk result (KeepsAll F.state self.old self.new) }
         ensures ends { OnOk result (KnowsEnd F.state self.new) }
         ensures breaks { OnErr result (Breaks self.old self.new) }
-        ensures lost { self.old.in_turn ≡ true → self.old.has_failed ≡ false
+        ensures lost { self.old.in_turn ≡ true → self.old.has_failed ≡ false → self.old.is_unsettled ≡ false
             → OnErr result (HasLost F.state self.old self.new) }
+        ensures any_moment { AnyMoment F.state self.old self.new (contents_of F.state self.old) }
+        ensures stored { OnOk result (Stores F.state self.old (F.state self.new.file)) }
 
         // what every spool ensures
         ensures ok { OnOk result (HasSynced (⟦<FileSpool<F, C> as Spool>⟧.state self.old)
@@ -373,7 +428,7 @@ impl<F: MailboxFile + Drop, C: Clock + Drop> Spool for FileSpool<F, C> {
             (⟦<FileSpool<F, C> as Spool>⟧.state self.new)) }
         ensures outside { (⟦<FileSpool<F, C> as Spool>⟧.state self.old).turn.in_turn ≡ false → IsErr result }
     {
-        if !self.in_turn || self.has_failed {
+        if !self.in_turn || self.has_failed || self.is_unsettled {
             return Err(self.fail());
         }
         if self.keep_waiting().is_err() {

@@ -1,10 +1,11 @@
 //! How a turn at a mailbox's file begins and ends: both locks are taken, on the file that the path names, and its end
 //! is looked at again; what is to be cut is cut while both are held.
-ghost use Rattle.std.specs.Prelude.{◌≡◌, true, IfOk, OnOk, OnErr};
+ghost use Rattle.std.specs.Prelude.{◌≡◌, [], true, false, IfOk, OnOk, OnErr};
 ghost use Rattle.mail_world.specs.Failures.{Rises};
 ghost use Rattle.mbox_file.specs.MailboxFile.{IsHeld};
 ghost use Rattle.mbox_rd.specs.Turn.{HasBegun, HasMissed, HasTried, HasSeen, HasNotSeen, HasTakenLocks, HasLetGo};
 ghost use Rattle.mbox_rd.specs.Turn.{HasCutBack, HasEndedTurn, IsBetweenTries};
+ghost use Rattle.mbox_rd.specs.Moments.{LeavesInTurn};
 
 use crate::patience::Patience;
 use mbox_file::{FileEnd, MailboxFile};
@@ -141,23 +142,35 @@ pub fn let_go<F: MailboxFile>(file: &mut F)
     file.unlock_range();
 }
 
-/// Ends a turn: where it broke the file is cut to its first bytes, and then both locks are given back.
-pub(crate) fn end_turn<F: MailboxFile>(file: &mut F, is_broken: bool, size: u64)
+/// Ends a turn: where it broke the file is cut to its first bytes, and then both locks are given back. True: what is cut
+/// off, here or, as it says, before a turn that didn't break, may not be kept so.
+pub(crate) fn end_turn<F: MailboxFile>(
+    file: &mut F,
+    is_broken: bool,
+    size: u64,
+    is_unsettled: bool,
+) -> bool
     requires { IsHeld (F.state file.old) }
-    ensures { HasEndedTurn (F.state file.old) (F.state file.new) is_broken size }
+    ensures ended { HasEndedTurn (F.state file.old) (F.state file.new) is_broken size }
+    ensures settled { (is_unsettled ≡ false → (F.state file.old).cut_off ≡ [])
+        → result ≡ false → (F.state file.new).cut_off ≡ [] }
+    ensures moments { LeavesInTurn size (F.state file.old).bytes (F.state file.old) (F.state file.new) }
 {
-    if is_broken {
-        cut_back(file, size);
-    }
+    let is_unsettled = if is_broken {
+        !cut_back(file, size)
+    } else {
+        is_unsettled
+    };
     let_go(file);
+    is_unsettled
 }
 
-// Cuts the file to its first bytes, and has that kept.
-fn cut_back<F: MailboxFile>(file: &mut F, size: u64)
+// Cuts the file to its first bytes, and has that kept. False: it may not be.
+fn cut_back<F: MailboxFile>(file: &mut F, size: u64) -> bool
     requires { IsHeld (F.state file.old) }
-    ensures { HasCutBack (F.state file.old) (F.state file.new) size }
+    ensures cut { HasCutBack (F.state file.old) (F.state file.new) size }
+    ensures settled { result ≡ true → (F.state file.new).cut_off ≡ [] }
+    ensures moments { LeavesInTurn size (F.state file.old).bytes (F.state file.old) (F.state file.new) }
 {
-    if file.cut(size).is_ok() {
-        let _ = file.keep();
-    }
+    file.cut(size).is_ok() && file.keep().is_ok()
 }
