@@ -1,1 +1,3 @@
 mod Filled
+mod Owing
+mod Placed

@@ -1,7 +1,11 @@
--- The addresses that are kept for the entries that wait.
-use Rattle.std.specs.Prelude.{◌≡◌, ◌+◌, ℕ, List, ◌∷◌, [], ◌++◌, length, take, map, Option, Some, None}
+-- The addresses and the names that are kept for the lines that wait.
+use Rattle.std.specs.Prelude.{◌≡◌, ◌+◌, ℕ, Bool, nat_le, List, ◌∷◌, [], ◌++◌, length, take, drop, map, Option, Some, None}
+use Rattle.std.specs.Prelude.{option_map, get_or}
+use Rattle.mail_world.specs.declared.limits.TheConstants.{NAME_LIMIT}
 use Rattle.lmtpd_log.specs.Letters.{LoggedLetter, address_text}
 use Rattle.lmtpd_log.specs.declared.addresses.Addresses.{Addresses}
+use Rattle.lmtpd_log.specs.declared.names.Place.{Place}
+use Rattle.lmtpd_log.specs.declared.names.TheConstants.{NAMES_LIMIT}
 
 abbrev pub logged_letter : Addresses → LoggedLetter
 logged_letter a = record { sender = address_text a.sender; recipients = map address_text a.recipients.items }
@@ -20,3 +24,25 @@ abbrev pub KeepsOne : Option (List ℕ) → List (List ℕ) → Option ℕ → L
 KeepsOne None old None new = new ≡ old
 KeepsOne (Some address) old (Some at) new = (at ≡ length old) × (new ≡ old ++ address ∷ [])
 KeepsOne _ old _ new = ⊥
+
+-- the same where the lines show addresses, and none elsewhere
+abbrev pub letter_of : Option Addresses → Option LoggedLetter
+letter_of addresses = option_map logged_letter addresses
+
+abbrev pub kept_of : Option Addresses → List (List ℕ)
+kept_of None = []
+kept_of (Some a) = kept_texts a
+
+-- the address that is kept there, and a sender with the recipient after it
+abbrev pub kept_at : List (List ℕ) → Option ℕ → Option (List ℕ)
+kept_at kept at = option_map (λ n. get_or kept n []) at
+
+abbrev pub pair_at : List (List ℕ) → Option ℕ → Option (List ℕ × List ℕ)
+pair_at kept at = option_map (λ n. (get_or kept n [], get_or kept (n + 1) [])) at
+
+-- a client's name, where names stand one behind the other
+abbrev pub name_at : List ℕ → Place → List ℕ
+name_at names place = take place.size (drop place.at names)
+
+abbrev pub has_name_room : List ℕ → Bool
+has_name_room names = nat_le (length names + NAME_LIMIT) NAMES_LIMIT

@@ -1,5 +1,13 @@
+pub mod Entries
+pub mod Events
+pub mod History
 pub mod Kept
 pub mod Letters
+pub mod Line
 pub mod Lines
 pub mod Logged
+pub mod Owed
 pub mod Shown
+pub mod Sink
+pub mod Verbs
+pub mod Waits

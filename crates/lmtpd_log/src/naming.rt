@@ -80,7 +80,7 @@ fn local_address(local: &[u8], quoted: bool) -> Address
 
 /// An address as a line shows it.
 #[derive(Clone, Copy, Drop)]
-pub(crate) struct Shown<'a>(pub &'a [u8]);
+pub struct Shown<'a>(pub &'a [u8]);
 
 impl Display for Shown<'_> {
     ghost use Rattle.std.specs.Prelude.{Some};
