@@ -1,12 +1,11 @@
 -- What becomes of a log's history by one event more.
-use Rattle.std.specs.Prelude.{List, [], ◌∷◌, ◌++◌, Option, Some, None}
+use Rattle.std.specs.Prelude.{[], ◌∷◌, ◌++◌, Option, Some, None}
 use Rattle.lmtp_talk.specs.Entries.{Entry, OfLine, OfCopy, OfEnd}
 use Rattle.lmtpd_log.specs.declared.history.Event.{Event}
 use Rattle.lmtpd_log.specs.declared.history.Event.TheVariants as events
 use Rattle.lmtpd_log.specs.declared.stream.Traffic.{Traffic}
 use Rattle.lmtpd_log.specs.History.{LogHistory}
 use Rattle.lmtpd_log.specs.Line.{line_of}
-use Rattle.lmtpd_log.specs.Owed.{Heard}
 
 abbrev pub hears : LogHistory → Entry → Option Traffic → LogHistory
 hears h entry traffic = record h { heard = h.heard ++ record { entry = entry; traffic = traffic } ∷ [] }

@@ -1,5 +1,5 @@
 -- What a log was told and what was shown.
-use Rattle.std.specs.Prelude.{List, [], Option}
+use Rattle.std.specs.Prelude.{List, []}
 use Rattle.lmtpd_log.specs.Line.{Line}
 use Rattle.lmtpd_log.specs.Owed.{Heard}
 

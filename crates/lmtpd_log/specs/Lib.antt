@@ -1,13 +1,12 @@
-pub mod Entries
 pub mod Events
 pub mod History
-pub mod Kept
 pub mod Letters
 pub mod Line
 pub mod Lines
 pub mod Logged
 pub mod Owed
+pub mod Rules
 pub mod Shown
 pub mod Sink
+pub mod Texts
 pub mod Verbs
-pub mod Waits

@@ -1,15 +1,16 @@
 -- Which lines a lane's log owes for what it was told.
-use Rattle.std.specs.Prelude.{ℕ, Bool, true, false, List, [], ◌∷◌, ◌++◌, take, map, if◌then◌else◌, Option, Some, None, option_map}
+use Rattle.std.specs.Prelude.{ℕ, Bool, true, false, List, [], ◌∷◌, ◌++◌, take, map, if◌then◌else◌}
+use Rattle.std.specs.Prelude.{Option, None, option_map}
 use Rattle.std.specs.Option.{option_map_or, option_and_then}
-use Rattle.mail_world.specs.declared.Outcome.{Outcome}
 use Rattle.mail_world.specs.declared.Reply.{Reply}
 use Rattle.mail_world.specs.declared.Reply.TheVariants as replies
 use Rattle.mail_world.specs.declared.limits.TheConstants.{NAME_LIMIT}
 use Rattle.mail_world.specs.Replies.{reply_text}
 use Rattle.mail_world.specs.Site.{Site, box_name}
 use Rattle.lmtp_talk.specs.Entries.{Entry, OfLine, OfCopy, OfEnd}
+use Rattle.lmtp_talk.specs.declared.ending.EndCause.{EndCause}
 use Rattle.lmtpd_log.specs.declared.stream.Traffic.{Traffic}
-use Rattle.lmtpd_log.specs.Letters.{LoggedLetter, no_letter, address_in, after_entry}
+use Rattle.lmtpd_log.specs.Letters.{LoggedLetter, address_in, after_entry, first_letter, next_envelope}
 use Rattle.lmtpd_log.specs.Line.{Line, Refused, Answered, Ended}
 use Rattle.lmtpd_log.specs.Logged.{is_refusal, cause_text, outcome_word}
 use Rattle.lmtpd_log.specs.Verbs.{verb_word}
@@ -35,38 +36,28 @@ entries_heard heard = map (λ h. h.entry) heard
 abbrev pub code_of : Site → Reply → List ℕ
 code_of site reply = take 3 (reply_text site reply)
 
--- the sender, and the first of the recipients of whose copies the log wasn't told yet
-abbrev pub envelope_of : List ℕ → List (List ℕ) → Option (List ℕ × List ℕ)
-envelope_of sender [] = None
-envelope_of sender (recipient ∷ more) = Some (sender, recipient)
+-- The lines that are owed for one entry, one or none: for a command that was refused, for a copy to and from these
+-- addresses, and for an end.
+abbrev pub refused_lines : LineRules → List ℕ → Reply → List Line
+refused_lines rules line reply =
+    let address = if rules.addresses then address_in rules.site.utf8 line else None in
+    if is_refusal reply then Refused rules.lane (verb_word line) (code_of rules.site reply) address ∷ [] else []
 
-abbrev pub next_envelope : LoggedLetter → Option (List ℕ × List ℕ)
-next_envelope letter = envelope_of letter.sender letter.recipients
+abbrev pub copy_lines : LineRules → ℕ → ℕ → List ℕ → Reply → Option (List ℕ × List ℕ) → List Line
+copy_lines rules number size client (replies.Result outcome box) envelope =
+    Answered rules.start rules.lane number (box_name rules.site box) (outcome_word outcome)
+    (code_of rules.site (replies.Result outcome box)) size (take NAME_LIMIT client) envelope ∷ []
+copy_lines rules number size client _ envelope = []
 
--- the outcome that a reply tells, and the mailbox
-abbrev pub result_in : Reply → Option (Outcome × ℕ)
-result_in (replies.Result outcome box) = Some (outcome, box)
-result_in _ = None
+abbrev pub end_lines : LineRules → EndCause → Traffic → List Line
+end_lines rules cause t = Ended rules.lane t.client (cause_text cause) t.read t.written ∷ []
 
-abbrev pub copy_line : LineRules → ℕ → ℕ → Outcome × ℕ → List ℕ → Option (List ℕ × List ℕ) → Line
-copy_line rules number size told client envelope =
-    Answered rules.start rules.lane number (box_name rules.site told.1) (outcome_word told.0)
-    (code_of rules.site (replies.Result told.0 told.1)) size client envelope
-
--- The lines that are owed for one entry, one or none: for a command that was refused, for a copy, and for an end.
--- `letter` is what the log knows of the letter under way, where the lines show addresses.
+-- `letter` is what the log knows of the letter under way, where the lines show addresses
 abbrev pub lines_for_entry : LineRules → Option LoggedLetter → Option Traffic → Entry → List Line
-lines_for_entry rules letter traffic (OfLine line reply) =
-    if is_refusal reply then
-    Refused rules.lane (verb_word line) (code_of rules.site reply)
-    (option_and_then (λ _. address_in rules.site.utf8 line) letter) ∷ []
-    else []
+lines_for_entry rules letter traffic (OfLine line reply) = refused_lines rules line reply
 lines_for_entry rules letter traffic (OfCopy number size client reply) =
-    option_map_or (λ told.
-    copy_line rules number size told (take NAME_LIMIT client) (option_and_then next_envelope letter) ∷ [])
-    (result_in reply) []
-lines_for_entry rules letter traffic (OfEnd cause) =
-    option_map_or (λ t. Ended rules.lane t.client (cause_text cause) t.read t.written ∷ []) traffic []
+    copy_lines rules number size client reply (option_and_then next_envelope letter)
+lines_for_entry rules letter traffic (OfEnd cause) = option_map_or (λ t. end_lines rules cause t) traffic []
 
 abbrev pub lines_for : LineRules → Option LoggedLetter → Heard → List Line
 lines_for rules letter h = if rules.is_on then lines_for_entry rules letter h.traffic h.entry else []
@@ -81,10 +72,6 @@ lines_from rules letter (h ∷ hs) = lines_for rules letter h ++ lines_from rule
 abbrev pub letter_after : Option LoggedLetter → List Heard → Option LoggedLetter
 letter_after letter [] = letter
 letter_after letter (h ∷ hs) = letter_after (letter_then letter h) hs
-
--- what it knows of the letter under way at first; `addresses`: the lines show them
-abbrev pub first_letter : Bool → Option LoggedLetter
-first_letter addresses = if addresses then Some no_letter else None
 
 -- the lines owed for all that a log was told, in its order
 abbrev pub lines_owed : LineRules → List Heard → List Line

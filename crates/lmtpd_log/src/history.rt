@@ -15,7 +15,7 @@ pub(crate) enum Event<'a> {
     Line(&'a [u8], Reply),
     Copy(u64, u64, &'a [u8], Reply),
     End(EndCause, Traffic),
-    Shown(Line<'a>),
+    Shown(Line),
 }
 
 // What is listed. A caller that passes `Brand` picks it.

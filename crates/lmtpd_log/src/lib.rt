@@ -5,12 +5,11 @@
 //! program's words.
 #![tactic(auto)]
 
-mod address;
 mod addresses;
 mod all_visits;
-mod entry;
 mod file;
 mod history;
+mod keeping;
 mod lane_log;
 mod letter;
 mod line_log;
@@ -19,14 +18,13 @@ mod line_sink;
 mod listener;
 mod logged_peer;
 mod mailbox;
-mod names;
 mod naming;
 mod pairs;
 mod setting;
 mod stream;
+mod text;
 mod verb;
 mod visits;
-mod waiting;
 mod words;
 
 pub use all_visits::logged_visits;

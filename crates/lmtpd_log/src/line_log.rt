@@ -1,22 +1,29 @@
 //! A lane's log in lines: a line for each copy that was answered, for each command that was refused, and for each
 //! conversation that ended.
 
-ghost use Rattle.std.specs.Prelude.{◌≡◌, ◌++◌, [], true};
-ghost use Rattle.lmtpd_log.specs.Kept.{letter_of};
-ghost use Rattle.lmtpd_log.specs.Owed.{first_letter, has_ended, letter_after, lines_owed};
-ghost use Rattle.lmtpd_log.specs.Waits.{lines_in, rules_of};
+ghost use Rattle.std.specs.Prelude.{◌≡◌, ◌++◌, [], true, vec_capacity};
+ghost use Rattle.lmtpd_log.specs.Letters.{first_letter};
+ghost use Rattle.lmtpd_log.specs.Owed.{has_ended, letter_after, lines_owed};
+ghost use Rattle.lmtpd_log.specs.Rules.{lines_of, rules_of};
+ghost use Rattle.lmtpd_log.specs.Texts.{letter_of};
+ghost use Rattle.lmtpd_log.specs.declared.line_log.TheConstants.{WAITING_LIMIT};
 
 use crate::history::{Event, History};
+use crate::keeping::{keep, show_all, show_one};
 use crate::lane_log::LaneLog;
+use crate::letter::Letter;
 use crate::line_sink::LineSink;
-use crate::pairs::Seconds;
+use crate::pairs::{Line, Seconds};
 use crate::setting::LaneSetting;
 use crate::stream::Traffic;
-use crate::waiting::Waiting;
 use lmtp_talk::EndCause;
 use mail_world::Reply;
 use std::alloc::{AllocError, Global};
 use std::time::{Clock, Duration};
+
+/// The lines that may wait: more than the bytes of one read of a client can owe, at three bytes a command and with a
+/// thousand recipients from before, so that none is shown before its reply was written.
+const WAITING_LIMIT: usize = 4_096;
 
 /// A lane's log, which shows its lines once the replies were written, each in its order. What waits does so in memory
 /// that is taken once; where nothing is logged nothing waits.
@@ -25,23 +32,23 @@ pub struct LineLog<E: LineSink, C: Drop> {
     sink: E,
     clock: C,
     setting: LaneSetting,
-    waiting: Waiting,
+    waiting: Vec<Line>,
+    ghost room: { vec_capacity waiting ≡ WAITING_LIMIT },
+    letter: Letter,
     // when bytes came last
     came: Option<Duration>,
     history: History,
     // what was shown and what waits is what is owed for what it was told
-    ghost owes: { E.shown sink ++ lines_in (rules_of setting) waiting
-        ≡ lines_owed (rules_of setting) history.list.heard },
+    ghost owes: { E.shown sink ++ lines_of waiting.items ≡ lines_owed (rules_of setting) history.list.heard },
     // nothing waits after a conversation's end
-    ghost rests: { has_ended history.list.heard ≡ true → lines_in (rules_of setting) waiting ≡ [] },
+    ghost rests: { has_ended history.list.heard ≡ true → lines_of waiting.items ≡ [] },
     // what it knows of the letter under way
-    ghost knows: { letter_of waiting.addresses ≡ letter_after (first_letter setting.addresses) history.list.heard },
+    ghost knows: { letter_of letter ≡ letter_after (first_letter setting.addresses) history.list.heard },
 }
 
 impl<E: LineSink, C: Clock + Drop> LineLog<E, C> {
-    ghost use Rattle.std.specs.Prelude.{IfOk};
-    ghost use Rattle.lmtpd_log.specs.Lines.{ShowsForRoom, heard_by, owed_by, sink_in, waits};
-    ghost use Rattle.lmtpd_log.specs.Waits.{has_room};
+    ghost use Rattle.std.specs.Prelude.{◌<◌, IfOk, vec_len};
+    ghost use Rattle.lmtpd_log.specs.Lines.{ShowsForRoom, has_room, heard_by, owed_by, sink_in, waits};
 
     /// Told nothing yet, over what has shown nothing.
     pub(crate) fn new(
@@ -53,14 +60,13 @@ impl<E: LineSink, C: Clock + Drop> LineLog<E, C> {
         requires { E.shown sink ≡ [] }
         ensures untold { IfOk result (λ log. heard_by log ≡ []) }
         ensures setting { IfOk result (λ log. log.setting ≡ setting) }
-        ensures sink { IfOk result (λ log. sink_in log ≡ sink) }
     {
-        let waiting = Waiting::new(alloc, setting.addresses)?;
         Ok(LineLog {
             sink,
             clock,
+            waiting: Vec::with_capacity(alloc, WAITING_LIMIT)?,
+            letter: Letter::new(alloc, setting.addresses)?,
             setting,
-            waiting,
             came: None,
             history: History::new(),
         })
@@ -74,24 +80,23 @@ impl<E: LineSink, C: Clock + Drop> LineLog<E, C> {
     // Shows what waits.
     fn show_waiting(&mut self)
         ensures shown { E.shown self.new.sink ≡ E.shown self.old.sink ++ waits self.old }
-        ensures none { waits self.new ≡ [] }
-        ensures room { has_room self.new.waiting ≡ true }
+        ensures none { self.new.waiting.items ≡ [] }
         ensures history { self.new.history ≡ self.old.history }
         ensures setting { self.new.setting ≡ self.old.setting }
     {
-        self.waiting.show(&self.setting, &mut self.sink);
+        show_all(&mut self.sink, &self.waiting);
         self.waiting.clear();
     }
 
     // Makes room for one more. Where there is none, which can't be, what waits is shown first.
     fn make_room(&mut self)
-        ensures shown { ShowsForRoom (has_room self.old.waiting) (waits self.old)
+        ensures shown { ShowsForRoom (has_room self.old) (waits self.old)
             (E.shown self.old.sink) (E.shown self.new.sink) }
-        ensures room { has_room self.new.waiting ≡ true }
+        ensures room { vec_len self.new.waiting < WAITING_LIMIT }
         ensures history { self.new.history ≡ self.old.history }
         ensures setting { self.new.setting ≡ self.old.setting }
     {
-        if !self.waiting.has_room() {
+        if self.waiting.len() >= WAITING_LIMIT {
             self.show_waiting();
         }
     }
@@ -111,8 +116,7 @@ impl<E: LineSink, C: Clock + Drop> LineLog<E, C> {
 impl<E: LineSink, C: Clock + Drop> LaneLog for LineLog<E, C> {
     ghost use Rattle.std.specs.Prelude.{◌∷◌, Some};
     ghost use Rattle.lmtp_talk.specs.Entries.{OfLine, OfCopy, OfEnd, with_entries};
-    ghost use Rattle.lmtpd_log.specs.Lines.{ShowsForRoom, shows_addresses, told_to, waits};
-    ghost use Rattle.lmtpd_log.specs.Waits.{has_room};
+    ghost use Rattle.lmtpd_log.specs.Lines.{ShowsForRoom, has_room, heard_by, rules_in, shows_addresses, told_to, waits};
 
     ghost told = { λ log. Some (told_to log) };
 
@@ -121,11 +125,14 @@ impl<E: LineSink, C: Clock + Drop> LaneLog for LineLog<E, C> {
     /// A line for a command that was refused.
     fn command(&mut self, line: &[u8], reply: Reply)
         ensures told { Some (told_to self.new) ≡ with_entries (Some (told_to self.old)) (OfLine line.now reply ∷ []) }
-        ensures waits { ShowsForRoom (has_room self.old.waiting) (waits self.old)
+        ensures waits { ShowsForRoom (has_room self.old) (waits self.old)
             (E.shown self.old.sink) (E.shown self.new.sink) }
+        ensures rules { rules_in self.new ≡ rules_in self.old }
     {
         self.make_room();
-        self.waiting.command(&self.setting, line, reply);
+        let made = self.setting.refused(line, reply);
+        keep(&mut self.waiting, made);
+        self.letter.line(line, reply);
         self.history.add(Event::Line(line, reply));
     }
 
@@ -133,31 +140,39 @@ impl<E: LineSink, C: Clock + Drop> LaneLog for LineLog<E, C> {
     fn copy(&mut self, number: u64, size: u64, client: &[u8], reply: Reply)
         ensures told { Some (told_to self.new)
             ≡ with_entries (Some (told_to self.old)) (OfCopy number size client.now reply ∷ []) }
-        ensures waits { ShowsForRoom (has_room self.old.waiting) (waits self.old)
+        ensures waits { ShowsForRoom (has_room self.old) (waits self.old)
             (E.shown self.old.sink) (E.shown self.new.sink) }
+        ensures rules { rules_in self.new ≡ rules_in self.old }
     {
         self.make_room();
         let seconds = self.since(self.came);
-        self.waiting
-            .copy(&self.setting, number, size, client, reply, seconds);
+        let envelope = self.letter.copy();
+        let made = self
+            .setting
+            .answered(number, size, client, reply, seconds, envelope);
+        keep(&mut self.waiting, made);
         self.history.add(Event::Copy(number, size, client, reply));
     }
 
     /// The last line of a conversation.
     fn ended(&mut self, cause: EndCause, traffic: Traffic)
         ensures told { Some (told_to self.new) ≡ with_entries (Some (told_to self.old)) (OfEnd cause ∷ []) }
+        ensures heard { heard_by self.new
+            ≡ heard_by self.old ++ record { entry = OfEnd cause; traffic = Some traffic } ∷ [] }
         ensures none_waits { waits self.new ≡ [] }
+        ensures rules { rules_in self.new ≡ rules_in self.old }
     {
         self.show_waiting();
         let seconds = self.since(traffic.accepted);
-        self.setting
-            .show_end(&mut self.sink, cause, traffic, seconds);
+        let made = self.setting.ended(cause, traffic, seconds);
+        show_one(&mut self.sink, made);
         self.history.add(Event::End(cause, traffic));
     }
 
     fn written(&mut self)
         ensures told { told_to self.new ≡ told_to self.old }
         ensures none_waits { waits self.new ≡ [] }
+        ensures rules { rules_in self.new ≡ rules_in self.old }
     {
         self.show_waiting();
     }
@@ -166,6 +181,7 @@ impl<E: LineSink, C: Clock + Drop> LaneLog for LineLog<E, C> {
     fn came(&mut self)
         ensures told { told_to self.new ≡ told_to self.old }
         ensures waits { waits self.new ≡ waits self.old }
+        ensures rules { rules_in self.new ≡ rules_in self.old }
     {
         if self.setting.is_on {
             self.came = self.clock.monotonic().ok();

@@ -13,8 +13,8 @@ pub trait LineSink: Drop {
     ghost shown: { Self → List Line };
 
     /// Shows one line.
-    fn show(&mut self, line: Line<'_>)
-        ensures { shown self.new ≡ shown self.old ++ line_of line.entry ∷ [] };
+    fn show(&mut self, line: Line)
+        ensures { shown self.new ≡ shown self.old ++ line_of line ∷ [] };
 }
 
 /// The crate `log`, at the level `info`.
@@ -43,7 +43,7 @@ impl<G: Log + Drop> LineSink for LogSink<G> {
 
     ghost shown = { λ sink. shown_by sink };
 
-    fn show(&mut self, line: Line<'_>) {
+    fn show(&mut self, line: Line) {
         let metadata = Metadata::new(Level::Info, "lmtpd");
         self.log
             .log(&Record::new(metadata, line.message(), &line, ()));

@@ -1,24 +1,29 @@
 //! The lines of a lane's log: what each begins with, and its pairs in their order.
 
 use crate::naming::Shown;
+use crate::text::{Address, Text};
+use crate::words::{cause_text, outcome_word};
 use lmtp_lane::Client;
+use lmtp_talk::EndCause;
 use log::kv::{Error, Source, ToValue, Value, VisitSource};
+use mail_world::Outcome;
+use mail_world::limits::{BOX_NAME_LIMIT, NAME_LIMIT};
 use std::fmt;
 use std::fmt::{Display, Formatter};
 use std::time::Duration;
 
 /// A line of a lane's log.
 #[derive(Clone, Copy, Drop)]
-pub enum Line<'a> {
+pub enum Line {
     /// A command was refused.
-    Refused(RefusedLine<'a>),
+    Refused(RefusedLine),
     /// A copy was answered.
-    Answered(CopyLine<'a>),
+    Answered(CopyLine),
     /// A conversation ended.
-    Ended(EndLine<'a>),
+    Ended(EndLine),
 }
 
-impl Line<'_> {
+impl Line {
     // What it begins with.
     pub(crate) fn message(&self) -> &'static str {
         match self {
@@ -29,7 +34,7 @@ impl Line<'_> {
     }
 }
 
-impl Source for Line<'_> {
+impl Source for Line {
     fn visit<V: VisitSource>(&self, visitor: &mut V) -> Result<(), Error> {
         match self {
             Line::Refused(line) => line.visit(visitor),
@@ -41,74 +46,74 @@ impl Source for Line<'_> {
 
 /// A copy that was answered.
 #[derive(Clone, Copy, Drop)]
-pub struct CopyLine<'a> {
+pub struct CopyLine {
     pub id: Id,
-    pub mailbox: &'a [u8],
-    pub outcome: &'a str,
-    pub code: &'a [u8],
+    pub mailbox: Text<BOX_NAME_LIMIT>,
+    pub outcome: Outcome,
+    pub code: Text<3>,
     pub bytes: u64,
     pub seconds: Seconds,
-    pub client: &'a [u8],
+    pub client: Text<NAME_LIMIT>,
     /// Where the lines show addresses.
-    pub envelope: Option<Envelope<'a>>,
+    pub envelope: Option<Envelope>,
 }
 
 /// Who a copy is from and to.
 #[derive(Clone, Copy, Drop)]
-pub struct Envelope<'a> {
-    pub sender: Shown<'a>,
-    pub recipient: Shown<'a>,
+pub struct Envelope {
+    pub sender: Address,
+    pub recipient: Address,
 }
 
-impl CopyLine<'_> {
+impl CopyLine {
     // What became of it, and in which mailbox.
     fn visit_outcome<V: VisitSource>(&self, visitor: &mut V) -> Result<(), Error> {
-        visitor.visit_pair("mailbox", text_of(self.mailbox).to_value())?;
-        visitor.visit_pair("outcome", self.outcome.to_value())?;
-        visitor.visit_pair("code", text_of(self.code).to_value())
+        visitor.visit_pair("mailbox", shown(&self.mailbox).to_value())?;
+        visitor.visit_pair("outcome", outcome_word(self.outcome).to_value())?;
+        visitor.visit_pair("code", shown(&self.code).to_value())
     }
 }
 
-impl Source for CopyLine<'_> {
+impl Source for CopyLine {
     fn visit<V: VisitSource>(&self, visitor: &mut V) -> Result<(), Error> {
         visitor.visit_pair("id", Value::Display(&self.id))?;
         self.visit_outcome(visitor)?;
         visitor.visit_pair("bytes", self.bytes.to_value())?;
         visitor.visit_pair("seconds", Value::Display(&self.seconds))?;
-        visitor.visit_pair("client", text_of(self.client).to_value())?;
+        visitor.visit_pair("client", shown(&self.client).to_value())?;
         self.envelope.visit(visitor)
     }
 }
 
-impl Source for Envelope<'_> {
+impl Source for Envelope {
     fn visit<V: VisitSource>(&self, visitor: &mut V) -> Result<(), Error> {
-        visitor.visit_pair("sender", Value::Display(&self.sender))?;
-        visitor.visit_pair("recipient", Value::Display(&self.recipient))
+        visitor.visit_pair("sender", Value::Display(&Shown(self.sender.text())))?;
+        visitor.visit_pair("recipient", Value::Display(&Shown(self.recipient.text())))
     }
 }
 
 /// A command that was refused.
 #[derive(Clone, Copy, Drop)]
-pub struct RefusedLine<'a> {
+pub struct RefusedLine {
     pub lane: u32,
-    pub verb: &'a str,
-    pub code: &'a [u8],
+    pub verb: Text<5>,
+    pub code: Text<3>,
     /// The address that it named, where the lines show it.
-    pub address: Option<Shown<'a>>,
+    pub address: Option<Address>,
 }
 
-impl Source for RefusedLine<'_> {
+impl Source for RefusedLine {
     fn visit<V: VisitSource>(&self, visitor: &mut V) -> Result<(), Error> {
         visitor.visit_pair("lane", self.lane.to_value())?;
-        visitor.visit_pair("verb", self.verb.to_value())?;
-        visitor.visit_pair("code", text_of(self.code).to_value())?;
-        let key = if self.verb == "RCPT" {
+        visitor.visit_pair("verb", shown(&self.verb).to_value())?;
+        visitor.visit_pair("code", shown(&self.code).to_value())?;
+        let key = if self.verb.text() == b"RCPT".as_slice() {
             "recipient"
         } else {
             "sender"
         };
         match &self.address {
-            Some(address) => visitor.visit_pair(key, Value::Display(address)),
+            Some(address) => visitor.visit_pair(key, Value::Display(&Shown(address.text()))),
             None => Ok(()),
         }
     }
@@ -116,21 +121,21 @@ impl Source for RefusedLine<'_> {
 
 /// A conversation that ended.
 #[derive(Clone, Copy, Drop)]
-pub struct EndLine<'a> {
+pub struct EndLine {
     pub lane: u32,
     pub client: Client,
-    pub cause: &'a str,
+    pub cause: EndCause,
     /// The bytes that were read, and those that were written.
     pub read: u64,
     pub written: u64,
     pub seconds: Seconds,
 }
 
-impl Source for EndLine<'_> {
+impl Source for EndLine {
     fn visit<V: VisitSource>(&self, visitor: &mut V) -> Result<(), Error> {
         visitor.visit_pair("lane", self.lane.to_value())?;
         visitor.visit_pair("client", Value::Display(&self.client))?;
-        visitor.visit_pair("cause", self.cause.to_value())?;
+        visitor.visit_pair("cause", cause_text(self.cause).to_value())?;
         visitor.visit_pair("read", self.read.to_value())?;
         visitor.visit_pair("written", self.written.to_value())?;
         visitor.visit_pair("seconds", Value::Display(&self.seconds))
@@ -161,7 +166,7 @@ impl Display for Seconds {
     }
 }
 
-// The text that these bytes are, empty where they are none.
-fn text_of(bytes: &[u8]) -> &str {
-    str::from_utf8(bytes).unwrap_or("")
+// The text as it is shown, empty where it is none.
+fn shown<const N: usize>(text: &Text<N>) -> &str {
+    str::from_utf8(text.text()).unwrap_or("")
 }

@@ -1,8 +1,7 @@
 //! What the log calls things.
 
-ghost use Rattle.std.specs.Prelude.{◌≡◌, take};
+ghost use Rattle.std.specs.Prelude.{◌≡◌};
 ghost use Rattle.lmtpd_log.specs.Logged.{cause_text, outcome_word, is_refusal};
-ghost use Rattle.lmtpd_log.specs.Owed.{result_in};
 
 use lmtp_talk::EndCause;
 use mail_world::{Outcome, Reply};
@@ -46,21 +45,4 @@ pub(crate) fn is_refusal(reply: Reply) -> bool
             | Reply::OutOfOrder
             | Reply::LineTooLong
     )
-}
-
-/// The outcome that a reply tells, and the mailbox.
-pub(crate) fn result_in(reply: Reply) -> Option<(Outcome, u32)>
-    ensures { result ≡ result_in reply }
-{
-    match reply {
-        Reply::Result(outcome, mailbox) => Some((outcome, mailbox)),
-        _ => None,
-    }
-}
-
-/// The code of a reply with that text.
-pub(crate) fn code_in(text: &[u8]) -> &[u8]
-    ensures { result.now ≡ take 3 text.now }
-{
-    &text[..text.len().min(3)]
 }
