@@ -17,7 +17,7 @@ use crate::rehearse::rehearse_filled;
 use crate::serve::{ServeDone, report_served, serve_filled};
 use lmtpd_check::Checked;
 use lmtpd_copy::{CopyTarget, TargetFile};
-use lmtpd_log::{LaneLog, LineLog};
+use lmtpd_log::{LaneLog, LineLog, LogSink};
 use lmtpd_rehearse::Rehearsed;
 use lmtpd_serve::Served;
 use lmtpd_setup::{Exit, ServedMailbox, ServerLog, Stop, report_fault};
@@ -77,8 +77,8 @@ where
     W: Write + Drop + Send + 'static,
     E: Write,
     ensures done { IsDoneAsAsked (streams_of R.remaining W.contents) (IsFilled P.File.remaining)
-        (λ asked after. IsServedAsAsked H (⟦<LineLog<ServerLog<H>, H> as LaneLog>⟧.told)
-        (⟦<LineLog<ServerLog<H>, H> as LaneLog>⟧.addresses)
+        (λ asked after. IsServedAsAsked H (⟦<LineLog<LogSink<ServerLog<H>>, H> as LaneLog>⟧.told)
+        (⟦<LineLog<LogSink<ServerLog<H>>, H> as LaneLog>⟧.addresses)
         (spools_view (⟦<ServedMailbox<H, ServerLog<H>> as Spool>⟧.state)
         (⟦<ServedMailbox<H, ServerLog<H>> as Spool>⟧.MayFind)
         (⟦<ServedMailbox<H, ServerLog<H>> as Spool>⟧.MayRefuse))
@@ -119,8 +119,8 @@ where
     R: Read + Drop + Send + 'static,
     W: Write + Drop + Send + 'static,
     ensures { IsDoneAsAsked (streams_of R.remaining W.contents) (IsFilled P.File.remaining)
-        (λ asked after. IsServedAsAsked H (⟦<LineLog<ServerLog<H>, H> as LaneLog>⟧.told)
-        (⟦<LineLog<ServerLog<H>, H> as LaneLog>⟧.addresses)
+        (λ asked after. IsServedAsAsked H (⟦<LineLog<LogSink<ServerLog<H>>, H> as LaneLog>⟧.told)
+        (⟦<LineLog<LogSink<ServerLog<H>>, H> as LaneLog>⟧.addresses)
         (spools_view (⟦<ServedMailbox<H, ServerLog<H>> as Spool>⟧.state)
         (⟦<ServedMailbox<H, ServerLog<H>> as Spool>⟧.MayFind)
         (⟦<ServedMailbox<H, ServerLog<H>> as Spool>⟧.MayRefuse))

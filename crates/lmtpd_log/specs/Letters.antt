@@ -9,7 +9,6 @@ use Rattle.mail_world.specs.declared.limits.TheConstants.{PATH_LIMIT, RECIPIENT_
 use Rattle.mail_world.specs.Commands.{Answer, Mail, Rcpt, command_at}
 use Rattle.mail_world.specs.Grammar.{mailbox_text}
 use Rattle.lmtp_talk.specs.Entries.{Entry, OfLine, OfCopy, OfEnd}
-use Rattle.lmtpd_log.specs.declared.address.Address.{Address}
 
 -- the sender, and the recipients of whose copies the log wasn't told yet, in their order
 pub record LoggedLetter : Type 0 where
@@ -19,9 +18,17 @@ pub record LoggedLetter : Type 0 where
 abbrev pub no_letter : LoggedLetter
 no_letter = record { sender = []; recipients = [] }
 
--- an address, and none longer than one may be
-abbrev pub address_text : Address → List ℕ
-address_text a = take a.size a.bytes
+-- what it knows at first, where its lines show addresses
+abbrev pub first_letter : Bool → Option LoggedLetter
+first_letter addresses = if addresses then Some no_letter else None
+
+-- the sender, and the first of the recipients of whose copies the log wasn't told yet
+abbrev pub envelope_of : List ℕ → List (List ℕ) → Option (List ℕ × List ℕ)
+envelope_of sender [] = None
+envelope_of sender (recipient ∷ more) = Some (sender, recipient)
+
+abbrev pub next_envelope : LoggedLetter → Option (List ℕ × List ℕ)
+next_envelope letter = envelope_of letter.sender letter.recipients
 
 -- the address of a command as it is spelled, without brackets and route
 abbrev pub address_of : Answer → Option (List ℕ)

@@ -1,5 +1,12 @@
-pub mod Kept
+pub mod Events
+pub mod History
 pub mod Letters
+pub mod Line
 pub mod Lines
 pub mod Logged
+pub mod Owed
+pub mod Rules
 pub mod Shown
+pub mod Sink
+pub mod Texts
+pub mod Verbs

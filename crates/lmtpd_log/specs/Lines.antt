@@ -1,12 +1,40 @@
 -- What contracts see of a lane's log in lines.
-use Rattle.std.specs.Prelude.{Bool, Option, option_map, is_some}
-use Rattle.lmtpd_log.specs.Kept.{logged_letter}
-use Rattle.lmtpd_log.specs.Letters.{LoggedLetter}
+use Rattle.std.specs.Prelude.{◌≡◌, Bool, List, ◌++◌, if◌then◌else◌, nat_lt, vec_len}
+use Rattle.lmtp_talk.specs.Entries.{Entry}
 use Rattle.lmtpd_log.specs.declared.line_log.LineLog.{LineLog}
+use Rattle.lmtpd_log.specs.declared.line_log.TheConstants.{WAITING_LIMIT}
+use Rattle.lmtpd_log.specs.Line.{Line}
+use Rattle.lmtpd_log.specs.Owed.{Heard, LineRules, entries_heard, lines_owed}
+use Rattle.lmtpd_log.specs.Rules.{lines_of, rules_of}
 
--- what it knows of the letter under way, where its lines show addresses
-abbrev pub letter_in : {G C : Type 0} → LineLog G C → Option LoggedLetter
-letter_in log = option_map logged_letter log.addresses
+abbrev pub rules_in : {E C : Type 0} {g : _} → LineLog E C g → LineRules
+rules_in log = rules_of log.setting
 
-abbrev pub shows_addresses : {G C : Type 0} → LineLog G C → Bool
-shows_addresses log = is_some log.addresses
+-- all that it was told
+abbrev pub heard_by : {E C : Type 0} {g : _} → LineLog E C g → List Heard
+heard_by log = log.history.list.heard
+
+abbrev pub told_to : {E C : Type 0} {g : _} → LineLog E C g → List Entry
+told_to log = entries_heard (heard_by log)
+
+-- the lines that it owes and has not shown
+abbrev pub waits : {E C : Type 0} {g : _} → LineLog E C g → List Line
+waits log = lines_of log.waiting.items
+
+-- the lines that are owed for all that it was told, and what shows them
+abbrev pub owed_by : {E C : Type 0} {g : _} → LineLog E C g → List Line
+owed_by log = lines_owed (rules_in log) (heard_by log)
+
+abbrev pub sink_in : {E C : Type 0} {g : _} → LineLog E C g → E
+sink_in log = log.sink
+
+abbrev pub shows_addresses : {E C : Type 0} {g : _} → LineLog E C g → Bool
+shows_addresses log = log.setting.addresses
+
+-- one more has room
+abbrev pub has_room : {E C : Type 0} {g : _} → LineLog E C g → Bool
+has_room log = nat_lt (vec_len log.waiting) WAITING_LIMIT
+
+-- nothing is shown, or, where one more has no room, what waits
+abbrev pub ShowsForRoom : Bool → List Line → List Line → List Line → Type 0
+ShowsForRoom room waiting old new = new ≡ (if room then old else old ++ waiting)

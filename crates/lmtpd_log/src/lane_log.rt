@@ -1,6 +1,6 @@
 //! What a lane's log is told, as a trait that a proof can speak of.
 
-ghost use Rattle.std.specs.Prelude.{◌≡◌, [], ◌∷◌, Bool, IfOk, List, Option, length};
+ghost use Rattle.std.specs.Prelude.{◌≡◌, [], ◌∷◌, Bool, IfOk, IfSome, List, Option, length};
 ghost use Rattle.std.specs.List.{AllByRecursion};
 ghost use Rattle.lmtp_talk.specs.Entries.{Entry, OfLine, OfCopy, OfEnd, with_entries};
 
@@ -50,7 +50,8 @@ pub trait LaneLogs {
 
     /// The log of that lane, counted from 0. It takes no memory after that.
     fn log(&self, alloc: Global, lane: u32) -> Result<Self::Log, AllocError>
-        ensures { IfOk result (λ log. Self.Log.addresses log ≡ addresses self.now) };
+        ensures addresses { IfOk result (λ log. Self.Log.addresses log ≡ addresses self.now) }
+        ensures untold { IfOk result (λ log. IfSome (Self.Log.told log) (λ entries. entries ≡ [])) };
 }
 
 /// The logs of the lanes from 0 on.
@@ -62,6 +63,8 @@ pub fn lane_logs<M: LaneLogs>(
     ensures count { IfOk result (λ made. length made.items ≡ lanes) }
     ensures addresses { IfOk result
         (λ made. AllByRecursion (λ log. M.Log.addresses log ≡ M.addresses logs.now) made.items) }
+    ensures untold { IfOk result
+        (λ made. AllByRecursion (λ log. IfSome (M.Log.told log) (λ entries. entries ≡ [])) made.items) }
 {
     let mut made = Vec::with_capacity(alloc, lanes as usize)?;
     for lane in 0..lanes {

@@ -5,27 +5,37 @@
 //! program's words.
 #![tactic(auto)]
 
-mod address;
 mod addresses;
 mod all_visits;
 mod file;
+mod history;
+mod keeping;
 mod lane_log;
+mod letter;
 mod line_log;
+mod line_setting;
+mod line_sink;
 mod listener;
 mod logged_peer;
 mod mailbox;
 mod naming;
 mod pairs;
+mod setting;
 mod stream;
+mod text;
 mod verb;
 mod visits;
+mod words;
 
 pub use all_visits::logged_visits;
 pub use file::LoggedFile;
 pub use lane_log::{LaneLog, LaneLogs, lane_logs};
-pub use line_log::{LineLog, LineSetting};
+pub use line_log::LineLog;
+pub use line_setting::LineSetting;
+pub use line_sink::{LineSink, LogSink};
 pub use listener::CountedListener;
 pub use logged_peer::LoggedPeer;
 pub use mailbox::LoggedMailbox;
+pub use pairs::Line;
 pub use stream::{CountedStream, Traffic};
 pub use visits::LoggedVisits;

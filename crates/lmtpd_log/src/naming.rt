@@ -4,10 +4,11 @@ ghost use Rattle.std.specs.Prelude.{◌≡◌, take, option_map};
 ghost use Rattle.mail_world.specs.Grammar.{local_text, mailbox_text};
 ghost use Rattle.mail_world.specs.declared.limits.TheConstants.{PATH_LIMIT};
 ghost use Rattle.lmtp_text.specs.Seen.{seen_target};
-ghost use Rattle.lmtpd_log.specs.Letters.{address_in, address_text, named_by};
+ghost use Rattle.lmtpd_log.specs.Letters.{address_in, named_by};
 ghost use Rattle.lmtpd_log.specs.Shown.{shown_address};
+ghost use Rattle.lmtpd_log.specs.Texts.{text_of};
 
-use crate::address::Address;
+use crate::text::{Address, Text};
 use lmtp_text::{Command, Extensions, Target, read_command_at};
 use percent_encoding::{AsciiSet, CONTROLS, ascii_set, percent_encode};
 use std::fmt;
@@ -19,7 +20,7 @@ pub const ESCAPED: AsciiSet = ascii_set!(CONTROLS.add(b' '));
 /// The address that a command line names, where it is one of MAIL or RCPT that can be read. A size that MAIL says is
 /// not looked at. `utf8`: the address may be in UTF-8.
 pub(crate) fn address_in(line: &[u8], utf8: bool) -> Option<Address>
-    ensures { option_map address_text result ≡ address_in utf8 line.now }
+    ensures { option_map text_of result ≡ address_in utf8 line.now }
 {
     let offered = Extensions {
         message_limit: u32::MAX,
@@ -34,22 +35,20 @@ pub(crate) fn address_in(line: &[u8], utf8: bool) -> Option<Address>
 
 /// The same of a line that was accepted, and the null reverse path where it names none.
 pub(crate) fn named_by(line: &[u8]) -> Address
-    ensures { address_text result ≡ named_by line.now }
+    ensures { text_of result ≡ named_by line.now }
 {
-    address_in(line, true).unwrap_or(Address::empty())
+    address_in(line, true).unwrap_or(Text::empty())
 }
 
 fn sender_address(sender: &[u8]) -> Address
-    ensures { address_text result ≡ take PATH_LIMIT sender.now }
+    ensures { text_of result ≡ take PATH_LIMIT sender.now }
 {
-    let mut address = Address::empty();
-    address.add(sender);
-    address
+    Text::of(sender)
 }
 
 // As the line spells it.
 fn recipient_address(target: Target<'_>) -> Address
-    ensures { address_text result ≡ take PATH_LIMIT (mailbox_text (seen_target target.entry)) }
+    ensures { text_of result ≡ take PATH_LIMIT (mailbox_text (seen_target target.entry)) }
 {
     let mut address = local_address(target.local, target.quoted);
     match target.domain {
@@ -64,17 +63,15 @@ fn recipient_address(target: Target<'_>) -> Address
 
 // The local part, in its quotes where it has them.
 fn local_address(local: &[u8], quoted: bool) -> Address
-    ensures { address_text result ≡ take PATH_LIMIT (local_text quoted local.now) }
+    ensures { text_of result ≡ take PATH_LIMIT (local_text quoted local.now) }
 {
-    let mut address = Address::empty();
     if quoted {
-        address.add(b"\"");
+        let mut address = Text::of(b"\"");
         address.add(local);
         address.add(b"\"");
         address
     } else {
-        address.add(local);
-        address
+        Text::of(local)
     }
 }
 

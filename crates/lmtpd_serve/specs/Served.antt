@@ -1,6 +1,6 @@
 -- What a server says on standard output and on standard error, and what its run comes to.
 use Rattle.std.specs.Prelude.{◌≡◌, ◌==◌, ◌||◌, ◌<◌, ◌^◌, ℕ, List, [], ◌∷◌, ◌++◌, length, codes, decimal, map}
-use Rattle.std.specs.Prelude.{if◌then◌else◌, Bool, true, false, Option, Some}
+use Rattle.std.specs.Prelude.{if◌then◌else◌, Bool, true, false, IfSome, Option, Some}
 use Rattle.std.specs.Io.KnownBytes.{Keeps}
 use Rattle.std.specs.Arc.{arc_value}
 use Rattle.std.specs.List.{AllByRecursion, list_any}
@@ -85,12 +85,14 @@ pub record Serving (L E : Type 0) : Type 0 where
   pub listener : L
   pub addresses : Bool
 
--- Each of these visits has a log, whose lines show addresses just where that is asked for.
-pub record HaveLogs {L G C E : Type 0} (shows : G → Bool) (addresses : Bool) (visits : List (LoggedVisits L G C E))
-    : Type 0 where
+-- Each of these visits has a log, which was told nothing yet, and whose lines show addresses just where that is asked
+-- for.
+pub record HaveLogs {L G C E : Type 0} (told : G → Option (List Entry)) (shows : G → Bool) (addresses : Bool)
+    (visits : List (LoggedVisits L G C E)) : Type 0 where
   pub logs : List G
   pub each : map log_in visits ≡ map (λ log. Some log) logs
   pub shown : AllByRecursion (λ log. shows log ≡ addresses) logs
+  pub untold : AllByRecursion (λ log. IfSome (told log) (λ entries. entries ≡ [])) logs
 
 -- The clients of the lanes are those of this listener, within the bounds and until the curfew of the conversations,
 -- whose count the lanes share; of none has anything failed or was stopped yet.
@@ -115,7 +117,7 @@ pub record IsServerRun (C : Type 0) {L E S G : Type 0} (site : Site) (view : Spo
   pub visits : List (LoggedVisits L G C E)
   pub back : HandedBack (LoggedVisits L G C E) S
   pub lanes : AreLanesFor serving.listener serving.conversations visits
-  pub logs : HaveLogs shows serving.addresses visits
+  pub logs : HaveLogs told shows serving.addresses visits
   pub none_ended : AllByRecursion (λ v. conversations_ended (visits_in v) ≡ 0) visits
   pub ran : HasRun site (λ moment. moment < 2 ^ 32)
       (record {

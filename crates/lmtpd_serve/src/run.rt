@@ -176,7 +176,7 @@ where
     ensures none_out { IfOk result
         (λ prepared. AllByRecursion (λ v. is_out (visits_in v) ≡ false) prepared.visits.items) }
     ensures logs { IfOk result
-        (λ prepared. HaveLogs G.Log.addresses (G.addresses logs.now) prepared.visits.items) }
+        (λ prepared. HaveLogs G.Log.told G.Log.addresses (G.addresses logs.now) prepared.visits.items) }
     ensures announced { IfOk result
         (λ prepared. IsAnnounced prepared.announced.is_unknown (W.contents writer.old) (W.contents writer.new)
         prepared.announced.is_cut) }
@@ -251,7 +251,7 @@ fn visits_of<L: Drop, E: Drop, G: LaneLogs, H: Copy + Drop>(
     ensures none_ended { IfOk result
         (λ visits. AllByRecursion (λ v. conversations_ended (visits_in v) ≡ 0) visits.items) }
     ensures none_out { IfOk result (λ visits. AllByRecursion (λ v. is_out (visits_in v) ≡ false) visits.items) }
-    ensures logs { IfOk result (λ visits. HaveLogs G.Log.addresses (G.addresses logs.now) visits.items) }
+    ensures logs { IfOk result (λ visits. HaveLogs G.Log.told G.Log.addresses (G.addresses logs.now) visits.items) }
 {
     let Conversations {
         lanes,

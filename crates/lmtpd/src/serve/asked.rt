@@ -13,7 +13,7 @@ ghost use Rattle.lmtpd.specs.Program.{IsListenedAt, IsNotServed, IsServedAsAsked
 use super::numbers::{bounds_asked, connections_asked, sizes_asked};
 use crate::lacking::house_fault;
 use lmtpd_listen::{Opened, listen_address_of};
-use lmtpd_log::{LaneLog, LineLog};
+use lmtpd_log::{LaneLog, LineLog, LogSink};
 use lmtpd_serve::{Conversations, Served, serve_run};
 use lmtpd_setup::{ServedMailbox, ServerLog, ServerSetup, Stop, open_address, set_up};
 use lmtpd_words::ServeWords;
@@ -43,8 +43,8 @@ where
     W: Write,
     requires { words.now.check_words ≡ false }
     ensures { MatchResult result
-        (IsServedAsAsked H (⟦<LineLog<ServerLog<H>, H> as LaneLog>⟧.told)
-        (⟦<LineLog<ServerLog<H>, H> as LaneLog>⟧.addresses)
+        (IsServedAsAsked H (⟦<LineLog<LogSink<ServerLog<H>>, H> as LaneLog>⟧.told)
+        (⟦<LineLog<LogSink<ServerLog<H>>, H> as LaneLog>⟧.addresses)
         (spools_view (⟦<ServedMailbox<H, ServerLog<H>> as Spool>⟧.state)
         (⟦<ServedMailbox<H, ServerLog<H>> as Spool>⟧.MayFind)
         (⟦<ServedMailbox<H, ServerLog<H>> as Spool>⟧.MayRefuse))
@@ -87,8 +87,8 @@ where
     requires ends { IsCurfewOf (ends_asked words.now) (arc_value setup.curfew) }
     requires addresses { setup.logs.addresses ≡ words.now.log_addresses }
     ensures { MatchResult result
-        (IsServedAsAsked H (⟦<LineLog<ServerLog<H>, H> as LaneLog>⟧.told)
-        (⟦<LineLog<ServerLog<H>, H> as LaneLog>⟧.addresses)
+        (IsServedAsAsked H (⟦<LineLog<LogSink<ServerLog<H>>, H> as LaneLog>⟧.told)
+        (⟦<LineLog<LogSink<ServerLog<H>>, H> as LaneLog>⟧.addresses)
         (spools_view (⟦<ServedMailbox<H, ServerLog<H>> as Spool>⟧.state)
         (⟦<ServedMailbox<H, ServerLog<H>> as Spool>⟧.MayFind)
         (⟦<ServedMailbox<H, ServerLog<H>> as Spool>⟧.MayRefuse))

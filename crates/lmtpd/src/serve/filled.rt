@@ -8,7 +8,7 @@ ghost use Rattle.lmtpd.specs.Program.{IsNotServedFilled, IsServeDone, IsServedAs
 
 use super::asked::serve_asked;
 use super::checked::check_words;
-use lmtpd_log::{LaneLog, LineLog};
+use lmtpd_log::{LaneLog, LineLog, LogSink};
 use lmtpd_serve::Served;
 use lmtpd_setup::{ServedMailbox, ServerLog, Stop, fill};
 use lmtpd_words::ServeWords;
@@ -47,8 +47,8 @@ where
     W: Write + Drop,
     ensures { MatchResult result
         (IsServeDone (IsFilled P.File.remaining)
-        (λ asked after. IsServedAsAsked H (⟦<LineLog<ServerLog<H>, H> as LaneLog>⟧.told)
-        (⟦<LineLog<ServerLog<H>, H> as LaneLog>⟧.addresses)
+        (λ asked after. IsServedAsAsked H (⟦<LineLog<LogSink<ServerLog<H>>, H> as LaneLog>⟧.told)
+        (⟦<LineLog<LogSink<ServerLog<H>>, H> as LaneLog>⟧.addresses)
         (spools_view (⟦<ServedMailbox<H, ServerLog<H>> as Spool>⟧.state)
         (⟦<ServedMailbox<H, ServerLog<H>> as Spool>⟧.MayFind)
         (⟦<ServedMailbox<H, ServerLog<H>> as Spool>⟧.MayRefuse))

@@ -35,4 +35,5 @@ returns-clause-logs g c = record {
   logs = c.in_ok-logs.logs.items;
   each = c.in_ok-logged.ensures.logs;
   shown = c.in_ok-logs.ensures.addresses;
+  untold = c.in_ok-logs.ensures.untold;
 }

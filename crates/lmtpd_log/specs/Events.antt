@@ -1,0 +1,17 @@
+-- What becomes of a log's history by one event more.
+use Rattle.std.specs.Prelude.{[], ◌∷◌, ◌++◌, Option, Some, None}
+use Rattle.lmtp_talk.specs.Entries.{Entry, OfLine, OfCopy, OfEnd}
+use Rattle.lmtpd_log.specs.declared.history.Event.{Event}
+use Rattle.lmtpd_log.specs.declared.history.Event.TheVariants as events
+use Rattle.lmtpd_log.specs.declared.stream.Traffic.{Traffic}
+use Rattle.lmtpd_log.specs.History.{LogHistory}
+use Rattle.lmtpd_log.specs.Line.{line_of}
+
+abbrev pub hears : LogHistory → Entry → Option Traffic → LogHistory
+hears h entry traffic = record h { heard = h.heard ++ record { entry = entry; traffic = traffic } ∷ [] }
+
+abbrev pub after : LogHistory → Event → LogHistory
+after h (events.Line line reply) = hears h (OfLine line.now reply) None
+after h (events.Copy number size client reply) = hears h (OfCopy number size client.now reply) None
+after h (events.End cause traffic) = hears h (OfEnd cause) (Some traffic)
+after h (events.Shown line) = record h { shown = h.shown ++ line_of line ∷ [] }

@@ -1,0 +1,7 @@
+-- What contracts see of where lines go.
+use Rattle.std.specs.Prelude.{List}
+use Rattle.lmtpd_log.specs.Line.{Line}
+use Rattle.lmtpd_log.specs.declared.line_sink.LogSink.{LogSink}
+
+abbrev pub shown_by : {G : Type 0} → LogSink G → List Line
+shown_by sink = sink.history.list.shown

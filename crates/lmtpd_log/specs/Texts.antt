@@ -1,0 +1,20 @@
+-- What texts, and what is made of them, say.
+use Rattle.std.specs.Prelude.{ℕ, List, take, map, Option, option_map}
+use Rattle.lmtpd_log.specs.declared.addresses.Addresses.{Addresses}
+use Rattle.lmtpd_log.specs.declared.letter.Letter.{Letter}
+use Rattle.lmtpd_log.specs.declared.pairs.Envelope.{Envelope}
+use Rattle.lmtpd_log.specs.declared.text.Text.{Text}
+use Rattle.lmtpd_log.specs.Letters.{LoggedLetter}
+
+abbrev pub text_of : {N : ℕ} → Text N → List ℕ
+text_of t = take t.size t.bytes
+
+abbrev pub envelope_texts : Envelope → List ℕ × List ℕ
+envelope_texts e = (text_of e.sender, text_of e.recipient)
+
+abbrev pub logged_letter : Addresses → LoggedLetter
+logged_letter a = record { sender = text_of a.sender; recipients = map (λ r. text_of r) a.recipients.items }
+
+-- what is known of the letter under way, where the lines show addresses
+abbrev pub letter_of : Letter → Option LoggedLetter
+letter_of letter = option_map logged_letter letter.addresses

@@ -1,0 +1,127 @@
+//! What all lines of a lane have in common, and the lines that are made with it.
+
+use crate::naming::address_in;
+use crate::pairs::{CopyLine, EndLine, Envelope, Id, Line, RefusedLine, Seconds};
+use crate::stream::Traffic;
+use crate::text::{Address, Text};
+use crate::verb::verb_of;
+use crate::words::is_refusal;
+use lmtp_talk::EndCause;
+use lmtp_text::{REPLY_LIMIT, Site, write_reply};
+use mail_world::Reply;
+use std::sync::Arc;
+
+/// What the lines of a lane's log depend on.
+#[derive(Drop)]
+pub(crate) struct LaneSetting {
+    /// The site whose mailboxes are named.
+    pub site: Arc<Site>,
+    /// When the server began, in microseconds since 1970.
+    pub start: u64,
+    /// The lane's number, from 0.
+    pub lane: u32,
+    /// The lines show the addresses of senders and recipients.
+    pub addresses: bool,
+    /// There are lines at all.
+    pub is_on: bool,
+}
+
+impl LaneSetting {
+    ghost use Rattle.std.specs.Prelude.{◌≡◌, [], if◌then◌else◌, None, option_map};
+    ghost use Rattle.lmtpd_log.specs.Letters.{address_in};
+    ghost use Rattle.lmtpd_log.specs.Owed.{code_of, copy_lines, end_lines, refused_lines};
+    ghost use Rattle.lmtpd_log.specs.Rules.{lines_in, rules_of};
+    ghost use Rattle.lmtpd_log.specs.Texts.{envelope_texts, text_of};
+
+    /// The line for a reply to a command line, where it refuses one.
+    pub(crate) fn refused(&self, line: &[u8], reply: Reply) -> Option<Line>
+        ensures { lines_in result ≡ (if self.now.is_on then refused_lines (rules_of self.now) line.now reply else []) }
+    {
+        if !self.is_on {
+            return None;
+        }
+        if !is_refusal(reply) {
+            return None;
+        }
+        let address = self.address(line);
+        Some(Line::Refused(RefusedLine {
+            lane: self.lane,
+            verb: Text::of(verb_of(line).as_bytes()),
+            code: self.code(reply),
+            address,
+        }))
+    }
+
+    /// The line for the reply for a copy.
+    pub(crate) fn answered(
+        &self,
+        number: u64,
+        size: u64,
+        client: &[u8],
+        reply: Reply,
+        seconds: Seconds,
+        envelope: Option<Envelope>,
+    ) -> Option<Line>
+        ensures { lines_in result ≡ (if self.now.is_on then copy_lines (rules_of self.now) number size client.now reply
+            (option_map envelope_texts envelope) else []) }
+    {
+        if !self.is_on {
+            return None;
+        }
+        match reply {
+            Reply::Result(outcome, mailbox) => Some(Line::Answered(CopyLine {
+                id: Id {
+                    start: self.start,
+                    lane: self.lane,
+                    number,
+                },
+                mailbox: Text::of(self.site.box_name(mailbox)),
+                outcome,
+                code: self.code(reply),
+                bytes: size,
+                seconds,
+                client: Text::of(client),
+                envelope,
+            })),
+            _ => None,
+        }
+    }
+
+    /// The line of a conversation that ended.
+    pub(crate) fn ended(&self, cause: EndCause, traffic: Traffic, seconds: Seconds) -> Option<Line>
+        ensures { lines_in result ≡ (if self.now.is_on then end_lines (rules_of self.now) cause traffic else []) }
+    {
+        if !self.is_on {
+            return None;
+        }
+        Some(Line::Ended(EndLine {
+            lane: self.lane,
+            client: traffic.client,
+            cause,
+            read: traffic.read,
+            written: traffic.written,
+            seconds,
+        }))
+    }
+
+    // The address that a command line names, where lines show it.
+    fn address(&self, line: &[u8]) -> Option<Address>
+        ensures { let rules = rules_of self.now in
+            option_map (λ a. text_of a) result
+            ≡ (if rules.addresses then address_in rules.site.utf8 line.now else None) }
+    {
+        if !self.addresses {
+            return None;
+        }
+        address_in(line, self.site.utf8())
+    }
+
+    // The code of a reply.
+    fn code(&self, reply: Reply) -> Text<3>
+        ensures { text_of result ≡ code_of (rules_of self.now).site reply }
+    {
+        let mut text = [0; REPLY_LIMIT];
+        let size = write_reply(reply, &self.site, &mut text);
+        Text::of(&text[..size])
+    }
+}

@@ -1,0 +1,59 @@
+//! A short text in a value that takes no memory.
+
+ghost use Rattle.std.specs.Prelude.{◌≤◌};
+
+use mail_world::limits::PATH_LIMIT;
+
+/// The address of a sender or a recipient.
+pub(crate) type Address = Text<PATH_LIMIT>;
+
+/// A text of N bytes at most.
+#[derive(Clone, Copy, Drop)]
+pub struct Text<const N: usize> {
+    bytes: [u8; N],
+    size: usize,
+    ghost fits: { size ≤ N },
+}
+
+impl<const N: usize> Text<N> {
+    ghost use Rattle.std.specs.Prelude.{◌≡◌, ◌++◌, [], take};
+    ghost use Rattle.lmtpd_log.specs.Texts.{text_of};
+
+    /// None.
+    pub(crate) fn empty() -> Text<N>
+        ensures { text_of result ≡ [] }
+    {
+        Text {
+            bytes: [0; N],
+            size: 0,
+        }
+    }
+
+    /// That text, as far as there is room.
+    pub(crate) fn of(text: &[u8]) -> Text<N>
+        ensures { text_of result ≡ take N text.now }
+    {
+        let mut made = Text::empty();
+        made.add(text);
+        made
+    }
+
+    /// The text after it, as far as there is room.
+    pub(crate) fn add(&mut self, text: &[u8])
+        ensures { text_of self.new ≡ take N (text_of self.old ++ text.now) }
+    {
+        let count = text.len().min(N - self.size);
+        let end = self.size + count;
+        let bytes = &mut self.bytes[..];
+        bytes[self.size..end].copy_from_slice(&text[..count]);
+        self.size = end;
+    }
+
+    /// Its bytes.
+    pub(crate) fn text(&self) -> &[u8]
+        ensures { result.now ≡ text_of self.now }
+    {
+        let bytes = &self.bytes[..];
+        &bytes[..self.size]
+    }
+}
