@@ -1,2 +1,3 @@
 mod Filled
+mod LineRows
 mod Owing
