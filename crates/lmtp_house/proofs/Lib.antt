@@ -1,4 +1,5 @@
 pub mod AnsweredAll
+pub mod Answers
 pub mod HousePlan
 pub mod NamedOnce
 pub mod HeardAll
