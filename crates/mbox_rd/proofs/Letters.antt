@@ -5,7 +5,7 @@ use Rattle.std.proofs.lemmas.List.{take_all, append_cancel_left}
 use Rattle.mail_world.specs.declared.Note.{Note}
 use Rattle.mail_world.specs.Prefixes.{IsPrefix}
 use Rattle.mail_world.specs.Reading.{Letter, letter_of}
-use Rattle.mail_world.specs.Records.{Calendar}
+use Rattle.mail_world.specs.Records.{Calendar, record_of}
 use Rattle.mail_world.specs.Site.{Site}
 use Rattle.mail_world.specs.Turns.{Standing, addition}
 use Rattle.mail_lives.specs.ReadAs.{IsReadAs}
@@ -20,37 +20,35 @@ use Rattle.mbox_rd.proofs.Leaving.{at_rest, leaves_as, is_left, prefix_of, prefi
 
 module _ (calendar : Calendar) (site : Site) (note : Note) (letters : List Letter) (lock : Standing)
     (turn : IsTurnOf calendar site note letters lock) where
-  read_torn : (left : List ℕ) → IsPrefix left (whole_of calendar site note lock) → IsPrefix lock.bytes left
-      → IsReadTorn calendar site note letters left
-  read_torn left part above =
-      let all : lock.bytes ++ addition calendar site note lock.bytes ≡ lock.bytes ++ (above.rest ++ part.rest) =
-      part.whole ∙ ap (λ (l : List ℕ). l ++ part.rest) above.whole ∙ append_assoc lock.bytes above.rest part.rest in
-      let read = steps_read calendar site turn.host (Tears note ∷ []) lock.bytes left letters (turn.mailed, tt) turn.read (
-        left,
-        record {
-          prefix = above.rest;
-          part = record { rest = part.rest; whole = append_cancel_left lock.bytes _ _ all };
-          left = above.whole;
-        },
+  read_torn : (rest : List ℕ) → IsPrefix (lock.bytes ++ rest) (whole_of calendar site note lock.bytes)
+      → IsReadTorn calendar site note letters (turn.found ++ rest)
+  read_torn rest part =
+      let all : lock.bytes ++ addition calendar site note lock.bytes ≡ lock.bytes ++ (rest ++ part.rest) =
+      part.whole ∙ append_assoc lock.bytes rest part.rest in
+      let added = ap (λ (l : List ℕ). l ++ record_of calendar site note) turn.alike ∙ append_cancel_left lock.bytes _ _ all in
+      let read = steps_read calendar site turn.host (Tears note ∷ []) turn.found (turn.found ++ rest) letters
+      (turn.mailed, tt) turn.read (
+        turn.found ++ rest,
+        record { prefix = rest; part = record { rest = part.rest; whole = added }; left = refl },
         refl,
       ) in
       let came = read.2.1 in
-      (came.0, came.1, subst (λ (l : List Letter). IsReadAs left l) (read.2.2 ∙ came.2) read.1)
+      (came.0, came.1, subst (λ (l : List Letter). IsReadAs (turn.found ++ rest) l) (read.2.2 ∙ came.2) read.1)
 
-  left_read : (bytes left : List ℕ) (cut_off : List (List ℕ)) → IsPrefix bytes (whole_of calendar site note lock)
-      → LeavesOne lock.synced (bytes ∷ cut_off) left → IsPrefix lock.bytes left
-      → IsReadTorn calendar site note letters left ⊎ LeavesOne lock.synced cut_off left
-  left_read bytes left cut_off part (inl first) above =
-      let begins = subst (λ (l : List ℕ). IsPrefix l bytes) (sym first.is) (part_of first.n bytes) in
-      inl (read_torn left (prefix_of left bytes (whole_of calendar site note lock) begins part) above)
-  left_read bytes left cut_off part (inr one) above = inr one
+  left_read : (bytes left : List ℕ) (cut_off : List (List ℕ)) → IsPrefix bytes (whole_of calendar site note lock.bytes)
+      → LeavesOne lock.synced (bytes ∷ cut_off) left → (rest : List ℕ) → left ≡ lock.bytes ++ rest
+      → IsReadTorn calendar site note letters (turn.found ++ rest) ⊎ LeavesOne lock.synced cut_off left
+  left_read bytes left cut_off part (inl first) rest is =
+      let begins = subst (λ (l : List ℕ). IsPrefix l bytes) (sym first.is ∙ is) (part_of first.n bytes) in
+      inl (read_torn rest (prefix_of _ bytes (whole_of calendar site note lock.bytes) begins part))
+  left_read bytes left cut_off part (inr one) rest is = inr one
 
-  read_stored : (left : List ℕ) → left ≡ whole_of calendar site note lock
-      → IsReadAs left (letters ++ letter_of calendar site note ∷ [])
-  read_stored left is =
-      let read = steps_read calendar site turn.host (StoresNote note ∷ []) lock.bytes left letters (turn.mailed, tt)
-      turn.read (left, is, refl) in
-      subst (λ (l : List Letter). IsReadAs left l) (read.2.2 ∙ read.2.1) read.1
+  read_stored : IsReadAs (whole_of calendar site note turn.found) (letters ++ letter_of calendar site note ∷ [])
+  read_stored =
+      let whole = whole_of calendar site note turn.found in
+      let read = steps_read calendar site turn.host (StoresNote note ∷ []) turn.found whole letters (turn.mailed, tt)
+      turn.read (whole, refl, refl) in
+      subst (λ (l : List Letter). IsReadAs whole l) (read.2.2 ∙ read.2.1) read.1
 
 -- in a turn the file begins with what stood at its lock
 stands_on : (in_turn : Bool) (began : Option Standing) (n : ℕ) (file : FileState) (waiting : List ℕ) (lock : Standing)
@@ -87,8 +85,8 @@ module _ {F : Type 0} (state : F → FileState) where
       (subst (λ f. LeavesOfTurn lock bytes (state old.file) (state f)) (sym same) (leaves lock at)) in record {
         in_bytes = in_bytes;
         in_letters = λ lock is calendar site note letters turn within.
-            leaves_as (LeavesOne lock.synced (more ∷ cut_off)) (λ left. IsPrefix lock.bytes left
-            → IsReadTorn calendar site note letters left ⊎ LeavesOne lock.synced cut_off left)
+            leaves_as (LeavesOne lock.synced (more ∷ cut_off)) (λ left. (rest : List ℕ) → left ≡ lock.bytes ++ rest
+            → IsReadTorn calendar site note letters (turn.found ++ rest) ⊎ LeavesOne lock.synced cut_off left)
             _ _ (λ left. left_read calendar site note letters lock turn more left cut_off within) (in_bytes lock is);
       }
 
@@ -98,4 +96,4 @@ module _ {F : Type 0} (state : F → FileState) where
       let P : List (List ℕ) → Type 0 = λ l. LeavesOne new.kept (new.bytes ∷ l) left in
       let kept = subst P (ap (λ (s : FileState). s.cut_off) x.same) at in
       let all = all_left new.kept new.bytes left x.kept kept ∙ x.contents ∙ whole in
-      (all, read_stored calendar site note letters lock turn left all)
+      (all, read_stored calendar site note letters lock turn)

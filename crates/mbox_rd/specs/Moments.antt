@@ -2,6 +2,7 @@
 use Rattle.std.specs.Prelude.{◌≡◌, ◌⊎◌, ℕ, ◌≤◌, List, [], ◌∷◌, ◌++◌, length, Some}
 use Rattle.std.specs.List.{AllByRecursion}
 use Rattle.mail_world.specs.declared.Note.{Note}
+use Rattle.mail_world.specs.Endings.{mended}
 use Rattle.mail_world.specs.Prefixes.{IsPrefix}
 use Rattle.mail_world.specs.Reading.{Letter, IsMailed, letter_of}
 use Rattle.mail_world.specs.Records.{Calendar}
@@ -34,16 +35,19 @@ LeavesInTurn began bytes old new = (lock : Standing) → BeginsWith lock began o
 
 -- ---- in letters
 
--- a copy's turn at a mailbox that is read as these letters
+-- A copy's turn at a mailbox that is read as these letters. Of what others left there a file of the system's tells at
+-- the lock only its length and its end; so what was found there is any bytes that are mended as those that it tells.
 pub record IsTurnOf (calendar : Calendar) (site : Site) (note : Note) (letters : List Letter)
     (lock : Standing) : Type 0 where
   pub host : IsOneLine site.host
   pub mailed : IsMailed note
-  pub read : IsReadAs lock.bytes letters
+  pub found : List ℕ
+  pub read : IsReadAs found letters
+  pub alike : mended found ≡ mended lock.bytes
 
--- what a turn that stores leaves
-abbrev pub whole_of : Calendar → Site → Note → Standing → List ℕ
-whole_of calendar site note lock = lock.bytes ++ addition calendar site note lock.bytes
+-- what a turn that stores leaves where these bytes stood
+abbrev pub whole_of : Calendar → Site → Note → List ℕ → List ℕ
+whole_of calendar site note bytes = bytes ++ addition calendar site note bytes
 
 -- the letters are there, and two others at most, which come of the copy's torn record
 abbrev pub IsReadTorn : Calendar → Site → Note → List Letter → List ℕ → Type 0
@@ -52,20 +56,21 @@ IsReadTorn calendar site note letters left =
 
 -- Of a turn in which these bytes are what stood at its lock and what was appended since: at each moment of a call a
 -- crash leaves a beginning of them; and where a copy is appended, one that leaves what stood at the lock leaves the
--- letters, and of the copy a torn one at most.
+-- letters, and of the copy a torn one at most: what is left of the copy stands after what was found.
 pub record AnyMoment {F : Type 0} (state : F → FileState) (old new : FileSpool F) (bytes : List ℕ) : Type 0 where
   pub in_bytes : (lock : Standing) → old.log.began ≡ Some lock
       → LeavesOfTurn lock bytes (state old.file) (state new.file)
   pub in_letters : (lock : Standing) → old.log.began ≡ Some lock
       → (calendar : Calendar) (site : Site) (note : Note) (letters : List Letter)
-      → IsTurnOf calendar site note letters lock → IsPrefix bytes (whole_of calendar site note lock)
-      → LeavesOnly (λ left. IsPrefix lock.bytes left
-      → IsReadTorn calendar site note letters left ⊎ LeavesOne lock.synced (state old.file).cut_off left)
+      → (turn : IsTurnOf calendar site note letters lock) → IsPrefix bytes (whole_of calendar site note lock.bytes)
+      → LeavesOnly (λ left. (rest : List ℕ) → left ≡ lock.bytes ++ rest
+      → IsReadTorn calendar site note letters (turn.found ++ rest) ⊎ LeavesOne lock.synced (state old.file).cut_off left)
       (state old.file) (state new.file)
 
--- Where all of the record was appended a crash leaves all, and with the letters the copy's own.
+-- Where all of the record was appended a crash leaves all, and after what was found that is the copy's own letter.
 abbrev pub Stores : {F : Type 0} → (F → FileState) → FileSpool F → FileState → Type 0
 Stores state old new = (lock : Standing) → old.log.began ≡ Some lock
-    → (calendar : Calendar) (site : Site) (note : Note) (letters : List Letter) → IsTurnOf calendar site note letters lock
-    → contents_of state old ≡ whole_of calendar site note lock → (left : List ℕ) → LeavesAt (at_now new) left
-    → (left ≡ whole_of calendar site note lock) × IsReadAs left (letters ++ letter_of calendar site note ∷ [])
+    → (calendar : Calendar) (site : Site) (note : Note) (letters : List Letter)
+    → (turn : IsTurnOf calendar site note letters lock) → contents_of state old ≡ whole_of calendar site note lock.bytes
+    → (left : List ℕ) → LeavesAt (at_now new) left → (left ≡ whole_of calendar site note lock.bytes)
+    × IsReadAs (whole_of calendar site note turn.found) (letters ++ letter_of calendar site note ∷ [])
