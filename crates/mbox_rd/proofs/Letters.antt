@@ -25,7 +25,8 @@ module _ (calendar : Calendar) (site : Site) (note : Note) (letters : List Lette
   read_torn rest part =
       let all : lock.bytes ++ addition calendar site note lock.bytes ≡ lock.bytes ++ (rest ++ part.rest) =
       part.whole ∙ append_assoc lock.bytes rest part.rest in
-      let added = ap (λ (l : List ℕ). l ++ record_of calendar site note) turn.alike ∙ append_cancel_left lock.bytes _ _ all in
+      let added =
+      ap (λ (l : List ℕ). l ++ record_of calendar site note) turn.alike ∙ append_cancel_left lock.bytes _ _ all in
       let read = steps_read calendar site turn.host (Tears note ∷ []) turn.found (turn.found ++ rest) letters
       (turn.mailed, tt) turn.read (
         turn.found ++ rest,
@@ -66,7 +67,8 @@ all_left kept bytes left all (inr none) = absurd none
 
 -- no call
 pub in_turn_at_rest : (began : ℕ) (file : FileState) (text : List ℕ) → LeavesInTurn began (file.bytes ++ text) file file
-in_turn_at_rest began file text = λ lock at. at_rest lock began file at (file.bytes ++ text) (prefix_appended file.bytes text)
+in_turn_at_rest began file text =
+    λ lock at. at_rest lock began file at (file.bytes ++ text) (prefix_appended file.bytes text)
 
 module _ {F : Type 0} (state : F → FileState) where
   -- a call that left this file
@@ -78,7 +80,8 @@ module _ {F : Type 0} (state : F → FileState) where
       let size = ap length above.whole ∙ length-append (state old.file).bytes above.rest in
       let in_bytes : (lock : Standing) → old.log.began ≡ Some lock
       → LeavesOfTurn lock more (state old.file) (state new.file) = λ lock is.
-      let at = stands_on old.in_turn old.log.began old.began (state old.file) old.waiting lock order.free order.stands is in
+      let at =
+      stands_on old.in_turn old.log.began old.began (state old.file) old.waiting lock order.free order.stands is in
       leaves_as (LeavesOne lock.synced (bytes ∷ cut_off)) (LeavesOne lock.synced (more ∷ cut_off)) _ _
       (λ left. is_left lock.synced lock.synced bytes more cut_off left (omega arith)
       (omega (arith, at.least, at.most, size)) below)
@@ -91,7 +94,8 @@ module _ {F : Type 0} (state : F → FileState) where
       }
 
   -- a sync that answered Ok
-  pub stores : (old : FileSpool F) (new : FileState) → KeepsWritten (state old.file) new old.waiting → Stores state old new
+  pub stores : (old : FileSpool F) (new : FileState) → KeepsWritten (state old.file) new old.waiting
+      → Stores state old new
   stores old new x = λ lock is calendar site note letters turn whole left at.
       let P : List (List ℕ) → Type 0 = λ l. LeavesOne new.kept (new.bytes ∷ l) left in
       let kept = subst P (ap (λ (s : FileState). s.cut_off) x.same) at in

@@ -64,10 +64,10 @@ pub record AnyMoment {F : Type 0} (state : F → FileState) (old new : FileSpool
       → (calendar : Calendar) (site : Site) (note : Note) (letters : List Letter)
       → (turn : IsTurnOf calendar site note letters lock) → IsPrefix bytes (whole_of calendar site note lock.bytes)
       → LeavesOnly (λ left. (rest : List ℕ) → left ≡ lock.bytes ++ rest
-      → IsReadTorn calendar site note letters (turn.found ++ rest) ⊎ LeavesOne lock.synced (state old.file).cut_off left)
-      (state old.file) (state new.file)
+      → IsReadTorn calendar site note letters (turn.found ++ rest)
+      ⊎ LeavesOne lock.synced (state old.file).cut_off left) (state old.file) (state new.file)
 
--- Where all of the record was appended a crash leaves all, and after what was found that is the copy's own letter.
+-- Where all of the record was appended a crash leaves all of it: with what was found, the letters and the copy's own.
 abbrev pub Stores : {F : Type 0} → (F → FileState) → FileSpool F → FileState → Type 0
 Stores state old new = (lock : Standing) → old.log.began ≡ Some lock
     → (calendar : Calendar) (site : Site) (note : Note) (letters : List Letter)
