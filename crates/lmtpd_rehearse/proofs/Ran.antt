@@ -10,8 +10,7 @@ use Rattle.mail_world.specs.declared.Note.{Note}
 use Rattle.mail_world.specs.declared.Outcome.{Outcome}
 use Rattle.mail_world.specs.declared.Slip.{Slip}
 use Rattle.mail_world.specs.Prefixes.{IsPrefix}
-use Rattle.mail_world.specs.declared.Txn.{Txn}
-use Rattle.mail_world.specs.Slips.{of_worker, slip_of, slips_from, times_named}
+use Rattle.mail_world.specs.Slips.{of_worker}
 use Rattle.mail_world.specs.Failures.{Rises}
 use Rattle.mail_world.specs.Site.{Site}
 use Rattle.mail_world.specs.Session.{fresh}
@@ -51,11 +50,11 @@ use Rattle.lmtpd_rehearse.proofs.Boxes.{get_same, kept_is, length-kept, bytes_ar
 use Rattle.mail_world.specs.Runs.{events_of, offers_by}
 use Rattle.mail_runs.specs.Histories.{Threads}
 use Rattle.mail_runs.specs.Ordered.{IsOrderlyRunOf}
+use Rattle.mail_runs.proofs.Rising.{NumbersRise, numbers_rise}
 use Rattle.std.proofs.KnownBytes.{Appends-trans}
 use Rattle.lmtpd_rehearse.proofs.InMemory.{RefusesAfterFault, in_memory}
 use Rattle.lmtpd_rehearse.proofs.Keeping.{HoldsAll, all_settled, holds_all}
-use Rattle.lmtp_house.proofs.NamedOnce.{named_once}
-use Rattle.lmtpd_rehearse.proofs.Telling.{told_as_said, all_told_settled}
+use Rattle.lmtpd_rehearse.proofs.Telling.{IsPrefixOfOwed, AreSized, told_as_said, all_told_settled}
 
 -- all that is of lanes below 1 is of lane 0
 lane_zero : (n : ℕ) → n < 1 → (n == 0) ≡ true
@@ -88,13 +87,9 @@ told_is : (site : Site) (box : ℕ) (c : Conversation) → outcomes_told site bo
 unfolding outcomes_told
 told_is site box c = ap (λ ts. told_all box ts) (only_one site c)
 
-all_owed : (b : ℕ) (outcomes : List Outcome) (notes : List Note) → AllByRecursion (λ note. note.txn.lane < 1) notes
-    → owed_to b outcomes 0 notes ≡ slips_from b outcomes notes
-all_owed b [] notes h = refl
-all_owed b (o ∷ outcomes) [] h = refl
-all_owed b (o ∷ outcomes) (x ∷ notes) h =
-    ap (λ t. cond t (slip_of b x o ∷ owed_to b outcomes 0 notes) (owed_to b outcomes 0 notes)) (lane_zero x.txn.lane h.0)
-    ∙ ap (λ l. slip_of b x o ∷ l) (all_owed b outcomes notes h.1)
+rising : (site : Site) (c : Conversation) → NumbersRise 1 (transactions_in site 0 c)
+unfolding parts
+rising site c = numbers_rise (length c.bytes) site 0 fresh c.bytes c.dispositions
 
 -- lists
 one_alone : {A : Type 0} (xs : List A) → length xs ≡ 1 → (x : A) × (xs ≡ x ∷ [])
@@ -190,8 +185,7 @@ all_work heard boxes count = record { heard = heard; boxes = boxes; count = coun
 record HaveWorked (site : Site) (quota : Option ℕ) (ts : List Transaction) (work : AllWork) (spools : List MemorySpool) (tallies : List Tally) : Type 0 where
   answered : AllByRecursion (λ t. OutcomesIn 0 work.heard t t.disposition.verdict) ts
   known : AllByRecursion (λ slip. slip.worker < work.count) work.heard
-  once : (txn : Txn) (place : ℕ) → times_named txn place work.heard ≤ 1
-  said : (b : ℕ) → b < work.count → of_worker b work.heard ≡ slips_from b (outcomes_in (work.boxes b).turns) (copies_owed 0 b ts)
+  begun : (b : ℕ) → b < work.count → IsPrefixOfOwed (λ k. outcomes_in (work.boxes k).turns) work.heard ts b
   taken : (b : ℕ) → b < work.count → (work.boxes b).taken ≡ copies_owed 0 b ts
   each : (b : ℕ) → b < work.count → BoxAt site quota (work.boxes b) spools tallies b
   as_many : (length spools ≡ work.count) × (length tallies ≡ work.count)
@@ -225,9 +219,12 @@ said_of_box : (site : Site) (quota : Option ℕ) (c : Conversation) (work : AllW
     → HaveWorked site quota (transactions_in site 0 c) work spools tallies
     → (b : ℕ) → b < work.count → told_all b (transactions_in site 0 c) ≡ outcomes_in (work.boxes b).turns
 said_of_box site quota c work spools tallies h b low =
-    let at = h.each b low in
-    told_as_said work.heard b (outcomes_in (work.boxes b).turns) (transactions_in site 0 c) h.once h.answered (h.said b low)
-    (as_many site quota b (work.boxes b) at.spool at.tally at.did at.alone ∙ ap length (h.taken b low))
+    let ts : List Transaction = transactions_in site 0 c in
+    let told : ℕ → List Outcome = λ k. outcomes_in (work.boxes k).turns in
+    let some : 0 < 1 = omega arith in
+    let sized : AreSized told ts work.count = λ k below.
+    let at = h.each k below in as_many site quota k (work.boxes k) at.spool at.tally at.did at.alone ∙ ap length (h.taken k below) in
+    told_as_said work.heard told work.count 1 ts some (rising site c) h.answered h.known h.begun sized b low
 
 delivered : (site : Site) (quota : Option ℕ) (c : Conversation) (work : AllWork) (spools : List MemorySpool) (tallies : List Tally) (faulty : Bool)
     → c ≡ conversation c.bytes c.dispositions → IsAccount site c → HaveWorked site quota (transactions_in site 0 c) work spools tallies
@@ -274,7 +271,7 @@ delivered site quota c work spools tallies faulty is accounted h size faulty_is 
       sound = (calm, λ quiet. faulty_is ∙ all_calm spools tallies as_many quiet);
       settled = λ f.
           let S : List Disposition → Type 0 = λ ds. AllByRecursion (IsAllSettled quota) ds in
-          subst S told_it (all_told_settled work.heard quota told (λ b. copies_owed 0 b ts) work.count ts h.answered h.known h.said (λ b low.
+          subst S told_it (all_told_settled work.heard quota told work.count ts h.answered h.known h.begun (λ b low.
           let at = h.each b low in
           tells_settled site quota b (work.boxes b) at.spool at.tally at.did at.alone
           (sym (ap (λ (k : MailboxContent). k.failed) at.is) ∙ calm f b (omega (arith, many, low)))));
@@ -323,13 +320,9 @@ module _ (site : Site) (quota : Option ℕ) (moment : ℕ) {P : Type 0} (state :
       record {
         answered = answered;
         known = subst K many (h.told_only 0 one);
-        once = named_once site 0 (length (replicate count (empty_spool site))) (conversations_of (h.lanes 0).visits) heard h.boxes
-            (h.told_only 0 one)
-            (λ b low. record { rest = []; whole = sym (h.told 0 b one low) ∙ sym (append-nil (of_worker b heard)) })
-            (λ b low. h.owed 0 b one low);
-        said = λ b low. h.told 0 b one (low_in b low)
-            ∙ all_owed b (outcomes_in (h.boxes b).turns) (h.boxes b).taken (h.owed_only b (low_in b low))
-            ∙ ap (slips_from b (outcomes_in (h.boxes b).turns)) (taken b low);
+        begun = λ b low.
+            let B : List Note → Type 0 = λ notes. IsPrefix (of_worker b heard) (owed_to b (outcomes_in (h.boxes b).turns) 0 notes) in
+            subst B (taken b low) (record { rest = []; whole = sym (h.told 0 b one (low_in b low)) ∙ sym (append-nil (of_worker b heard)) });
         taken = taken;
         each = λ b low.
             let spool = element back.spools b (omega (arith, many, low, h.as_many_boxes.0)) in
