@@ -1,6 +1,6 @@
 #!/usr/bin/env bash
-# The tests that stand beside their modules in files `tests.rt.in`, by crate and side by side: compiled with checks and
-# run, unproved. In a copy of the crates each file gets its name, and its module the line that names it. Each test of
+# The tests that stand beside their modules in files `tests.rt.in`, by crate, as many side by side as there are cores
+# (each takes a GiB): compiled with checks and run, unproved. In a copy of the crates each file gets its name, and its module the line that names it. Each test of
 # the sources must have run and passed.
 # usage: tests/units.sh [CRATE..]
 set -euo pipefail
@@ -15,15 +15,21 @@ sed -i 's/^mbox_rd:/& lmtp_text/' "$folder/crates.txt"
 add_tests
 cd "$folder"
 
-declare -A running
+# try_tests CRATE: runs its tests, and keeps what they said and how they ended.
+try_tests() {
+    local status=0
+    (cd "crates/$1" && rt try --test --seconds 2000) > "$1.said" 2>&1 || status=$?
+    echo "$status" > "$1.status"
+}
+
 for crate in "${needed[@]}"; do
-    (cd "crates/$crate" && rt try --test --seconds 2000) > "$crate.said" 2>&1 &
-    running[$crate]=$!
+    while [ "$(jobs -rp | wc -l)" -ge "$(nproc)" ]; do wait -n; done
+    try_tests "$crate" &
 done
+wait
 failed=0
 for crate in "${needed[@]}"; do
-    status=0
-    wait "${running[$crate]}" || status=$?
+    status=$(cat "$crate.status")
     tests=$(tests_in "crates/$crate/src")
     passed=$(passed_in "$crate.said")
     if [ "$status" = 0 ] && [ "${passed:-0}" = "$tests" ]; then
