@@ -1,7 +1,7 @@
 #!/usr/bin/env bash
 # The tests that stand beside their modules in files `tests.rt.in`, by crate, as many side by side as there are cores
-# (each takes a GiB): compiled with checks and run, unproved. In a copy of the crates each file gets its name, and its module the line that names it. Each test of
-# the sources must have run and passed.
+# (each takes a GiB): compiled with checks and run, unproved. In a copy of the crates each file gets its name, and its
+# module the line that names it. Each test of the sources must have run and passed.
 # usage: tests/units.sh [CRATE..]
 set -euo pipefail
 cd "$(dirname "$0")/.."
