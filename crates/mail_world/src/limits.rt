@@ -49,10 +49,10 @@ pub const BLOCK_LIMIT: u32 = 65_536;
 pub const LAST_GENERATION: u64 = 281_474_976_710_655;
 
 /// The bytes of a message that a worker reads at once.
-pub const WORKER_BUFFER_SIZE: usize = 512;
+pub const WORKER_BUFFER_SIZE: usize = BLOCK_SIZE;
 
 /// The bytes of a message that a lane takes from its data at once.
-pub const DATA_BUFFER_SIZE: usize = 512;
+pub const DATA_BUFFER_SIZE: usize = BLOCK_SIZE;
 
 /// The bytes at a mailbox's end that tell what mends it.
 pub const TAIL_SIZE: usize = 4096;
