@@ -109,9 +109,11 @@ def states_of(disk, calls, told, kept):
     """Each state after each call, with what was told 250 by then: `told`, and once all is synced what the disk holds,
     where the turn is one that keeps."""
     found = {(state, told) for state in disk.states()}
+    has_written = False  # a mailbox's first turn has the file synced before it writes
     for call in calls:
         disk.takes(call)
-        if kept and call.name == "fdatasync" and call.is_at(disk.path) and call.answer == 0:
+        has_written |= call.name == "write" and call.is_at(disk.path)
+        if kept and has_written and call.name == "fdatasync" and call.is_at(disk.path) and call.answer == 0:
             told = disk.held
         found |= {(state, told) for state in disk.states()}
     return sorted(found, key=lambda it: (it[1], it[0] is not None, it[0] or b""))
@@ -185,7 +187,7 @@ def after_a_torn_tail(folder, readers):
 
 
 def in_a_turn_that_breaks(folder, readers):
-    old, fault = record(folder, TOLD), ["-e", "inject=fdatasync:error=EIO:when=1"]
+    old, fault = record(folder, TOLD), ["-e", "inject=fdatasync:error=EIO:when=2"]
     crashed_everywhere(folder, readers, old, *fault, answer=not_stored, told=old, kept=False)
 
 

@@ -21,6 +21,7 @@ CALLS = "write,writev,pwrite64,pwritev,pwritev2,sendfile,splice,copy_file_range,
 LINE = re.compile(r"(\w+)\((.*)\)\s+= (-?\d+)(?: E.*)?")
 WRITE = re.compile(r'\d+, "((?:\\x[0-9a-f]{2})*)", (\d+)')
 OLD = b"From old@a.example Thu Jan  1 00:00:00 1970\n\nold\n"
+FIRST = ["fdatasync"]  # a mailbox's first turn has the file kept before it writes
 SIZES = [1, 100, 5_000, 200_000]  # of the letters, in bytes or more
 
 
@@ -115,7 +116,7 @@ def what_is_asked_is_what_stands_there(folder):
                 client.quit()
             equal(server.end().status, 0)
     equal(path.read_bytes() == replayed(calls, b""), True)
-    equal(names(calls), ["write", "fdatasync"] * len(SIZES))
+    equal(names(calls), FIRST + ["write", "fdatasync"] * len(SIZES))
     sent = ["".join(f"{line}\n" for line in body_of(size)).encode() for size in SIZES]
     equal(letters.messages(path) == sent, True)
 
@@ -136,7 +137,8 @@ def what_is_asked_after_a_short_write(folder):
     writes = [it for it in calls if it.name == "write"]
     equal(any(0 < it.answer < len(it.asked) for it in writes), True)
     equal(any(it.answer < 0 for it in writes), True)
-    equal(names(calls), ["write", "fdatasync"] + ["write", "ftruncate", "fdatasync"] * 2 + ["write", "fdatasync"])
+    broken = ["write", "ftruncate", "fdatasync"]
+    equal(names(calls), FIRST + ["write", "fdatasync"] + broken * 2 + ["write", "fdatasync"])
 
 
 @case

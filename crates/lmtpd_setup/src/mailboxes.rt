@@ -120,7 +120,6 @@ where
     R::File: RangeLock,
     ensures path { IfOk result (λ file. file_path file ≡ path_at access.entry name.entry) }
     ensures mode { IfOk result (λ file. file_mode file ≡ Some access.entry.mode) }
-    ensures settled { IfOk result (λ file. (⟦<StdMailboxFile<R> as MailboxFile>⟧.state file).cut_off ≡ []) }
     ensures err { IfErr result (IsNotOpen access.entry name.entry) }
 {
     let path = match path_of(alloc, access, name) {

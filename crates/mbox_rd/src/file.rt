@@ -28,8 +28,8 @@ const BUFFER_SIZE: usize = 65_536;
 /// A spool over a file, which other programs read and empty too. In a turn it has both locks that mail programs take,
 /// and what it takes waits in a buffer of 65,536 bytes until that is full or until a sync. A turn in which a call
 /// failed is broken: each further append and sync in it is a fault, and as it ends the file is cut back to its length
-/// at the lock. The next lock opens what the path names again, and goes on with what stands there. Where it couldn't be
-/// cut back, or that couldn't be kept, each lock has it kept before anything is appended, until it is.
+/// at the lock. The next lock opens what the path names again, and goes on with what stands there. The first lock, and
+/// each after one that couldn't be cut back for good, has the file kept before anything is appended, until it is.
 #[derive(Drop)]
 pub struct FileSpool<F: MailboxFile + Drop, C: Clock + Drop> {
     file: F,
@@ -90,10 +90,10 @@ impl<F: MailboxFile + Drop, C: Clock + Drop> Model for FileSpool<F, C> {
 impl<F: MailboxFile + Drop, C: Clock + Drop> FileSpool<F, C> {
     ghost use Rattle.mbox_rd.specs.FileSpool.{IsOpened};
 
-    /// Over a file with neither lock held, of which nothing was cut off. Within a minute locks wait that many seconds for other programs in all,
-    /// 3,600 at most; 0 is one try each. From here on it takes no memory.
+    /// Over a file with neither lock held. Within a minute locks wait that many seconds for other programs in all, 3,600
+    /// at most; 0 is one try each. Its first turn has the file kept before anything is appended, since a process that
+    /// was killed may have cut it and not have had that kept. From here on it takes no memory.
     pub fn new(alloc: Global, file: F, clock: C, wait: u32) -> Result<FileSpool<F, C>, AllocError>
-        requires settled { (F.state file).cut_off ≡ [] }
         ensures opened { IfOk result IsOpened }
         ensures file { IfOk result (λ spool. spool.file ≡ file) }
         ensures wait { IfOk result (λ spool. spool.wait ≡ wait) }
@@ -111,7 +111,7 @@ impl<F: MailboxFile + Drop, C: Clock + Drop> FileSpool<F, C> {
             in_turn: false,
             has_failed: false,
             is_unsynced: false,
-            is_unsettled: false,
+            is_unsettled: true,
             turns: Turns::none(),
         })
     }
