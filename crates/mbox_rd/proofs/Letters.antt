@@ -1,5 +1,5 @@
 -- How what a crash leaves of a turn is read.
-use Rattle.std.proofs.Common.{◌≡◌, ◌⊎◌, inl, inr, ℕ, ◌≤◌, arith, Bool, true, false, List, [], ◌∷◌, ◌++◌, length, take}
+use Rattle.std.proofs.Common.{◌≡◌, ◌⊎◌, inl, inr, ℕ, arith, Bool, true, false, List, [], ◌∷◌, ◌++◌, length}
 use Rattle.std.proofs.Common.{Option, Some, None, refl, sym, ap, ◌∙◌, subst, append_assoc, length-append}
 use Rattle.std.proofs.lemmas.List.{take_all, append_cancel_left}
 use Rattle.mail_world.specs.declared.Note.{Note}
@@ -11,10 +11,10 @@ use Rattle.mail_world.specs.Turns.{Standing, addition}
 use Rattle.mail_lives.specs.ReadAs.{IsReadAs}
 use Rattle.mail_lives.specs.Steps.{Stores as StoresNote, Tears}
 use Rattle.mail_lives.proofs.Stepping.{steps_read}
-use Rattle.mbox_file.specs.MailboxFile.{FileState, at_now}
-use Rattle.mbox_file.specs.Moment.{LeavesOne, LeavesAt}
+use Rattle.mbox_file.specs.MailboxFile.{FileState}
+use Rattle.mbox_file.specs.Moment.{LeavesOne}
 use Rattle.mbox_file.proofs.Written.{part_of}
-use Rattle.mbox_rd.specs.FileSpool.{FileSpool, BeginsWith, StandsOn, IsInOrder, KeepsWritten, contents_of}
+use Rattle.mbox_rd.specs.FileSpool.{FileSpool, BeginsWith, StandsOn, IsInOrder, KeepsWritten}
 use Rattle.mbox_rd.specs.Moments.{LeavesOfTurn, LeavesInTurn, IsTurnOf, whole_of, IsReadTorn, AnyMoment, Stores}
 use Rattle.mbox_rd.proofs.Leaving.{at_rest, leaves_as, is_left, prefix_of, prefix_appended}
 

@@ -1,7 +1,7 @@
 -- What a file has of a text that it didn't write, or that it wrote and didn't keep.
 use Rattle.std.proofs.Common.{◌≡◌, ◌≤◌, ◌∙◌, ◌++◌, List, [], ◌∷◌, ℕ, length, Result, Ok, Err, OnErr, ap, sym, subst, arith}
 use Rattle.std.proofs.Common.{append-nil, length-append}
-use Rattle.mbox_file.specs.MailboxFile.{FileState, at_now, at_write, HasAppended, HasNotAppended, FailsToKeep}
+use Rattle.mbox_file.specs.MailboxFile.{FileState, at_now, HasAppended, HasNotAppended, FailsToKeep}
 use Rattle.mbox_rd.specs.FileSpool.{LosesPart}
 
 pub unwritten : (old new : FileState) (text : List ℕ) → HasNotAppended old new text → LosesPart old new text
