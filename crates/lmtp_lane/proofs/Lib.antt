@@ -2,6 +2,7 @@ pub mod Turns
 pub mod Doing
 pub mod Exchanging
 pub mod Awaiting
+pub mod Coming
 pub mod Delivering
 pub mod Accounting
 pub mod Visiting

@@ -1,5 +1,5 @@
 -- What the delivery of a lane has come to.
-use Rattle.std.specs.Prelude.{◌≡◌, ◌≤◌, ⊤, ℕ, false, nat_lt, if◌then◌else◌, List, [], ◌∷◌, ◌++◌, length}
+use Rattle.std.specs.Prelude.{◌≡◌, ◌≤◌, ⊤, ℕ, ◌*◌, false, nat_lt, if◌then◌else◌, List, [], ◌∷◌, ◌++◌, length}
 use Rattle.std.specs.Prelude.{map, flat_map, Option, Some, None}
 use Rattle.std.specs.Option.{IfSome}
 use Rattle.std.specs.List.{AllByRecursion}
@@ -8,7 +8,7 @@ use Rattle.mail_world.specs.declared.Slip.{Slip}
 use Rattle.mail_world.specs.declared.Outcome.{Outcome}
 use Rattle.mail_world.specs.declared.Verdict.{Verdict}
 use Rattle.mail_world.specs.declared.Verdict.TheVariants.{Whole, TooLarge, NoRoom}
-use Rattle.mail_world.specs.declared.limits.TheConstants.{NUMBER_LIMIT, RECIPIENT_LIMIT}
+use Rattle.mail_world.specs.declared.limits.TheConstants.{NUMBER_LIMIT, RECIPIENT_LIMIT, DATA_BUFFER_SIZE}
 use Rattle.mail_world.specs.Counts.{counted}
 use Rattle.mail_world.specs.Slips.{answers, txn_of, Gather}
 use Rattle.mail_world.specs.Lists.{Transaction, VerdictFits, OutcomesIn, copies, copies_from}
@@ -69,6 +69,24 @@ pub record HasOffered (limit : ℕ) (May : ℕ → Type 0) (accepted : ℕ) (old
 pub record HoldsDraft (draft : Option Claim) (size : ℕ) (message : List ℕ) : Type 0 where
   pub long : size ≡ counted (length message)
   pub bytes : IfSome draft (λ claim. claim.bytes ≡ message)
+
+-- bytes that fill so many whole rooms
+abbrev pub FillRooms : List ℕ → Type 0
+FillRooms bytes = (rooms : ℕ) × (length bytes ≡ rooms * DATA_BUFFER_SIZE)
+
+-- what is kept of a message on its way, of which these bytes wait: its length, and while there is a draft its other
+-- bytes, which came into it as whole rooms
+pub record IsComing (draft : Option Claim) (waiting : List ℕ) (size : ℕ) (message : List ℕ) : Type 0 where
+  pub long : size ≡ counted (length message)
+  pub bytes : IfSome draft (λ claim. claim.bytes ++ waiting ≡ message)
+  pub rooms : IfSome draft (λ claim. FillRooms claim.bytes)
+
+-- these bytes were put into the draft, or there is none any more
+abbrev pub PutsOn : Option Claim → Option Claim → List ℕ → Type 0
+PutsOn (Some old) (Some new) bytes = new.bytes ≡ old.bytes ++ bytes
+PutsOn None (Some new) bytes = ⊥
+PutsOn (Some old) None bytes = ⊤
+PutsOn None None bytes = ⊤
 
 -- the verdict where there is no draft any more, and where there is one
 abbrev pub verdict_with : Option Claim → Verdict

@@ -1,13 +1,13 @@
 //! What a lane does with the messages of its conversations.
 
-ghost use Rattle.std.specs.Prelude.{◌≡◌, ◌≤◌, ◌<◌, ◌^◌, ℕ, List, [], length, false};
+ghost use Rattle.std.specs.Prelude.{◌≡◌, ◌≤◌, ◌<◌, ◌^◌, ℕ, List, [], length, take, false};
 ghost use Rattle.mail_world.specs.declared.limits.TheConstants.{NUMBER_LIMIT};
 ghost use Rattle.mail_world.specs.Lists.{Transaction};
 ghost use Rattle.mail_post.specs.Gathering.{IsDone};
 ghost use Rattle.mail_post.specs.Offered.{any_gone};
 ghost use Rattle.msg_depot.specs.declared.view.Claim.{Claim};
 ghost use Rattle.lmtp_lane.specs.LaneExchange.{ends_of, sent_as};
-ghost use Rattle.lmtp_lane.specs.LaneAccount.{AgreesWith, HasOffered, HoldsDraft, told_by, Delivers};
+ghost use Rattle.lmtp_lane.specs.LaneAccount.{AgreesWith, HasOffered, IsComing, told_by, Delivers};
 
 use crate::clock::Clock;
 use crate::exchange::{Exchange, Postmark};
@@ -15,6 +15,7 @@ use crate::incoming::Incoming;
 use crate::setting::LaneStart;
 use lmtp_session::Session;
 use lmtp_talk::Delivery;
+use lmtp_wire::{Dot, Fed};
 use mail_world::{Outcome, State, Verdict};
 use msg_depot::{Depot, DepotName, Draft};
 use std::marker::PhantomData;
@@ -100,7 +101,8 @@ impl<'a, N: DepotName, C: Clock, R: Wait, S: LaneStart> Delivery for LaneDeliver
 
     ghost IsDrafting = { λ d n ts message.
         HasOffered S.site.message_limit S.May d.accepted S.ends (ends_of d.exchange) n ts
-        × AgreesWith (C.May d.clock.now) S.May × HoldsDraft d.incoming.draft d.incoming.size message };
+        × AgreesWith (C.May d.clock.now) S.May
+        × IsComing d.incoming.draft (take d.incoming.held d.incoming.room) d.incoming.size message };
 
     ghost outcomes = { λ d. told_by d.exchange.gather.gather };
 
@@ -111,8 +113,9 @@ impl<'a, N: DepotName, C: Clock, R: Wait, S: LaneStart> Delivery for LaneDeliver
         self.incoming.begin(self.rt, self.depot);
     }
 
-    fn piece(&mut self, bytes: &[u8]) {
-        self.incoming.add(self.rt, self.depot, bytes, self.limit);
+    fn take(&mut self, dot: &mut Dot, bytes: &[u8]) -> Fed {
+        self.incoming
+            .take(self.rt, self.depot, dot, bytes, self.limit)
     }
 
     fn number(&self) -> u64 {
@@ -130,6 +133,7 @@ impl<'a, N: DepotName, C: Clock, R: Wait, S: LaneStart> Delivery for LaneDeliver
     /// The moment is asked of the clock, also of a message that is refused.
     fn end(&mut self, session: &Session) -> Result<(), Verdict> {
         self.moment = self.clock.unix(self.rt);
+        self.incoming.hand_on_rest(self.rt, self.depot);
         match self
             .incoming
             .end(self.rt, self.depot, self.accepted, self.limit)

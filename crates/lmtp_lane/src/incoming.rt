@@ -1,21 +1,32 @@
 //! A message on its way into the depot.
 
-ghost use Rattle.std.specs.Prelude.{◌≡◌, ◌≤◌, ◌++◌, ℕ, List, [], None, Some, IfOk, IfErr, IfSome};
-ghost use Rattle.mail_world.specs.declared.limits.TheConstants.{NUMBER_LIMIT};
+ghost use Rattle.std.specs.Prelude.{◌≡◌, ◌≤◌, ◌<◌, ◌+◌, ◌++◌, ℕ, List, [], length, take};
+ghost use Rattle.std.specs.Prelude.{None, Some, IfOk, IfErr};
+ghost use Rattle.mail_world.specs.declared.limits.TheConstants.{NUMBER_LIMIT, DATA_BUFFER_SIZE};
 ghost use Rattle.mail_world.specs.declared.Verdict.TheVariants.{Whole};
-ghost use Rattle.lmtp_lane.specs.LaneAccount.{HoldsDraft, verdict_on};
+ghost use Rattle.lmtp_talk.specs.Delivery.{Takes};
+ghost use Rattle.lmtp_lane.specs.LaneAccount.{HoldsDraft, IsComing, PutsOn, verdict_on};
 
+use lmtp_wire::{Dot, Fed};
 use mail_world::Verdict;
-use mail_world::limits::NUMBER_LIMIT;
+use mail_world::limits::{DATA_BUFFER_SIZE, NUMBER_LIMIT};
 use msg_depot::{Depot, DepotName, Draft};
+use std::mem;
 use std::sync::Wait;
 
-/// The draft of a message, and how long the message is so far. There is no draft once room was lacking or the message
-/// was too large.
+/// One byte more than the depot is given at once: so a dot always has two free places, and takes a byte at least.
+const ROOM_SIZE: usize = DATA_BUFFER_SIZE + 1;
+
+/// The draft of a message, what waits to be put into it, and how long the message is so far. There is no draft once
+/// room was lacking or the message was too large.
 #[derive(Drop)]
 pub struct Incoming<N: DepotName> {
     pub draft: Option<Draft<N>>,
+    pub room: [u8; ROOM_SIZE],
+    /// How many bytes wait, which stand first in the room.
+    pub held: usize,
     pub size: usize,
+    ghost few: { held < DATA_BUFFER_SIZE },
 }
 
 impl<N: DepotName> Incoming<N> {
@@ -23,13 +34,15 @@ impl<N: DepotName> Incoming<N> {
     pub fn new() -> Incoming<N> {
         Incoming {
             draft: None,
+            room: [0; ROOM_SIZE],
+            held: 0,
             size: 0,
         }
     }
 
     /// Begins a message.
     pub fn begin<R: Wait>(&mut self, rt: &R, depot: &Depot<N>)
-        ensures { HoldsDraft self.new.draft self.new.size [] }
+        ensures { IsComing self.new.draft (take self.new.held self.new.room) self.new.size [] }
     {
         self.cancel(rt, depot);
         self.size = 0;
@@ -38,26 +51,82 @@ impl<N: DepotName> Incoming<N> {
         }
     }
 
-    /// Takes bytes of the message, which may have as many in all as the limit says.
-    pub fn add<R: Wait>(&mut self, rt: &R, depot: &Depot<N>, bytes: &[u8], limit: u32)
-        ensures { (message : List ℕ) → HoldsDraft self.old.draft self.old.size message
-            → HoldsDraft self.new.draft self.new.size (message ++ bytes.now) }
+    /// Takes bytes of the data, whose message may have as many bytes in all as the limit says.
+    pub fn take<R: Wait>(
+        &mut self,
+        rt: &R,
+        depot: &Depot<N>,
+        dot: &mut Dot,
+        bytes: &[u8],
+        limit: u32,
+    ) -> Fed
+        requires { 0 < length bytes.now }
+        ensures used { (0 < result.used) × (result.used ≤ length bytes.now) }
+        ensures takes { Takes
+            (λ n ts message. IsComing self.old.draft (take self.old.held self.old.room) self.old.size message)
+            (λ n ts message. IsComing self.new.draft (take self.new.held self.new.room) self.new.size message)
+            dot.old dot.new bytes.now result }
     {
-        self.size = self.size.saturating_add(bytes.len());
-        if let Some(draft) = self.draft.take() {
-            if self.size <= limit as usize {
-                self.draft = put(rt, depot, draft, bytes);
-            } else {
-                depot.cancel(rt, draft);
-            }
-        }
+        let fed = dot.feed(bytes, &mut self.room[self.held..]);
+        let held = self.held + fed.made;
+        self.count(rt, depot, fed.made, limit);
+        self.hand_on(rt, depot, held);
+        fed
     }
 
-    /// Gives the blocks of the draft back.
+    // Counts bytes that have come. There is no draft once they are more than the limit says.
+    fn count<R: Wait>(&mut self, rt: &R, depot: &Depot<N>, made: usize, limit: u32)
+        ensures room { self.new.room ≡ self.old.room }
+        ensures comes { (waiting text message : List ℕ) → length text ≡ made
+            → IsComing self.old.draft waiting self.old.size message
+            → IsComing self.new.draft (waiting ++ text) self.new.size (message ++ text) }
+    {
+        self.size = self.size.saturating_add(made);
+        if self.size <= limit as usize {
+            return;
+        }
+        self.cancel(rt, depot);
+    }
+
+    // That many bytes wait now. Once the room is full it is put into the draft, and a byte past it waits on.
+    fn hand_on<R: Wait>(&mut self, rt: &R, depot: &Depot<N>, held: usize)
+        requires { held ≤ DATA_BUFFER_SIZE + 1 }
+        ensures { (message : List ℕ)
+            → IsComing self.old.draft (take held self.old.room) self.old.size message
+            → IsComing self.new.draft (take self.new.held self.new.room) self.new.size message }
+    {
+        if held < DATA_BUFFER_SIZE {
+            self.held = held;
+            return;
+        }
+        let draft = self.draft.take();
+        self.draft = put(rt, depot, draft, &self.room[..DATA_BUFFER_SIZE]);
+        self.room.copy_within(DATA_BUFFER_SIZE..held, 0);
+        self.held = held - DATA_BUFFER_SIZE;
+    }
+
+    /// Puts what waits into the draft, once the data has ended.
+    pub fn hand_on_rest<R: Wait>(&mut self, rt: &R, depot: &Depot<N>)
+        ensures { (message : List ℕ)
+            → IsComing self.old.draft (take self.old.held self.old.room) self.old.size message
+            → HoldsDraft self.new.draft self.new.size message }
+    {
+        let held = mem::take(&mut self.held);
+        if held == 0 {
+            return;
+        }
+        let draft = self.draft.take();
+        self.draft = put(rt, depot, draft, &self.room[..held]);
+    }
+
+    /// Gives the blocks of the draft back, and forgets what waits.
     pub fn cancel<R: Wait>(&mut self, rt: &R, depot: &Depot<N>)
         ensures draft { self.new.draft ≡ None }
+        ensures room { self.new.room ≡ self.old.room }
+        ensures held { self.new.held ≡ 0 }
         ensures size { self.new.size ≡ self.old.size }
     {
+        self.held = 0;
         if let Some(draft) = self.draft.take() {
             depot.cancel(rt, draft);
         }
@@ -93,15 +162,16 @@ impl<N: DepotName> Incoming<N> {
     }
 }
 
-// Adds bytes to a draft. Where there is no room for them the draft is cancelled.
+// Adds bytes to a draft, if there is one. Where there is no room for them it is cancelled.
 fn put<N: DepotName, R: Wait>(
     rt: &R,
     depot: &Depot<N>,
-    mut draft: Draft<N>,
+    draft: Option<Draft<N>>,
     bytes: &[u8],
 ) -> Option<Draft<N>>
-    ensures { IfSome result (λ longer. longer.bytes ≡ draft.bytes ++ bytes.now) }
+    ensures { PutsOn draft result bytes.now }
 {
+    let mut draft = draft?;
     match depot.put(rt, &mut draft, bytes) {
         Ok(()) => Some(draft),
         Err(_) => {

@@ -11,9 +11,8 @@ use Rattle.mail_world.specs.Lists.{Transaction, accepted_after, transactions_of}
 use Rattle.mail_world.proofs.Handled.{inputs-snoc}
 use Rattle.mail_world.proofs.Owed.{same_after_data}
 use Rattle.lmtp_wire.specs.Wire.{IsAfter}
-use Rattle.lmtp_wire.specs.declared.dot.Fed.{Fed}
 use Rattle.lmtp_wire.specs.declared.dot.Dot.{Dot}
-use Rattle.lmtp_wire.specs.Dot.{HasMade, DataGoesOn}
+use Rattle.lmtp_wire.specs.Dot.{HasMade}
 use Rattle.lmtp_wire.specs.DataState.{IsDataEnd}
 use Rattle.lmtp_talk.specs.declared.dialogue.Dialogue.{Dialogue}
 use Rattle.lmtp_talk.specs.Peer.{PeerState}
@@ -31,28 +30,28 @@ in_data state dialogue rest come drafts e x = subst (λ (s : State). IsInside s 
 -- the data goes on
 pub more_of_data : (site : Site) (start : PeerState) (Before : ℕ → List Transaction → Type 0) {D : Type 0} (HasCome : D → ℕ → List Transaction → Type 0)
     (IsDrafting : D → ℕ → List Transaction → List ℕ → Type 0)
-    (old : Dialogue) (dot : Dot) (peer : PeerState) (delivery later : D) (handled came piece bytes : List ℕ) (size room : ℕ) (fed : Fed)
+    (old : Dialogue) (dot : Dot) (peer : PeerState) (delivery later : D) (handled came piece bytes : List ℕ) (used : ℕ)
     → old.session.session.state ≡ Content
-    → ((taken made : List ℕ) → HasMade old.dot taken made → DataGoesOn dot (taken ++ take fed.used piece) (made ++ bytes) size room fed)
+    → ((taken made : List ℕ) → HasMade old.dot taken made → HasMade dot (taken ++ take used piece) (made ++ bytes))
     → ((n : ℕ) (ts : List Transaction) (draft : List ℕ) → IsDrafting delivery n ts draft → IsDrafting later n ts (draft ++ bytes))
     → IsSoFar (beginning site start Before) (talk_state old peer (HasCome delivery) (IsDrafting delivery)) handled came
     → IsSoFar (beginning site start Before) (talk_state (record old { dot = dot }) peer (HasCome later) (IsDrafting later))
-    (handled ++ take fed.used piece) came
-more_of_data site start Before {D} HasCome IsDrafting old dot peer delivery later handled came piece bytes size room fed content feeds grows h =
+    (handled ++ take used piece) came
+more_of_data site start Before {D} HasCome IsDrafting old dot peer delivery later handled came piece bytes used content feeds grows h =
     let inside = in_data old.session.session.state old h.rest _ _ content h.inside in
-    let text : List ℕ = h.rest ++ take fed.used piece in
+    let text : List ℕ = h.rest ++ take used piece in
     let new : Dialogue = record old { dot = dot } in
     let now : InData new text (λ made. Comes site h.done Before (λ n ts. IsDrafting later n ts made)) = record {
       made = inside.made ++ bytes;
       next = inside.next;
-      after = (feeds h.rest inside.made inside.after).after;
+      after = feeds h.rest inside.made inside.after;
       drafting = λ n ts first. grows _ _ inside.made (inside.drafting n ts first);
     } in
     record {
       done = h.done;
       prefix = h.prefix;
       rest = text;
-      whole = ap (λ l. l ++ take fed.used piece) h.whole ∙ append_assoc h.prefix h.rest (take fed.used piece);
+      whole = ap (λ l. l ++ take used piece) h.whole ∙ append_assoc h.prefix h.rest (take used piece);
       cut = h.cut;
       same_site = h.same_site;
       session = h.session;

@@ -1,13 +1,14 @@
 //! What is done with the messages of a conversation.
 
-ghost use Rattle.std.specs.Prelude.{◌≡◌, ◌≢◌, ℕ, ◌+◌, List, [], ◌++◌, length, OnOk, IfErr};
+ghost use Rattle.std.specs.Prelude.{◌≡◌, ◌≢◌, ◌≤◌, ◌<◌, ℕ, ◌+◌, List, [], length, OnOk, IfErr};
 ghost use Rattle.mail_world.specs.declared.Outcome.{Outcome as Told};
 ghost use Rattle.mail_world.specs.Lists.{Transaction};
 ghost use Rattle.mail_world.specs.Counts.{counted};
 ghost use Rattle.mail_world.specs.Site.{Site};
-ghost use Rattle.lmtp_talk.specs.Delivery.{ended_so, EndsDraft};
+ghost use Rattle.lmtp_talk.specs.Delivery.{ended_so, Takes, EndsDraft};
 
 use lmtp_session::Session;
+use lmtp_wire::{Dot, Fed};
 use mail_world::{Outcome, State, Verdict};
 
 /// Takes the messages of conversations, one after the other, and says what became of each.
@@ -33,11 +34,12 @@ pub trait Delivery {
         ensures begins { (n : ℕ) (ts : List Transaction) → HasCome self.old n ts
             → IsDrafting self.new (n + 1) ts [] };
 
-    /// Bytes of the message have come.
-    fn piece(&mut self, bytes: &[u8])
+    /// Bytes of the data have come. The dot is fed with some of them, and what it makes comes to the message.
+    fn take(&mut self, dot: &mut Dot, bytes: &[u8]) -> Fed
+        requires { 0 < length bytes.now }
         ensures same { site self.new ≡ site self.old }
-        ensures grows { (n : ℕ) (ts : List Transaction) (message : List ℕ) → IsDrafting self.old n ts message
-            → IsDrafting self.new n ts (message ++ bytes.now) };
+        ensures used { (0 < result.used) × (result.used ≤ length bytes.now) }
+        ensures takes { Takes (IsDrafting self.old) (IsDrafting self.new) dot.old dot.new bytes.now result };
 
     /// How many DATA commands were accepted, that of the message in hand among them; it stays at its largest value.
     fn number(&self) -> u64

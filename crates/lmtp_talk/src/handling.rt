@@ -14,7 +14,6 @@ use crate::peer::Peer;
 use crate::telling::Asked;
 use lmtp_session::Act;
 use lmtp_wire::{Dot, Got};
-use mail_world::limits::DATA_BUFFER_SIZE;
 use mail_world::{State, Verdict};
 
 /// Handles all that was read, up to QUIT.
@@ -141,9 +140,7 @@ fn take_data<P: Peer, D: Delivery>(
     ensures same { D.site delivery.new ≡ D.site delivery.old }
     ensures reads { (P.state peer.new).reads ≡ (P.state peer.old).reads }
 {
-    let mut message = [0; DATA_BUFFER_SIZE];
-    let fed = dialogue.dot.feed(rest, &mut message);
-    delivery.piece(&message[..fed.made]);
+    let fed = delivery.take(&mut dialogue.dot, rest);
     if fed.ended {
         handle_message(dialogue, peer, delivery);
     }

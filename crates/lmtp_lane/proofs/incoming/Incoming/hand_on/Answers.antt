@@ -1,0 +1,13 @@
+use Rattle.std.proofs.Common.{ℕ, List, ◌-◌, take, subst, arith, rules}
+use Rattle.lmtp_lane.specs.LaneAccount.{PutsOn}
+use Rattle.lmtp_lane.proofs.Coming.{room_put, moved_on}
+use Rattle.lmtp_lane.proofs.incoming.Incoming.hand_on.Goals as goal
+
+pub returns : goal.returns
+returns g c message h =
+    let self = c.args.self.now in
+    let held : ℕ = c.args.held in
+    let now : List ℕ = c.copy_within.new.self in
+    room_put self.draft c.put.result (take held self.room) (take 4_096 self.room) (take (held - 4_096) now) message self.size
+    (moved_on self.room now 4_096 held (omega (arith, c.if-held-lt-DATA_BUFFER_SIZE.false)) (omega (arith, c.requires)) c.copy_within.ensures.after)
+    (search rules) (subst (λ d. PutsOn d c.put.result (take 4_096 self.room)) c.take-draft.ensures.value c.put.ensures) h
