@@ -272,13 +272,14 @@ def mount(there, words, place):
 
 def fill(place, left):
     """Leaves that many bytes of room, and with 0 no file can be made."""
-    filler = place / "filler"
-    with filler.open("wb", buffering=0) as file:
+    # a long file may need a block to say where its blocks are, which a short one doesn't
+    with (place / "filler").open("wb", buffering=0) as file, (place / "filler_short").open("wb", buffering=0) as short:
         while room(place) > 0:
-            with contextlib.suppress(OSError):
-                while True:
-                    file.write(b"x" * BLOCK)
-            os.fsync(file)
+            for one in file, short:
+                with contextlib.suppress(OSError):
+                    while True:
+                        one.write(b"x" * BLOCK)
+                os.fsync(one)
         file.truncate(os.fstat(file.fileno()).st_size - left)
         os.fsync(file)
     for number in range(0 if left else 1000):
