@@ -27,6 +27,7 @@ SECONDS = float(os.environ.get("READERS_SECONDS", "60"))
 # One letter of so many is for nobody, and how long a client waits after 451, in seconds.
 NOBODYS, REST = 16, 0.25
 SUBJECT = re.compile(rb"^Subject: (for-\w+ \d+-\d+)$", re.MULTILINE)
+ID = re.compile(rb"with LMTP id (\d+-\d+);")
 # Dovecot keeps its own data in such a letter, where the first of a mailbox goes.
 OF_DOVECOT = b"Subject: DON'T DELETE THIS MESSAGE -- FOLDER INTERNAL DATA\n"
 
@@ -152,6 +153,8 @@ class Beside:
         print(f"still there {len(found)}, deleted by {each};", end=" ")
         faults = {"lost": lost, "doubled": doubled, "torn": torn, "back": back, "stray": stray}
         print(", ".join(f"{fault} {len(letters)}" for fault, letters in faults.items()), end="; ")
+        # one that the server wrote once has one id, however often readers copied it
+        faults["doubled"] = [(one, ids_of(self.path.read_bytes(), one)) for one in doubled]
         print(*(f"{who} misread {count}, {count_of(missing, who)} missing" for who, count in self.misread.items()))
         equal(faults, dict.fromkeys(faults, []))
         in_use = [f"lmtpd: anna in use {len(self.refused)}"] * bool(self.refused)
@@ -167,6 +170,12 @@ def letters_of(text):
     letters = [(subject_of(letter), letter) for letter in split(text)]
     subjects = [subject for subject, _ in letters if subject]
     return subjects, [letter[:200] for subject, letter in letters if not is_whole(subject, letter)]
+
+
+def ids_of(text, subject):
+    """The ids that the server wrote into the letters of that subject."""
+    heads = [letter.partition(b"\n\n")[0] for letter in split(text) if subject_of(letter) == subject]
+    return [found[1].decode() if (found := ID.search(head)) else None for head in heads]
 
 
 def whole_of(text):
