@@ -67,10 +67,12 @@ abbrev pub IsAnnouncement : Bool → List ℕ → Type 0
 IsAnnouncement true text = text ≡ []
 IsAnnouncement false text = (endpoint : Endpoint) × (text ≡ endpoint_line endpoint)
 
--- it was said where the server listens, unless its listener can't tell that, up to a write that failed
+-- it was said where the server listens, up to a write that failed, unless its listener can't tell that: then nothing
+-- was written
 pub record IsAnnounced (unknown : Bool) (before after : Option (List ℕ)) (cut : Bool) : Type 0 where
   pub text : List ℕ
   pub announces : IsAnnouncement unknown text
+  pub untried : unknown ≡ true → cut ≡ false
   pub listed : IsListed text before after cut
 
 -- a further text was said, unless a write had failed before

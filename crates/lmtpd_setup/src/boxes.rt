@@ -21,7 +21,12 @@ enum TextFault {
 }
 
 impl From<io::Error> for TextFault {
-    fn from(refused: io::Error) -> TextFault {
+    ghost use Rattle.std.specs.Prelude.{◌≡◌, ◌↔◌};
+    ghost use Rattle.std.specs.IoError.{error_kind};
+
+    fn from(refused: io::Error) -> TextFault
+        ensures { (result ≡ TextFault.Memory) ↔ (error_kind refused ≡ ErrorKind.OutOfMemory) }
+    {
         match refused.kind() {
             ErrorKind::OutOfMemory => TextFault::Memory,
             _ => TextFault::Unread,
