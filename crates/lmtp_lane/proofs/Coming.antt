@@ -1,28 +1,73 @@
 -- A message on its way into the depot, room by room.
-use Rattle.std.proofs.Common.{◌≡◌, ◌≤◌, ℕ, ◌+◌, ◌-◌, List, ◌++◌, length, take, drop, Some, ap, sym, ◌∙◌, append_assoc, arith}
+use Rattle.std.proofs.Common.{◌≡◌, ◌≤◌, ◌<◌, ℕ, zero, suc, ◌+◌, ◌-◌, List, ◌++◌, length, take, drop, Some, ap, sym, ◌∙◌, append_assoc, arith}
 use Rattle.std.specs.Prelude.{Option, None, Bool, true, false}
+use Rattle.std.specs.Option.{IfSome}
 use Rattle.std.proofs.Math.Seq.{take-add, take-append-add, paste}
-use Rattle.std.proofs.lemmas.List.{length-append, length-take, length-drop, take-append-le}
+use Rattle.std.proofs.lemmas.List.{length-append, length-take, length-drop, nil_from_length, take-append-le}
 use Rattle.std.proofs.lemmas.List.Edits.{take-paste}
 use borrow.Rule.Slice.PartMut.{put_mid, post_of}
 use Rattle.mail_world.specs.declared.limits.TheConstants.{DATA_BUFFER_SIZE}
+use Rattle.mail_world.specs.Counts.{counted}
 use Rattle.lmtp_wire.specs.declared.dot.Dot.{Dot}
 use Rattle.lmtp_wire.specs.declared.dot.Fed.{Fed}
 use Rattle.lmtp_wire.specs.DataState.{IsDataEnd}
 use Rattle.lmtp_wire.specs.Dot.{HasFed, EndedOr, DataGoesOn}
 use Rattle.msg_depot.specs.declared.view.Claim.{Claim}
-use Rattle.lmtp_lane.specs.LaneAccount.{IsComing, PutsOn}
+use Rattle.mail_head.specs.MessageIds.{message_id_of}
+use Rattle.mail_head.proofs.FirstBytes.{more_tells_nothing}
+use Rattle.lmtp_lane.specs.LaneAccount.{HoldsDraft, IsComing, PutsOn}
+
+-- where as many bytes wait as have come, these are all
+pub id_waits : (draft : Option Claim) (waiting message : List ℕ) (size : ℕ) (id : Option (List ℕ)) → size ≡ length waiting
+    → length waiting ≤ DATA_BUFFER_SIZE + 1 → IsComing draft waiting size id message → message_id_of waiting ≡ message_id_of message
+id_waits draft waiting message size id all few h =
+    let none : length h.before ≡ 0 = omega (arith, h.long, all, few, ap length h.whole, length-append h.before waiting) in
+    ap message_id_of (ap (λ l. l ++ waiting) (sym (nil_from_length h.before none)) ∙ h.whole)
+
+-- and where more have come the Message-ID is known
+some_before : (before waiting size : ℕ) → size ≡ counted (before + waiting) → waiting ≤ DATA_BUFFER_SIZE + 1 → (size ≡ waiting → ⊥) → 0 < before
+some_before zero waiting size is few more = absurd (more (omega (arith, is, few)))
+some_before (suc before) waiting size is few more = omega arith
+
+pub id_known : (draft : Option Claim) (waiting message : List ℕ) (size : ℕ) (id : Option (List ℕ)) → (size ≡ length waiting → ⊥)
+    → length waiting ≤ DATA_BUFFER_SIZE + 1 → IsComing draft waiting size id message → id ≡ message_id_of message
+id_known draft waiting message size id more few h =
+    let long : length message ≡ length h.before + length waiting = sym (ap length h.whole) ∙ length-append h.before waiting in
+    let some : 0 < length h.before = some_before (length h.before) (length waiting) size (h.long ∙ ap counted long) few more in
+    h.named some ∙ sym (more_tells_nothing h.before waiting (omega (arith, some, h.rooms.1))) ∙ ap message_id_of h.whole
+
+-- these bytes were put into the draft, after those that were in it
+put_bytes : (old new : Option Claim) (before room : List ℕ) → PutsOn old new room → IfSome old (λ claim. claim.bytes ≡ before)
+    → IfSome new (λ claim. claim.bytes ≡ before ++ room)
+put_bytes None None before room p h = tt
+put_bytes (Some old) None before room p h = tt
+put_bytes None (Some new) before room p h = absurd p
+put_bytes (Some old) (Some new) before room p h = p ∙ ap (λ l. l ++ room) h
 
 -- a room of what waited was put into the draft
-pub room_put : (old new : Option Claim) (waiting room rest message : List ℕ) (size : ℕ) → waiting ≡ room ++ rest → length room ≡ DATA_BUFFER_SIZE
-    → PutsOn old new room → IsComing old waiting size message → IsComing new rest size message
-room_put None None waiting room rest message size w full p h = record { long = h.long; bytes = tt; rooms = tt }
-room_put (Some old) None waiting room rest message size w full p h = record { long = h.long; bytes = tt; rooms = tt }
-room_put None (Some new) waiting room rest message size w full p h = absurd p
-room_put (Some old) (Some new) waiting room rest message size w full p h = record {
+pub room_put : (old new : Option Claim) (waiting room rest message : List ℕ) (size : ℕ) (id now : Option (List ℕ)) → waiting ≡ room ++ rest
+    → length room ≡ DATA_BUFFER_SIZE → now ≡ message_id_of message
+    → PutsOn old new room → IsComing old waiting size id message → IsComing new rest size now message
+room_put old new waiting room rest message size id now w full named p h =
+    let long : length (h.before ++ room) ≡ length h.before + DATA_BUFFER_SIZE = omega (arith, length-append h.before room, full) in
+    let whole : (h.before ++ room) ++ rest ≡ message = append_assoc h.before room rest ∙ ap (λ l. h.before ++ l) (sym w) ∙ h.whole in
+    record {
+      long = h.long;
+      before = h.before ++ room;
+      whole = whole;
+      rooms = (h.rooms.0 + 1, omega (arith, long, h.rooms.1));
+      bytes = put_bytes old new h.before room p h.bytes;
+      named = λ some. named ∙ ap message_id_of (sym whole) ∙ more_tells_nothing (h.before ++ room) rest (omega (arith, long));
+    }
+
+-- all that waited was put into the draft
+pub rest_put : (old new : Option Claim) (waiting message : List ℕ) (size : ℕ) (id : Option (List ℕ)) → PutsOn old new waiting
+    → IsComing old waiting size id message → HoldsDraft new size message
+rest_put old None waiting message size id p h = record { long = h.long; bytes = tt }
+rest_put None (Some new) waiting message size id p h = absurd p
+rest_put (Some old) (Some new) waiting message size id p h = record {
   long = h.long;
-  bytes = ap (λ l. l ++ rest) p ∙ append_assoc old.bytes room rest ∙ ap (λ l. old.bytes ++ l) (sym w) ∙ h.bytes;
-  rooms = (h.rooms.0 + 1, omega (arith, ap length p, length-append old.bytes room, full, h.rooms.1));
+  bytes = put_bytes (Some old) (Some new) h.before waiting p h.bytes ∙ h.whole;
 }
 
 -- what waits after a room was put stands first in it
