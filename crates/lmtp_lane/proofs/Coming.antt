@@ -1,9 +1,9 @@
 -- A message on its way into the depot, room by room.
-use Rattle.std.proofs.Common.{◌≡◌, ◌≤◌, ◌<◌, ℕ, zero, suc, ◌+◌, ◌-◌, List, ◌++◌, length, take, drop, Some, ap, sym, ◌∙◌, append_assoc, arith}
+use Rattle.std.proofs.Common.{◌≡◌, ◌≤◌, ◌<◌, ℕ, zero, suc, ◌+◌, ◌-◌, List, [], ◌++◌, length, take, drop, Some, refl, ap, sym, ◌∙◌, subst, append_assoc, arith}
 use Rattle.std.specs.Prelude.{Option, None, Bool, true, false}
 use Rattle.std.specs.Option.{IfSome}
 use Rattle.std.proofs.Math.Seq.{take-add, take-append-add, paste}
-use Rattle.std.proofs.lemmas.List.{length-append, length-take, length-drop, nil_from_length, take-append-le}
+use Rattle.std.proofs.lemmas.List.{length-append, length-take, length-drop, take-append-le}
 use Rattle.std.proofs.lemmas.List.Edits.{take-paste}
 use borrow.Rule.Slice.PartMut.{put_mid, post_of}
 use Rattle.mail_world.specs.declared.limits.TheConstants.{DATA_BUFFER_SIZE}
@@ -14,27 +14,36 @@ use Rattle.lmtp_wire.specs.DataState.{IsDataEnd}
 use Rattle.lmtp_wire.specs.Dot.{HasFed, EndedOr, DataGoesOn}
 use Rattle.msg_depot.specs.declared.view.Claim.{Claim}
 use Rattle.mail_head.specs.MessageIds.{message_id_of}
-use Rattle.mail_head.proofs.FirstBytes.{more_tells_nothing}
-use Rattle.lmtp_lane.specs.LaneAccount.{HoldsDraft, IsComing, PutsOn}
+use Rattle.mail_head.proofs.FirstBytes.{none_else_tells}
+use Rattle.lmtp_lane.specs.LaneAccount.{IsComing, PutsOn}
 
--- where as many bytes wait as have come, these are all
-pub id_waits : (draft : Option Claim) (waiting message : List ℕ) (size : ℕ) (id : Option (List ℕ)) → size ≡ length waiting
-    → length waiting ≤ DATA_BUFFER_SIZE + 1 → IsComing draft waiting size id message → message_id_of waiting ≡ message_id_of message
-id_waits draft waiting message size id all few h =
-    let none : length h.before ≡ 0 = omega (arith, h.long, all, few, ap length h.whole, length-append h.before waiting) in
-    ap message_id_of (ap (λ l. l ++ waiting) (sym (nil_from_length h.before none)) ∙ h.whole)
+-- nothing has come, and there is no draft
+pub none_came : (draft : Option Claim) (id : Option (List ℕ)) → draft ≡ None → IsComing draft [] 0 id []
+none_came draft id e =
+    let nothing : IsComing None [] 0 id [] = record {
+      long = refl;
+      before = [];
+      whole = refl;
+      rooms = (0, refl);
+      bytes = tt;
+      named = λ some. absurd (omega (arith, some));
+    } in
+    subst (λ d. IsComing d [] 0 id []) (sym e) nothing
 
--- and where more have come the Message-ID is known
+-- where more have come than wait, others came before these
 some_before : (before waiting size : ℕ) → size ≡ counted (before + waiting) → waiting ≤ DATA_BUFFER_SIZE + 1 → (size ≡ waiting → ⊥) → 0 < before
 some_before zero waiting size is few more = absurd (more (omega (arith, is, few)))
 some_before (suc before) waiting size is few more = omega arith
 
-pub id_known : (draft : Option Claim) (waiting message : List ℕ) (size : ℕ) (id : Option (List ℕ)) → (size ≡ length waiting → ⊥)
-    → length waiting ≤ DATA_BUFFER_SIZE + 1 → IsComing draft waiting size id message → id ≡ message_id_of message
-id_known draft waiting message size id more few h =
-    let long : length message ≡ length h.before + length waiting = sym (ap length h.whole) ∙ length-append h.before waiting in
-    let some : 0 < length h.before = some_before (length h.before) (length waiting) size (h.long ∙ ap counted long) few more in
-    h.named some ∙ sym (more_tells_nothing h.before waiting (omega (arith, some, h.rooms.1))) ∙ ap message_id_of h.whole
+-- and the Message-ID is known
+pub id_known : (draft : Option Claim) (room message : List ℕ) (held size : ℕ) (id : Option (List ℕ)) → (size ≡ held → ⊥) → held ≤ DATA_BUFFER_SIZE + 1
+    → held ≤ length room → IsComing draft (take held room) size id message → id ≡ message_id_of message
+id_known draft room message held size id more few within h =
+    let waiting : List ℕ = take held room in
+    let count : length waiting ≡ held = omega (arith, length-take held room, within) in
+    let long : length message ≡ length h.before + held = omega (arith, ap length h.whole, length-append h.before waiting, count) in
+    let some : 0 < length h.before = some_before (length h.before) held size (h.long ∙ ap counted long) few more in
+    h.named some ∙ sym (none_else_tells h.before waiting (omega (arith, some, h.rooms.1))) ∙ ap message_id_of h.whole
 
 -- these bytes were put into the draft, after those that were in it
 put_bytes : (old new : Option Claim) (before room : List ℕ) → PutsOn old new room → IfSome old (λ claim. claim.bytes ≡ before)
@@ -57,18 +66,8 @@ room_put old new waiting room rest message size id now w full named p h =
       whole = whole;
       rooms = (h.rooms.0 + 1, omega (arith, long, h.rooms.1));
       bytes = put_bytes old new h.before room p h.bytes;
-      named = λ some. named ∙ ap message_id_of (sym whole) ∙ more_tells_nothing (h.before ++ room) rest (omega (arith, long));
+      named = λ some. named ∙ ap message_id_of (sym whole) ∙ none_else_tells (h.before ++ room) rest (omega (arith, long));
     }
-
--- all that waited was put into the draft
-pub rest_put : (old new : Option Claim) (waiting message : List ℕ) (size : ℕ) (id : Option (List ℕ)) → PutsOn old new waiting
-    → IsComing old waiting size id message → HoldsDraft new size message
-rest_put old None waiting message size id p h = record { long = h.long; bytes = tt }
-rest_put None (Some new) waiting message size id p h = absurd p
-rest_put (Some old) (Some new) waiting message size id p h = record {
-  long = h.long;
-  bytes = put_bytes (Some old) (Some new) h.before waiting p h.bytes ∙ h.whole;
-}
 
 -- what waits after a room was put stands first in it
 pub moved_on : (room now : List ℕ) (size held : ℕ) → size ≤ held → held ≤ length room → now ≡ paste room 0 (drop size room) (held - size)
