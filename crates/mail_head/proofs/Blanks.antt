@@ -1,12 +1,11 @@
 -- SP and TAB at a text's beginning.
-use Rattle.std.proofs.Common.{◌≡◌, ℕ, zero, suc, ◌+◌, ◌<◌, Bool, true, false, not, ◌==◌, ◌||◌, List, [], ◌∷◌, ◌++◌, length, take, drop, true≢false, inl, inr, refl, sym, ap, ◌∙◌, arith}
+use Rattle.std.proofs.Common.{◌≡◌, ℕ, zero, suc, ◌+◌, ◌<◌, Bool, true, false, not, ◌==◌, List, [], ◌∷◌, ◌++◌, length, take, drop, true≢false, inl, inr, refl, sym, ap, ◌∙◌, arith}
 use Rattle.std.specs.List.{prefix_len}
 use Rattle.std.proofs.lemmas.Bool.{cases_Bool, eqb-true}
 use Rattle.std.proofs.lemmas.Bool.Decides.{nat_tests}
 use Rattle.std.proofs.lemmas.List.Sums.{prefix_len_is}
 use Rattle.bstr.specs.Find.{Passes, Nowhere, NoneBefore}
 use Rattle.bstr.specs.Bytes.{is_in, not_in}
-use Rattle.mail_world.specs.Text.{has_byte, space, tab}
 use Rattle.mail_head.specs.MessageIds.{is_blank, after_blanks}
 use Rattle.mail_head.proofs.Filled.{cut}
 

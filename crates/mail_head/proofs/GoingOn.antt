@@ -1,5 +1,5 @@
 -- A value that goes on in the lines behind its first one.
-use Rattle.std.proofs.Common.{◌≡◌, ℕ, suc, ◌+◌, ◌-◌, ◌<◌, ◌≤◌, Bool, true, false, List, [], ◌∷◌, ◌++◌, length, take, drop, refl, sym, ap, ◌∙◌, arith}
+use Rattle.std.proofs.Common.{◌≡◌, ℕ, suc, ◌-◌, ◌≤◌, true, false, List, [], ◌++◌, length, take, drop, refl, sym, ap, ◌∙◌, arith}
 use Rattle.std.proofs.Common.{append_assoc, append-nil}
 use Rattle.std.specs.List.{suffix_len}
 use Rattle.std.proofs.lemmas.List.{length-take, take_all}
@@ -29,10 +29,13 @@ pub goes_further : (old now new first rest part after : List ℕ) (lines left ne
     → GoesOn old new first after lines next
 goes_further old now new first rest part after lines left next h one is cut past adds = record {
   more = λ value kept.
-      let m = h.more value kept in
-      (m.0 ++ part, adds m.0 m.1, append_assoc m.0 part (folded_value (lines_within next after))
-      ∙ ap (λ t. m.0 ++ t) (rw (cut, past) (sym (folded_more rest next is)) ∙ ap (λ n. folded_value (lines_within n rest)) (sym one))
-      ∙ m.2);
+      let m = h.more value kept in (
+        m.0 ++ part,
+        adds m.0 m.1,
+        append_assoc m.0 part (folded_value (lines_within next after))
+            ∙ ap (λ t. m.0 ++ t) (rw (cut, past) (sym (folded_more rest next is)) ∙ ap (λ n. folded_value (lines_within n rest)) (sym one))
+            ∙ m.2,
+      );
 }
 
 -- no line is left, or it doesn't go on

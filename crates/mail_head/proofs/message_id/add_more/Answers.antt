@@ -1,4 +1,4 @@
-use Rattle.std.proofs.Common.{rules, ◌∙◌, ap, take, length, ◌++◌, arith, sym}
+use Rattle.std.proofs.Common.{◌∙◌, ap, take, ◌++◌, arith, sym}
 use Rattle.mail_head.specs.Texts.{text_of}
 use Rattle.mail_head.proofs.Blanks.{more_of_none, more_of_some, none_by, some_by}
 use Rattle.mail_head.proofs.message_id.add_more.Goals as goal

@@ -1,5 +1,4 @@
 use Rattle.std.proofs.Common.{◌-◌, ◌+◌, ◌∙◌, ◌==◌, length, option_map, Some, sym, ap, arith}
-use Rattle.mail_head.specs.Texts.{text_of}
 use Rattle.mail_head.specs.MessageIds as ids
 use Rattle.mail_head.proofs.Values.{none_here, some_here, none_yet}
 use Rattle.mail_head.proofs.message_id.first_value.Goals as goal

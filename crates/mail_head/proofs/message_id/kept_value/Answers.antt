@@ -1,6 +1,5 @@
-use Rattle.std.proofs.Common.{◌++◌, ◌∙◌, sym, ap, take}
+use Rattle.std.proofs.Common.{◌++◌, ◌∙◌, ap, take}
 use Rattle.mail_world.specs.Commands.{trimmed}
-use Rattle.mail_head.specs.Texts.{text_of}
 use Rattle.mail_head.specs.MessageIds as ids
 use Rattle.mail_head.proofs.GoingOn.{kept_once}
 use Rattle.mail_head.proofs.message_id.kept_value.Goals as goal

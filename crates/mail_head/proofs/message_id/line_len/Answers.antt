@@ -1,4 +1,4 @@
-use Rattle.std.proofs.Common.{sym, ap, refl, arith}
+use Rattle.std.proofs.Common.{sym, arith}
 use Rattle.mail_head.proofs.Lines.{found_line, no_line}
 use Rattle.mail_head.proofs.message_id.line_len.Goals as goal
 
