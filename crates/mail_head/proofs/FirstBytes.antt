@@ -1,5 +1,5 @@
 -- A message's first bytes tell its id.
-use Rattle.std.proofs.Common.{◌≡◌, ℕ, ◌≤◌, List, ◌++◌, length, take, refl, ap, arith}
+use Rattle.std.proofs.Common.{◌≡◌, ℕ, ◌≤◌, List, ◌++◌, length, take, ap, arith}
 use Rattle.std.proofs.lemmas.List.{take-take, take-append-le}
 use Rattle.mail_world.specs.declared.limits.TheConstants.{DATA_BUFFER_SIZE}
 use Rattle.mail_head.specs.MessageIds.{message_id_of, id_in}

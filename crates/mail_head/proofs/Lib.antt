@@ -1,2 +1,6 @@
-pub mod Filled
+mod Filled
+mod Blanks
+mod Lines
+mod GoingOn
+mod Values
 pub mod FirstBytes

@@ -5,7 +5,9 @@
 //! never knows which message it is, or where it came from.
 #![tactic(auto)]
 
+pub mod laws;
 mod message_id;
+pub mod rows;
 mod text;
 
 pub use message_id::{MESSAGE_ID_LIMIT, MessageId, message_id_of};

@@ -52,9 +52,18 @@ fn split_line(text: &[u8]) -> (&[u8], &[u8])
     ensures line { result.0.now ≡ ids.line_of text.now }
     ensures rest { result.1.now ≡ ids.after_line text.now }
 {
+    let end = line_len(text);
+    let next = (end + 2).min(text.len());
+    (&text[..end], &text[next..])
+}
+
+fn line_len(text: &[u8]) -> usize
+    ensures len { result ≡ ids.line_len text.now }
+    ensures within { result ≤ length text.now }
+{
     match first_line(text) {
-        Some(line) => (line, &text[line.len() + 2..]),
-        None => (text, b""),
+        Some(line) => line.len(),
+        None => text.len(),
     }
 }
 
@@ -84,20 +93,29 @@ fn kept_value(value: &[u8], rest: &[u8], lines: usize) -> MessageId
     ensures { text_of result ≡ ids.kept_value (value.now ++ ids.folded_value (ids.lines_within lines rest.now)) }
 {
     let mut id = Text::of(after_blanks(value));
-    let mut rest = rest;
-    for _ in 0..lines {
-        let (line, after) = split_line(rest);
-        match line {
-            [b' ' | b'\t', more @ ..] => go_on(&mut id, more),
-            _ => break,
-        }
-        rest = after;
-    }
+    go_on(&mut id, rest, lines);
     Text::of(without_blanks_after(id.text()))
 }
 
-// Goes on with a value of which that much was kept so far.
-fn go_on(id: &mut MessageId, more: &[u8])
+// Goes on in these lines with a value of which that was kept so far.
+fn go_on(id: &mut MessageId, rest: &[u8], lines: usize)
+    ensures { (value : List ℕ) → text_of id.old ≡ take MESSAGE_ID_LIMIT (ids.after_blanks value)
+        → text_of id.new ≡ take MESSAGE_ID_LIMIT
+        (ids.after_blanks (value ++ ids.folded_value (ids.lines_within lines rest.now))) }
+{
+    let mut rest = rest;
+    for _ in 0..lines {
+        let (line, after) = split_line(rest);
+        if !begins_blank(line) {
+            return;
+        }
+        add_more(id, &line[1..]);
+        rest = after;
+    }
+}
+
+// Goes on with one more part of the value.
+fn add_more(id: &mut MessageId, more: &[u8])
     ensures { (value : List ℕ) → text_of id.old ≡ take MESSAGE_ID_LIMIT (ids.after_blanks value)
         → text_of id.new ≡ take MESSAGE_ID_LIMIT (ids.after_blanks (value ++ more.now)) }
 {
@@ -106,6 +124,12 @@ fn go_on(id: &mut MessageId, more: &[u8])
     } else {
         id.add(more);
     }
+}
+
+fn begins_blank(text: &[u8]) -> bool
+    ensures { result ≡ ids.begins_blank text.now }
+{
+    text.first() == Some(&b' ') || text.first() == Some(&b'\t')
 }
 
 fn after_blanks(text: &[u8]) -> &[u8]
