@@ -1,0 +1,6 @@
+mod Filled
+mod Blanks
+mod Lines
+mod GoingOn
+mod Values
+pub mod FirstBytes
