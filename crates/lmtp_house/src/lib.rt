@@ -13,7 +13,7 @@ pub use lmtp_lane::{
     lane_run, lane_run_at, tcp_visits,
 };
 pub use lmtp_talk::{
-    Bounds, Came, ClientStream, Curfew, Delivery, Dialogue, EndCause, Outbox, Pause, Peer,
+    Arrived, Bounds, Came, ClientStream, Curfew, Delivery, Dialogue, EndCause, Outbox, Pause, Peer,
     PeerFault, ReadBuffer, TcpPeer, has_passed, serve,
 };
 pub use lmtp_threads::Tally;

@@ -1,29 +1,73 @@
 -- A message on its way into the depot, room by room.
-use Rattle.std.proofs.Common.{◌≡◌, ◌≤◌, ℕ, ◌+◌, ◌-◌, List, ◌++◌, length, take, drop, Some, ap, sym, ◌∙◌, append_assoc, arith}
+use Rattle.std.proofs.Common.{◌≡◌, ◌≤◌, ◌<◌, ℕ, zero, suc, ◌+◌, ◌-◌, List, [], ◌++◌, length, take, drop, Some, refl, ap, sym, ◌∙◌, subst, append_assoc, arith}
 use Rattle.std.specs.Prelude.{Option, None, Bool, true, false}
+use Rattle.std.specs.Option.{IfSome}
 use Rattle.std.proofs.Math.Seq.{take-add, take-append-add, paste}
 use Rattle.std.proofs.lemmas.List.{length-append, length-take, length-drop, take-append-le}
 use Rattle.std.proofs.lemmas.List.Edits.{take-paste}
 use borrow.Rule.Slice.PartMut.{put_mid, post_of}
 use Rattle.mail_world.specs.declared.limits.TheConstants.{DATA_BUFFER_SIZE}
+use Rattle.mail_world.specs.Counts.{counted}
 use Rattle.lmtp_wire.specs.declared.dot.Dot.{Dot}
 use Rattle.lmtp_wire.specs.declared.dot.Fed.{Fed}
 use Rattle.lmtp_wire.specs.DataState.{IsDataEnd}
 use Rattle.lmtp_wire.specs.Dot.{HasFed, EndedOr, DataGoesOn}
 use Rattle.msg_depot.specs.declared.view.Claim.{Claim}
+use Rattle.mail_head.specs.MessageIds.{message_id_of}
+use Rattle.mail_head.proofs.FirstBytes.{none_else_tells}
 use Rattle.lmtp_lane.specs.LaneAccount.{IsComing, PutsOn}
 
+-- nothing has come, and there is no draft
+pub none_came : (draft : Option Claim) (id : Option (List ℕ)) → draft ≡ None → IsComing draft [] 0 id []
+none_came draft id e =
+    let nothing : IsComing None [] 0 id [] = record {
+      long = refl;
+      before = [];
+      whole = refl;
+      rooms = (0, refl);
+      bytes = tt;
+      named = λ some. absurd (omega (arith, some));
+    } in
+    subst (λ d. IsComing d [] 0 id []) (sym e) nothing
+
+-- where more have come than wait, others came before these
+some_before : (before waiting size : ℕ) → size ≡ counted (before + waiting) → waiting ≤ DATA_BUFFER_SIZE + 1 → (size ≡ waiting → ⊥) → 0 < before
+some_before zero waiting size is few more = absurd (more (omega (arith, is, few)))
+some_before (suc before) waiting size is few more = omega arith
+
+-- and the Message-ID is known
+pub id_known : (draft : Option Claim) (room message : List ℕ) (held size : ℕ) (id : Option (List ℕ)) → (size ≡ held → ⊥) → held ≤ DATA_BUFFER_SIZE + 1
+    → held ≤ length room → IsComing draft (take held room) size id message → id ≡ message_id_of message
+id_known draft room message held size id more few within h =
+    let waiting : List ℕ = take held room in
+    let count : length waiting ≡ held = omega (arith, length-take held room, within) in
+    let long : length message ≡ length h.before + held = omega (arith, ap length h.whole, length-append h.before waiting, count) in
+    let some : 0 < length h.before = some_before (length h.before) held size (h.long ∙ ap counted long) few more in
+    h.named some ∙ sym (none_else_tells h.before waiting (omega (arith, some, h.rooms.1))) ∙ ap message_id_of h.whole
+
+-- these bytes were put into the draft, after those that were in it
+put_bytes : (old new : Option Claim) (before room : List ℕ) → PutsOn old new room → IfSome old (λ claim. claim.bytes ≡ before)
+    → IfSome new (λ claim. claim.bytes ≡ before ++ room)
+put_bytes None None before room p h = tt
+put_bytes (Some old) None before room p h = tt
+put_bytes None (Some new) before room p h = absurd p
+put_bytes (Some old) (Some new) before room p h = p ∙ ap (λ l. l ++ room) h
+
 -- a room of what waited was put into the draft
-pub room_put : (old new : Option Claim) (waiting room rest message : List ℕ) (size : ℕ) → waiting ≡ room ++ rest → length room ≡ DATA_BUFFER_SIZE
-    → PutsOn old new room → IsComing old waiting size message → IsComing new rest size message
-room_put None None waiting room rest message size w full p h = record { long = h.long; bytes = tt; rooms = tt }
-room_put (Some old) None waiting room rest message size w full p h = record { long = h.long; bytes = tt; rooms = tt }
-room_put None (Some new) waiting room rest message size w full p h = absurd p
-room_put (Some old) (Some new) waiting room rest message size w full p h = record {
-  long = h.long;
-  bytes = ap (λ l. l ++ rest) p ∙ append_assoc old.bytes room rest ∙ ap (λ l. old.bytes ++ l) (sym w) ∙ h.bytes;
-  rooms = (h.rooms.0 + 1, omega (arith, ap length p, length-append old.bytes room, full, h.rooms.1));
-}
+pub room_put : (old new : Option Claim) (waiting room rest message : List ℕ) (size : ℕ) (id now : Option (List ℕ)) → waiting ≡ room ++ rest
+    → length room ≡ DATA_BUFFER_SIZE → now ≡ message_id_of message
+    → PutsOn old new room → IsComing old waiting size id message → IsComing new rest size now message
+room_put old new waiting room rest message size id now w full named p h =
+    let long : length (h.before ++ room) ≡ length h.before + DATA_BUFFER_SIZE = omega (arith, length-append h.before room, full) in
+    let whole : (h.before ++ room) ++ rest ≡ message = append_assoc h.before room rest ∙ ap (λ l. h.before ++ l) (sym w) ∙ h.whole in
+    record {
+      long = h.long;
+      before = h.before ++ room;
+      whole = whole;
+      rooms = (h.rooms.0 + 1, omega (arith, long, h.rooms.1));
+      bytes = put_bytes old new h.before room p h.bytes;
+      named = λ some. named ∙ ap message_id_of (sym whole) ∙ none_else_tells (h.before ++ room) rest (omega (arith, long));
+    }
 
 -- what waits after a room was put stands first in it
 pub moved_on : (room now : List ℕ) (size held : ℕ) → size ≤ held → held ≤ length room → now ≡ paste room 0 (drop size room) (held - size)

@@ -1,5 +1,5 @@
 -- What the delivery of a lane has come to.
-use Rattle.std.specs.Prelude.{◌≡◌, ◌≤◌, ⊤, ℕ, ◌*◌, false, nat_lt, if◌then◌else◌, List, [], ◌∷◌, ◌++◌, length}
+use Rattle.std.specs.Prelude.{◌≡◌, ◌≤◌, ◌<◌, ⊤, ℕ, ◌*◌, false, nat_lt, if◌then◌else◌, List, [], ◌∷◌, ◌++◌, length}
 use Rattle.std.specs.Prelude.{map, flat_map, Option, Some, None}
 use Rattle.std.specs.Option.{IfSome}
 use Rattle.std.specs.List.{AllByRecursion}
@@ -12,6 +12,7 @@ use Rattle.mail_world.specs.declared.limits.TheConstants.{NUMBER_LIMIT, RECIPIEN
 use Rattle.mail_world.specs.Counts.{counted}
 use Rattle.mail_world.specs.Slips.{answers, txn_of, Gather}
 use Rattle.mail_world.specs.Lists.{Transaction, VerdictFits, OutcomesIn, copies, copies_from}
+use Rattle.mail_head.specs.MessageIds.{message_id_of}
 use Rattle.msg_depot.specs.declared.view.Claim.{Claim}
 use Rattle.mail_runs.specs.Deeds.{Deed, Gave, Heard}
 use Rattle.mail_runs.specs.Timed.{whats}
@@ -74,12 +75,16 @@ pub record HoldsDraft (draft : Option Claim) (size : ℕ) (message : List ℕ) :
 abbrev pub FillRooms : List ℕ → Type 0
 FillRooms bytes = (rooms : ℕ) × (length bytes ≡ rooms * DATA_BUFFER_SIZE)
 
--- what is kept of a message on its way, of which these bytes wait: its length, and while there is a draft its other
--- bytes, which came into it as whole rooms
-pub record IsComing (draft : Option Claim) (waiting : List ℕ) (size : ℕ) (message : List ℕ) : Type 0 where
+-- What is kept of a message on its way, of which these bytes wait: its length; while there is a draft its other bytes,
+-- which came into it as whole rooms; and once there were any, whether there is a draft or not, its Message-ID.
+pub record IsComing (draft : Option Claim) (waiting : List ℕ) (size : ℕ) (id : Option (List ℕ)) (message : List ℕ)
+    : Type 0 where
   pub long : size ≡ counted (length message)
-  pub bytes : IfSome draft (λ claim. claim.bytes ++ waiting ≡ message)
-  pub rooms : IfSome draft (λ claim. FillRooms claim.bytes)
+  pub before : List ℕ
+  pub whole : before ++ waiting ≡ message
+  pub rooms : FillRooms before
+  pub bytes : IfSome draft (λ claim. claim.bytes ≡ before)
+  pub named : 0 < length before → id ≡ message_id_of before
 
 -- these bytes were put into the draft, or there is none any more
 abbrev pub PutsOn : Option Claim → Option Claim → List ℕ → Type 0

@@ -1,8 +1,9 @@
 //! What a lane does with the messages of its conversations.
 
-ghost use Rattle.std.specs.Prelude.{◌≡◌, ◌≤◌, ◌<◌, ◌^◌, ℕ, List, [], length, take, false};
+ghost use Rattle.std.specs.Prelude.{◌≡◌, ◌≤◌, ◌<◌, ◌^◌, ℕ, List, [], length, take, false, option_map};
 ghost use Rattle.mail_world.specs.declared.limits.TheConstants.{NUMBER_LIMIT};
 ghost use Rattle.mail_world.specs.Lists.{Transaction};
+ghost use Rattle.mail_head.specs.Texts.{text_of};
 ghost use Rattle.mail_post.specs.Gathering.{IsDone};
 ghost use Rattle.mail_post.specs.Offered.{any_gone};
 ghost use Rattle.msg_depot.specs.declared.view.Claim.{Claim};
@@ -16,6 +17,7 @@ use crate::setting::LaneStart;
 use lmtp_session::Session;
 use lmtp_talk::Delivery;
 use lmtp_wire::{Dot, Fed};
+use mail_head::MessageId;
 use mail_world::{Outcome, State, Verdict};
 use msg_depot::{Depot, DepotName, Draft};
 use std::marker::PhantomData;
@@ -102,7 +104,8 @@ impl<'a, N: DepotName, C: Clock, R: Wait, S: LaneStart> Delivery for LaneDeliver
     ghost IsDrafting = { λ d n ts message.
         HasOffered S.site.message_limit S.May d.accepted S.ends (ends_of d.exchange) n ts
         × AgreesWith (C.May d.clock.now) S.May
-        × IsComing d.incoming.draft (take d.incoming.held d.incoming.room) d.incoming.size message };
+        × IsComing d.incoming.draft (take d.incoming.held d.incoming.room) d.incoming.size
+        (option_map text_of d.incoming.message_id) message };
 
     ghost outcomes = { λ d. told_by d.exchange.gather.gather };
 
@@ -124,6 +127,10 @@ impl<'a, N: DepotName, C: Clock, R: Wait, S: LaneStart> Delivery for LaneDeliver
 
     fn size(&self) -> u64 {
         self.incoming.size as u64
+    }
+
+    fn message_id(&self) -> Option<MessageId> {
+        self.incoming.message_id()
     }
 
     fn cancel(&mut self) {

@@ -1,13 +1,16 @@
 //! A message on its way into the depot.
 
 ghost use Rattle.std.specs.Prelude.{◌≡◌, ◌≤◌, ◌<◌, ◌+◌, ◌++◌, ℕ, List, [], length, take};
-ghost use Rattle.std.specs.Prelude.{None, Some, IfOk, IfErr};
+ghost use Rattle.std.specs.Prelude.{None, Some, IfOk, IfErr, option_map};
 ghost use Rattle.mail_world.specs.declared.limits.TheConstants.{NUMBER_LIMIT, DATA_BUFFER_SIZE};
 ghost use Rattle.mail_world.specs.declared.Verdict.TheVariants.{Whole};
+ghost use Rattle.mail_head.specs.MessageIds.{message_id_of};
+ghost use Rattle.mail_head.specs.Texts.{text_of};
 ghost use Rattle.lmtp_talk.specs.Delivery.{Takes};
 ghost use Rattle.lmtp_lane.specs.LaneAccount.{HoldsDraft, IsComing, PutsOn, verdict_on};
 
 use lmtp_wire::{Dot, Fed};
+use mail_head::{MessageId, message_id_of};
 use mail_world::Verdict;
 use mail_world::limits::{DATA_BUFFER_SIZE, NUMBER_LIMIT};
 use msg_depot::{Depot, DepotName, Draft};
@@ -17,8 +20,8 @@ use std::sync::Wait;
 /// One byte more than the depot is given at once: so a dot always has two free places, and takes a byte at least.
 const ROOM_SIZE: usize = DATA_BUFFER_SIZE + 1;
 
-/// The draft of a message, what waits to be put into it, and how long the message is so far. There is no draft once
-/// room was lacking or the message was too large.
+/// The draft of a message, what waits to be put into it, how long the message is so far, and its Message-ID. There is no
+/// draft once room was lacking or the message was too large; the bytes go through the room then, and into nothing.
 #[derive(Drop)]
 pub struct Incoming<N: DepotName> {
     pub draft: Option<Draft<N>>,
@@ -26,6 +29,8 @@ pub struct Incoming<N: DepotName> {
     /// How many bytes wait, which stand first in the room.
     pub held: usize,
     pub size: usize,
+    /// The Message-ID, once the first room was handed on.
+    pub message_id: Option<MessageId>,
     ghost few: { held < DATA_BUFFER_SIZE },
 }
 
@@ -37,14 +42,17 @@ impl<N: DepotName> Incoming<N> {
             room: [0; ROOM_SIZE],
             held: 0,
             size: 0,
+            message_id: None,
         }
     }
 
     /// Begins a message.
     pub fn begin<R: Wait>(&mut self, rt: &R, depot: &Depot<N>)
-        ensures { IsComing self.new.draft (take self.new.held self.new.room) self.new.size [] }
+        ensures { IsComing self.new.draft (take self.new.held self.new.room) self.new.size
+            (option_map text_of self.new.message_id) [] }
     {
         self.cancel(rt, depot);
+        self.held = 0;
         self.size = 0;
         if let Ok(draft) = depot.draft(rt) {
             self.draft = Some(draft);
@@ -63,8 +71,10 @@ impl<N: DepotName> Incoming<N> {
         requires { 0 < length bytes.now }
         ensures used { (0 < result.used) × (result.used ≤ length bytes.now) }
         ensures takes { Takes
-            (λ n ts message. IsComing self.old.draft (take self.old.held self.old.room) self.old.size message)
-            (λ n ts message. IsComing self.new.draft (take self.new.held self.new.room) self.new.size message)
+            (λ n ts message. IsComing self.old.draft (take self.old.held self.old.room) self.old.size
+            (option_map text_of self.old.message_id) message)
+            (λ n ts message. IsComing self.new.draft (take self.new.held self.new.room) self.new.size
+            (option_map text_of self.new.message_id) message)
             dot.old dot.new bytes.now result }
     {
         let fed = dot.feed(bytes, &mut self.room[self.held..]);
@@ -78,8 +88,9 @@ impl<N: DepotName> Incoming<N> {
     fn count<R: Wait>(&mut self, rt: &R, depot: &Depot<N>, made: usize, limit: u32)
         ensures room { self.new.room ≡ self.old.room }
         ensures comes { (waiting text message : List ℕ) → length text ≡ made
-            → IsComing self.old.draft waiting self.old.size message
-            → IsComing self.new.draft (waiting ++ text) self.new.size (message ++ text) }
+            → IsComing self.old.draft waiting self.old.size (option_map text_of self.old.message_id) message
+            → IsComing self.new.draft (waiting ++ text) self.new.size (option_map text_of self.new.message_id)
+            (message ++ text) }
     {
         self.size = self.size.saturating_add(made);
         if self.size <= limit as usize {
@@ -92,23 +103,51 @@ impl<N: DepotName> Incoming<N> {
     fn hand_on<R: Wait>(&mut self, rt: &R, depot: &Depot<N>, held: usize)
         requires { held ≤ DATA_BUFFER_SIZE + 1 }
         ensures { (message : List ℕ)
-            → IsComing self.old.draft (take held self.old.room) self.old.size message
-            → IsComing self.new.draft (take self.new.held self.new.room) self.new.size message }
+            → IsComing self.old.draft (take held self.old.room) self.old.size
+            (option_map text_of self.old.message_id) message
+            → IsComing self.new.draft (take self.new.held self.new.room) self.new.size
+            (option_map text_of self.new.message_id) message }
     {
         if held < DATA_BUFFER_SIZE {
             self.held = held;
             return;
         }
+        self.message_id = self.message_id_at(held);
         let draft = self.draft.take();
         self.draft = put(rt, depot, draft, &self.room[..DATA_BUFFER_SIZE]);
         self.room.copy_within(DATA_BUFFER_SIZE..held, 0);
         self.held = held - DATA_BUFFER_SIZE;
     }
 
+    /// The Message-ID of the message, as far as it has come.
+    pub fn message_id(&self) -> Option<MessageId>
+        ensures { (message : List ℕ)
+            → IsComing self.now.draft (take self.now.held self.now.room) self.now.size
+            (option_map text_of self.now.message_id) message
+            → option_map text_of result ≡ message_id_of message }
+    {
+        self.message_id_at(self.held)
+    }
+
+    // The same where that many bytes wait: they are all of the message, or it was seen before.
+    fn message_id_at(&self, held: usize) -> Option<MessageId>
+        requires { held ≤ DATA_BUFFER_SIZE + 1 }
+        ensures { (message : List ℕ)
+            → IsComing self.now.draft (take held self.now.room) self.now.size
+            (option_map text_of self.now.message_id) message
+            → option_map text_of result ≡ message_id_of message }
+    {
+        if self.size == held {
+            return message_id_of(&self.room[..held]);
+        }
+        self.message_id
+    }
+
     /// Puts what waits into the draft, once the data has ended.
     pub fn hand_on_rest<R: Wait>(&mut self, rt: &R, depot: &Depot<N>)
         ensures { (message : List ℕ)
-            → IsComing self.old.draft (take self.old.held self.old.room) self.old.size message
+            → IsComing self.old.draft (take self.old.held self.old.room) self.old.size
+            (option_map text_of self.old.message_id) message
             → HoldsDraft self.new.draft self.new.size message }
     {
         let held = mem::take(&mut self.held);
@@ -119,14 +158,13 @@ impl<N: DepotName> Incoming<N> {
         self.draft = put(rt, depot, draft, &self.room[..held]);
     }
 
-    /// Gives the blocks of the draft back, and forgets what waits.
+    /// Gives the blocks of the draft back.
     pub fn cancel<R: Wait>(&mut self, rt: &R, depot: &Depot<N>)
         ensures draft { self.new.draft ≡ None }
         ensures room { self.new.room ≡ self.old.room }
-        ensures held { self.new.held ≡ 0 }
         ensures size { self.new.size ≡ self.old.size }
+        ensures message_id { self.new.message_id ≡ self.old.message_id }
     {
-        self.held = 0;
         if let Some(draft) = self.draft.take() {
             depot.cancel(rt, draft);
         }

@@ -11,6 +11,7 @@ use Rattle.mail_world.specs.Site.{Site}
 use Rattle.mail_world.specs.Session.{Session, fresh, Input}
 use Rattle.mail_world.specs.Conversation.{Disposition, Part, CommandLine, MailData, inputs_of, session_after, session_after_parts, replies_to}
 use Rattle.mail_world.specs.Lists.{accepted_after}
+use Rattle.mail_head.specs.MessageIds.{message_id_of}
 use Rattle.mail_world.proofs.Handled.{session_after-append}
 use Rattle.mail_world.proofs.Owed.{accepted_after_part}
 use Rattle.lmtp_talk.specs.declared.telling.Asked.{Asked}
@@ -45,11 +46,11 @@ map-append f (r ∷ rs) qs = ap (λ l. f r ∷ l) (map-append f rs qs)
 
 for_both : (ask : Asked) (client : List ℕ) (rs qs : List Reply) → entries_for ask client (rs ++ qs) ≡ entries_for ask client rs ++ entries_for ask client qs
 for_both (asked.Line line) client rs qs = map-append _ rs qs
-for_both (asked.Message number size) client rs qs = map-append _ rs qs
+for_both (asked.Message a) client rs qs = map-append _ rs qs
 
 for_none : (ask : Asked) (client : List ℕ) → entries_for ask client [] ≡ []
 for_none (asked.Line line) client = refl
-for_none (asked.Message number size) client = refl
+for_none (asked.Message a) client = refl
 
 pub none_told : (s : PeerState) (ask : Asked) (client : List ℕ) → s ≡ with_told s (entries_for ask client [])
 none_told s ask client = told_none s ∙ ap (λ l. with_told s l) (sym (for_none ask client))
@@ -134,8 +135,8 @@ entries_line site view n s s' text line input site_is session_is input_is line_i
     ∙ ap (λ l. line_entries l (replies_to site s' (inputs_of (CommandLine text)))) (sym line_is)
 
 pub entries_data : (site view : Site) (n : ℕ) (s s' : Session) (text draft : List ℕ) (d : Disposition) → view ≡ site → s ≡ s' → draft ≡ message text
-    → copy_entries (counted n) (counted (length draft)) s.client (replies_to view s (inputs_of (MailData text d))) ≡ entries_of_part site n s' (MailData text d)
+    → copy_entries (counted n) (counted (length draft)) (message_id_of draft) s.client (replies_to view s (inputs_of (MailData text d))) ≡ entries_of_part site n s' (MailData text d)
 entries_data site view n s s' text draft d site_is session_is draft_is =
-    ap (λ (x : Site). copy_entries (counted n) (counted (length draft)) s.client (replies_to x s (inputs_of (MailData text d)))) site_is
-    ∙ ap (λ (x : Session). copy_entries (counted n) (counted (length draft)) x.client (replies_to site x (inputs_of (MailData text d)))) session_is
-    ∙ ap (λ (m : List ℕ). copy_entries (counted n) (counted (length m)) s'.client (replies_to site s' (inputs_of (MailData text d)))) draft_is
+    ap (λ (x : Site). copy_entries (counted n) (counted (length draft)) (message_id_of draft) s.client (replies_to x s (inputs_of (MailData text d)))) site_is
+    ∙ ap (λ (x : Session). copy_entries (counted n) (counted (length draft)) (message_id_of draft) x.client (replies_to site x (inputs_of (MailData text d)))) session_is
+    ∙ ap (λ (m : List ℕ). copy_entries (counted n) (counted (length m)) (message_id_of m) s'.client (replies_to site s' (inputs_of (MailData text d)))) draft_is

@@ -9,6 +9,7 @@ use Rattle.mail_world.specs.Replies.{reply_texts}
 use Rattle.mail_world.specs.Session.{Session, Transition, DataEnded, Outcomes, step}
 use Rattle.mail_world.specs.Conversation.{session_after, replies_to}
 use Rattle.mail_world.specs.Lists.{Transaction}
+use Rattle.mail_head.specs.MessageIds.{message_id_of}
 use Rattle.lmtp_session.specs.declared.act.Act.{Act}
 use Rattle.lmtp_session.specs.declared.act.Act.TheVariants.{Say, ReadData, Deliver, Answer, Quit}
 use Rattle.lmtp_session.specs.View.{View}
@@ -35,18 +36,20 @@ texts_are : (site : Site) (act : Act) (st : Transition) (old : View) (new : View
 texts_are site act st old new t e =
     ap (λ (x : Site). reply_texts x (said act new.answers)) (t.site ∙ e) ∙ ap (λ rs. reply_texts site rs) (said_is act st new.answers t.fits)
 
--- the entries that were told are those of the step's replies, whatever the message's number and size are called
-copies_told : (number size n long : ℕ) (client name : List ℕ) (rs qs : List Reply) (before after : Option (List Entry)) → number ≡ n → size ≡ long
-    → client ≡ name → rs ≡ qs
-    → after ≡ with_entries before (copy_entries number size client rs) → after ≡ with_entries before (copy_entries n long name qs)
-copies_told number size n long client name rs qs before after en es ec er told =
-    told ∙ ap (λ (k : ℕ). with_entries before (copy_entries k size client rs)) en
-    ∙ ap (λ (k : ℕ). with_entries before (copy_entries n k client rs)) es
-    ∙ ap (λ (l : List ℕ). with_entries before (copy_entries n long l rs)) ec
-    ∙ ap (λ (l : List Reply). with_entries before (copy_entries n long name l)) er
+-- the entries that were told are those of the step's replies, whatever the message's number, size and id are called
+copies_told : (number size n long : ℕ) (id told_id : Option (List ℕ)) (client name : List ℕ) (rs qs : List Reply) (before after : Option (List Entry))
+    → number ≡ n → size ≡ long → id ≡ told_id → client ≡ name → rs ≡ qs
+    → after ≡ with_entries before (copy_entries number size id client rs) → after ≡ with_entries before (copy_entries n long told_id name qs)
+copies_told number size n long id told_id client name rs qs before after en es ei ec er told =
+    told ∙ ap (λ (k : ℕ). with_entries before (copy_entries k size id client rs)) en
+    ∙ ap (λ (k : ℕ). with_entries before (copy_entries n k id client rs)) es
+    ∙ ap (λ (o : Option (List ℕ)). with_entries before (copy_entries n long o client rs)) ei
+    ∙ ap (λ (l : List ℕ). with_entries before (copy_entries n long told_id l rs)) ec
+    ∙ ap (λ (l : List Reply). with_entries before (copy_entries n long told_id name l)) er
 
 pub whole_message : {D : Type 0} (HasCome : D → ℕ → List Transaction → Type 0) (IsDrafting : D → ℕ → List Transaction → List ℕ → Type 0)
     (old new : Dialogue) (mid : View) (before after : PeerState) (delivery later : D) (moment : ℕ) (told : List Outcome) (first second : Act) (number size : ℕ)
+    (id : Option (List ℕ))
     → ((n : ℕ) (ts : List Transaction) (message : List ℕ) → IsDrafting delivery n ts message
     → EndsDraft (HasCome later) n ts old.session.session message (ended_so (Ok tt) moment told))
     → length told ≡ length old.session.session.recipients
@@ -54,10 +57,11 @@ pub whole_message : {D : Type 0} (HasCome : D → ℕ → List Transaction → T
     → Says before after old.outbox new.outbox (reply_texts new.session.site (said second new.session.answers))
     → ((n : ℕ) (ts : List Transaction) (message : List ℕ) → IsDrafting delivery n ts message → number ≡ counted n)
     → ((n : ℕ) (ts : List Transaction) (message : List ℕ) → IsDrafting delivery n ts message → size ≡ counted (length message))
-    → after.told ≡ with_entries before.told (copy_entries number size new.session.session.client (said second new.session.answers))
+    → ((n : ℕ) (ts : List Transaction) (message : List ℕ) → IsDrafting delivery n ts message → id ≡ message_id_of message)
+    → after.told ≡ with_entries before.told (copy_entries number size id new.session.session.client (said second new.session.answers))
     → EndsData HasCome IsDrafting (talk old before delivery) (talk new after later)
-whole_message {D} HasCome IsDrafting old new mid before after delivery later moment told first second number size ended count one two wire same says numbered
-    sized entered =
+whole_message {D} HasCome IsDrafting old new mid before after delivery later moment told first second number size id ended count one two wire same says numbered
+    sized named entered =
     let site : Site = old.session.site in
     let s : Session = old.session.session in
     let session : new.session.session ≡ session_after site s (DataEnded Whole ∷ Outcomes told ∷ []) =
@@ -84,12 +88,13 @@ whole_message {D} HasCome IsDrafting old new mid before after delivery later mom
       };
       fits = count;
       ended = ended;
-      told = λ n ts message h. copies_told number size (counted n) (counted (length message)) new.session.session.client s.client _ _ before.told after.told
-          (numbered n ts message h) (sized n ts message h) client replies entered;
+      told = λ n ts message h. copies_told number size (counted n) (counted (length message)) id (message_id_of message) new.session.session.client s.client _ _ before.told after.told
+          (numbered n ts message h) (sized n ts message h) (named n ts message h) client replies entered;
     }
 
 pub refused_message : {D : Type 0} (HasCome : D → ℕ → List Transaction → Type 0) (IsDrafting : D → ℕ → List Transaction → List ℕ → Type 0)
     (old new : Dialogue) (before after : PeerState) (delivery later : D) (verdict : Verdict) (moment : ℕ) (told : List Outcome) (act : Act) (number size : ℕ)
+    (id : Option (List ℕ))
     → (verdict ≡ Whole → ⊥)
     → ((n : ℕ) (ts : List Transaction) (message : List ℕ) → IsDrafting delivery n ts message
     → EndsDraft (HasCome later) n ts old.session.session message (ended_so (Err verdict) moment told))
@@ -97,12 +102,13 @@ pub refused_message : {D : Type 0} (HasCome : D → ℕ → List Transaction →
     → Says before after old.outbox new.outbox (reply_texts new.session.site (said act new.session.answers))
     → ((n : ℕ) (ts : List Transaction) (message : List ℕ) → IsDrafting delivery n ts message → number ≡ counted n)
     → ((n : ℕ) (ts : List Transaction) (message : List ℕ) → IsDrafting delivery n ts message → size ≡ counted (length message))
-    → after.told ≡ with_entries before.told (copy_entries number size new.session.session.client (said act new.session.answers))
+    → ((n : ℕ) (ts : List Transaction) (message : List ℕ) → IsDrafting delivery n ts message → id ≡ message_id_of message)
+    → after.told ≡ with_entries before.told (copy_entries number size id new.session.session.client (said act new.session.answers))
     → EndsData HasCome IsDrafting (talk old before delivery) (talk new after later)
-refused_message {D} HasCome IsDrafting old new before after delivery later Whole moment told act number size other ended one wire same says numbered sized
-    entered = absurd (other refl)
-refused_message {D} HasCome IsDrafting old new before after delivery later TooLarge moment told act number size other ended one wire same says numbered sized
-    entered = record {
+refused_message {D} HasCome IsDrafting old new before after delivery later Whole moment told act number size id other ended one wire same says numbered
+    sized named entered = absurd (other refl)
+refused_message {D} HasCome IsDrafting old new before after delivery later TooLarge moment told act number size id other ended one wire same says numbered
+    sized named entered = record {
       disposition = ended_so (Err TooLarge) moment told;
       takes = record {
         site = one.site;
@@ -117,13 +123,13 @@ refused_message {D} HasCome IsDrafting old new before after delivery later TooLa
       fits = tt;
       ended = ended;
       told = λ n ts message h.
-          copies_told number size (counted n) (counted (length message)) new.session.session.client old.session.session.client _ _ before.told
-          after.told (numbered n ts message h) (sized n ts message h)
+          copies_told number size (counted n) (counted (length message)) id (message_id_of message) new.session.session.client old.session.session.client _ _ before.told
+          after.told (numbered n ts message h) (sized n ts message h) (named n ts message h)
           (ap (λ (x : Session). x.client) one.next)
           (said_is act (step old.session.site old.session.session (DataEnded TooLarge)) new.session.answers one.fits ∙ sym (append-nil _)) entered;
     }
-refused_message {D} HasCome IsDrafting old new before after delivery later NoRoom moment told act number size other ended one wire same says numbered sized
-    entered = record {
+refused_message {D} HasCome IsDrafting old new before after delivery later NoRoom moment told act number size id other ended one wire same says numbered
+    sized named entered = record {
       disposition = ended_so (Err NoRoom) moment told;
       takes = record {
         site = one.site;
@@ -138,8 +144,8 @@ refused_message {D} HasCome IsDrafting old new before after delivery later NoRoo
       fits = tt;
       ended = ended;
       told = λ n ts message h.
-          copies_told number size (counted n) (counted (length message)) new.session.session.client old.session.session.client _ _ before.told
-          after.told (numbered n ts message h) (sized n ts message h)
+          copies_told number size (counted n) (counted (length message)) id (message_id_of message) new.session.session.client old.session.session.client _ _ before.told
+          after.told (numbered n ts message h) (sized n ts message h) (named n ts message h)
           (ap (λ (x : Session). x.client) one.next)
           (said_is act (step old.session.site old.session.session (DataEnded NoRoom)) new.session.answers one.fits ∙ sym (append-nil _)) entered;
     }

@@ -10,21 +10,22 @@ use Rattle.mail_world.specs.Session.{Session, fresh, Input, Line}
 use Rattle.mail_world.specs.Conversation.{Conversation, Part, CommandLine, MailData, inputs_of, session_after}
 use Rattle.mail_world.specs.Conversation.{replies_to, parts}
 use Rattle.mail_world.specs.Lists.{is_content}
+use Rattle.mail_head.specs.MessageIds.{message_id_of}
 use Rattle.lmtp_talk.specs.declared.ending.EndCause.{EndCause}
 
 -- The reply to a command line, which stands there without its CRLF, and empty where it was too long. The reply for one
--- recipient's copy of a message: the message's number among the lane's accepted DATA commands, its bytes, and the
--- client's name as its last LHLO gave it. The end of a conversation.
+-- recipient's copy of a message: the message's number among the lane's accepted DATA commands, its bytes, its
+-- Message-ID where its head has one, and the client's name as its last LHLO gave it. The end of a conversation.
 pub data Entry : Type 0 where
   OfLine : (line : List ℕ) (reply : Reply) → Entry
-  OfCopy : (number size : ℕ) (client : List ℕ) (reply : Reply) → Entry
+  OfCopy : (number size : ℕ) (message_id : Option (List ℕ)) (client : List ℕ) (reply : Reply) → Entry
   OfEnd : (cause : EndCause) → Entry
 
 abbrev pub line_entries : List ℕ → List Reply → List Entry
 line_entries line rs = map (λ reply. OfLine line reply) rs
 
-abbrev pub copy_entries : ℕ → ℕ → List ℕ → List Reply → List Entry
-copy_entries number size client rs = map (λ reply. OfCopy number size client reply) rs
+abbrev pub copy_entries : ℕ → ℕ → Option (List ℕ) → List ℕ → List Reply → List Entry
+copy_entries number size message_id client rs = map (λ reply. OfCopy number size message_id client reply) rs
 
 -- a line as its entry has it, and the line of an input
 abbrev pub line_kept : List ℕ → List ℕ
@@ -39,7 +40,7 @@ abbrev pub entries_of_part : Site → ℕ → Session → Part → List Entry
 entries_of_part site n session (CommandLine text) =
     line_entries (line_kept text) (replies_to site session (inputs_of (CommandLine text)))
 entries_of_part site n session (MailData text d) =
-    copy_entries (counted n) (counted (length (message text))) session.client
+    copy_entries (counted n) (counted (length (message text))) (message_id_of (message text)) session.client
     (replies_to site session (inputs_of (MailData text d)))
 
 abbrev pub entries_of : Site → ℕ → Session → List Part → List Entry

@@ -6,6 +6,7 @@ use Rattle.mail_world.specs.Replies.{reply_texts}
 use Rattle.mail_world.specs.Conversation.{Disposition, session_after, replies_to, outcomes_of, OutcomesFit}
 use Rattle.mail_world.specs.Lists.{Transaction, is_content}
 use Rattle.mail_world.specs.Site.{Site}
+use Rattle.mail_head.specs.MessageIds.{message_id_of}
 use Rattle.lmtp_wire.specs.Dot.{HasMade}
 use Rattle.lmtp_talk.specs.declared.dialogue.Dialogue.{Dialogue}
 use Rattle.lmtp_talk.specs.Entries.{with_entries, line_entries, copy_entries, line_in}
@@ -29,11 +30,11 @@ TellsLine input dialogue before after = after.told
     ≡ with_entries before.told
     (line_entries (line_in input) (replies_to dialogue.session.site dialogue.session.session (input ∷ [])))
 
--- the log was told an entry for each reply to data that ended, of a message of that number and size
-abbrev pub TellsCopies : ℕ → ℕ → List Input → Dialogue → PeerState → PeerState → Type 0
-TellsCopies number size inputs dialogue before after = after.told
-    ≡ with_entries before.told (copy_entries (counted number) (counted size) dialogue.session.session.client
-    (replies_to dialogue.session.site dialogue.session.session inputs))
+-- the log was told an entry for each reply to data that ended, of this message of that number
+abbrev pub TellsCopies : ℕ → List ℕ → List Input → Dialogue → PeerState → PeerState → Type 0
+TellsCopies number message inputs dialogue before after = after.told
+    ≡ with_entries before.told (copy_entries (counted number) (counted (length message)) (message_id_of message)
+    dialogue.session.session.client (replies_to dialogue.session.site dialogue.session.session inputs))
 
 -- what a conversation is held with, at one moment
 pub record Talk (D : Type 0) : Type 0 where
@@ -72,7 +73,7 @@ pub record EndsData {D : Type 0} (HasCome : D → ℕ → List Transaction → T
   pub ended : (n : ℕ) (ts : List Transaction) (message : List ℕ) → IsDrafting old.delivery n ts message
       → EndsDraft (HasCome new.delivery) n ts old.dialogue.session.session message disposition
   pub told : (n : ℕ) (ts : List Transaction) (message : List ℕ) → IsDrafting old.delivery n ts message
-      → TellsCopies n (length message) (DataEnded disposition.verdict ∷ outcomes_of disposition disposition.verdict)
+      → TellsCopies n message (DataEnded disposition.verdict ∷ outcomes_of disposition disposition.verdict)
       old.dialogue old.peer new.peer
 
 -- wherever the conversation stood before, it stands with these further bytes

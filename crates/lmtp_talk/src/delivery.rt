@@ -1,14 +1,17 @@
 //! What is done with the messages of a conversation.
 
-ghost use Rattle.std.specs.Prelude.{◌≡◌, ◌≢◌, ◌≤◌, ◌<◌, ℕ, ◌+◌, List, [], length, OnOk, IfErr};
+ghost use Rattle.std.specs.Prelude.{◌≡◌, ◌≢◌, ◌≤◌, ◌<◌, ℕ, ◌+◌, List, [], length, OnOk, IfErr, option_map};
 ghost use Rattle.mail_world.specs.declared.Outcome.{Outcome as Told};
 ghost use Rattle.mail_world.specs.Lists.{Transaction};
 ghost use Rattle.mail_world.specs.Counts.{counted};
 ghost use Rattle.mail_world.specs.Site.{Site};
+ghost use Rattle.mail_head.specs.MessageIds.{message_id_of};
+ghost use Rattle.mail_head.specs.Texts.{text_of};
 ghost use Rattle.lmtp_talk.specs.Delivery.{ended_so, Takes, EndsDraft};
 
 use lmtp_session::Session;
 use lmtp_wire::{Dot, Fed};
+use mail_head::MessageId;
 use mail_world::{Outcome, State, Verdict};
 
 /// Takes the messages of conversations, one after the other, and says what became of each.
@@ -50,6 +53,11 @@ pub trait Delivery {
     fn size(&self) -> u64
         ensures { (n : ℕ) (ts : List Transaction) (message : List ℕ) → IsDrafting self.now n ts message
             → result ≡ counted (length message) };
+
+    /// The Message-ID of the message, as far as it has come.
+    fn message_id(&self) -> Option<MessageId>
+        ensures { (n : ℕ) (ts : List Transaction) (message : List ℕ) → IsDrafting self.now n ts message
+            → option_map text_of result ≡ message_id_of message };
 
     /// The conversation has ended inside the data.
     fn cancel(&mut self)

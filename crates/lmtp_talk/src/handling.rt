@@ -11,7 +11,7 @@ ghost use Rattle.lmtp_talk.specs.Steps.{talk, TakesInputs, TellsLine, TakesLine,
 use crate::delivery::Delivery;
 use crate::dialogue::Dialogue;
 use crate::peer::Peer;
-use crate::telling::Asked;
+use crate::telling::{Arrived, Asked};
 use lmtp_session::Act;
 use lmtp_wire::{Dot, Got};
 use mail_world::{State, Verdict};
@@ -158,7 +158,12 @@ fn handle_message<P: Peer, D: Delivery>(dialogue: &mut Dialogue, peer: &mut P, d
 {
     let number = delivery.number();
     let size = delivery.size();
-    let asked = Asked::Message(number, size);
+    let message_id = delivery.message_id();
+    let asked = Asked::Message(Arrived {
+        number,
+        size,
+        message_id,
+    });
     match delivery.end(&dialogue.session) {
         Ok(()) => {
             dialogue.session.data_done(Verdict::Whole);

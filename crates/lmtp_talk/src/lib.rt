@@ -27,4 +27,4 @@ pub use outbox::Outbox;
 pub use pause::Pause;
 pub use peer::{Came, Peer, PeerFault};
 pub use tcp::{Bounds, ClientStream, ReadBuffer, TcpPeer, is_silence};
-pub use telling::Asked;
+pub use telling::{Arrived, Asked};

@@ -1,10 +1,12 @@
 //! The other end of a conversation: bytes come from it and go to it, and it may fail.
 
 ghost use Rattle.std.specs.Prelude.{◌≡◌, ◌<◌, [], ◌∷◌, length, take, IfOk, OnErr};
-ghost use Rattle.lmtp_talk.specs.Entries.{OfLine, OfCopy};
+ghost use Rattle.lmtp_talk.specs.Entries.{OfLine};
 ghost use Rattle.lmtp_talk.specs.Peer.{PeerState, WasRead, HasBrought, HasWritten, PeerFailed, with_told};
+ghost use Rattle.lmtp_talk.specs.Telling.{arrived_entry};
 
 use crate::pause::Pause;
+use crate::telling::Arrived;
 use mail_world::Reply;
 use thiserror::Error;
 
@@ -49,8 +51,8 @@ pub trait Peer {
     fn tell_command(&mut self, line: &[u8], reply: Reply)
         ensures { state self.new ≡ with_told (state self.old) (OfLine line.now reply ∷ []) };
 
-    /// Its log is told the reply for a copy of a message of that number and size, to a client who gave that
-    /// name. The reply waits to be written.
-    fn tell_copy(&mut self, number: u64, size: u64, client: &[u8], reply: Reply)
-        ensures { state self.new ≡ with_told (state self.old) (OfCopy number size client.now reply ∷ []) };
+    /// Its log is told the reply for a copy of that message, to a client who gave that name. The reply waits to be
+    /// written.
+    fn tell_copy(&mut self, arrived: Arrived, client: &[u8], reply: Reply)
+        ensures { state self.new ≡ with_told (state self.old) (arrived_entry arrived client.now reply ∷ []) };
 }

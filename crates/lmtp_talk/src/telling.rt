@@ -7,15 +7,24 @@ ghost use Rattle.lmtp_talk.specs.Telling.{entries_for};
 
 use crate::peer::Peer;
 use lmtp_session::{Act, Session};
+use mail_head::MessageId;
 use mail_world::Reply;
+
+/// A message whose data has ended: its number, its bytes, and its Message-ID where its head has one.
+#[derive(Clone, Copy, Drop)]
+pub struct Arrived {
+    pub number: u64,
+    pub size: u64,
+    pub message_id: Option<MessageId>,
+}
 
 /// What replies answer.
 #[derive(Clone, Copy)]
 pub enum Asked<'a> {
     /// A command line without its end, empty where it was too long.
     Line(&'a [u8]),
-    /// A message whose data has ended: its number, and its bytes.
-    Message(u64, u64),
+    /// A message whose data has ended.
+    Message(Arrived),
 }
 
 /// Tells the log the replies that an act says, for the session that gave it.
@@ -50,6 +59,6 @@ fn tell<P: Peer>(peer: &mut P, session: &Session, asked: Asked<'_>, reply: Reply
 {
     match asked {
         Asked::Line(line) => peer.tell_command(line, reply),
-        Asked::Message(number, size) => peer.tell_copy(number, size, session.client(), reply),
+        Asked::Message(arrived) => peer.tell_copy(arrived, session.client(), reply),
     }
 }

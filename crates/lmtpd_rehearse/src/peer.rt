@@ -2,7 +2,7 @@
 
 ghost use Rattle.std.specs.Prelude.{[], None};
 
-use lmtp_house::{Came, Pause, Peer, PeerFault};
+use lmtp_house::{Arrived, Came, Pause, Peer, PeerFault};
 use mail_world::Reply;
 use std::io::{Read, Write};
 
@@ -56,5 +56,5 @@ impl<R: Read, W: Write> Peer for StreamPeer<R, W> {
     fn tell_command(&mut self, _line: &[u8], _reply: Reply) {}
 
     /// It has no log.
-    fn tell_copy(&mut self, _number: u64, _size: u64, _client: &[u8], _reply: Reply) {}
+    fn tell_copy(&mut self, _arrived: Arrived, _client: &[u8], _reply: Reply) {}
 }

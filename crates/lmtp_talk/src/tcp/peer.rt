@@ -13,6 +13,7 @@ use crate::tcp::drain::close;
 use crate::tcp::read_buffer::ReadBuffer;
 use crate::tcp::retry::{is_silence, write_some};
 use crate::tcp::stream::ClientStream;
+use crate::telling::Arrived;
 use mail_world::Reply;
 use std::io;
 use std::io::{Error, ErrorKind, Read, Write};
@@ -398,5 +399,5 @@ impl<T: Read + Write, E: Curfew> Peer for TcpPeer<T, E> {
     fn tell_command(&mut self, _line: &[u8], _reply: Reply) {}
 
     /// It has no log.
-    fn tell_copy(&mut self, _number: u64, _size: u64, _client: &[u8], _reply: Reply) {}
+    fn tell_copy(&mut self, _arrived: Arrived, _client: &[u8], _reply: Reply) {}
 }

@@ -8,5 +8,5 @@ returns-clause-begins g c n ts h =
     let self = c.args.self.now in (
       more_accepted S.site.message_limit S.May S.ends (ends_of self.exchange) self.accepted c.saturating_add-self.result n ts c.saturating_add-self.ensures h.0,
       h.1,
-      record { long = c.begin.ensures.long; bytes = c.begin.ensures.bytes; rooms = c.begin.ensures.rooms },
+      c.begin.ensures,
     )

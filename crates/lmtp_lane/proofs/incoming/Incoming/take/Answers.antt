@@ -1,5 +1,7 @@
 use Rattle.std.proofs.Common.{ℕ, List, ◌≡◌, ◌++◌, ◌+◌, take, length, ap, sym, ◌∙◌, arith, subst}
 use Rattle.std.proofs.lemmas.List.{length-take}
+use Rattle.std.specs.Prelude.{option_map}
+use Rattle.mail_head.specs.Texts.{text_of}
 use Rattle.lmtp_lane.specs.LaneAccount.{IsComing}
 use Rattle.lmtp_lane.proofs.Coming.{fed_so, put_after}
 use Rattle.lmtp_lane.proofs.incoming.Incoming.take.Goals as goal
@@ -19,6 +21,6 @@ returns-clause-takes g c =
       many = many;
       feeds = λ taken made after. fed_so c.feed-fed.new.self _ _ _ _ fed fed.ended (c.feed-fed.ensures.feeds taken made after);
       drafts = λ n ts message h. c.hand_on.ensures (message ++ text)
-          (subst (λ w. IsComing c.count.new.self.draft w c.count.new.self.size (message ++ text)) stands
+          (subst (λ w. IsComing c.count.new.self.draft w c.count.new.self.size (option_map (λ t. text_of t) c.count.new.self.message_id) (message ++ text)) stands
           (c.count.ensures.comes (take self.held self.room) text message many h));
     }
