@@ -1,3 +1,2 @@
-mod Filled
 mod LineRows
 mod Owing

@@ -1,5 +1,5 @@
 -- Worked rows of the lines that are owed.
-use Rattle.std.proofs.Common.{◌≡◌, [], ◌∷◌, None, codes, refl, false, true}
+use Rattle.std.proofs.Common.{◌≡◌, [], ◌∷◌, Some, None, codes, refl, false, true}
 use Rattle.mail_world.specs.declared.Outcome.TheVariants.{OverQuota}
 use Rattle.mail_world.specs.declared.Reply.TheVariants.{SenderOk, RecipientOk, NoSuchBox, Result}
 use Rattle.mail_world.specs.Replies.{reply_text}
@@ -19,9 +19,9 @@ pub a_letter : lines_owed rules
     (told (OfLine (codes "MAIL FROM:<carl@a.example>") SenderOk)
     ∷ told (OfLine (codes "rcpt TO:<x@mx.example>") NoSuchBox)
     ∷ told (OfLine (codes "RCPT TO:<ben@mx.example>") RecipientOk)
-    ∷ told (OfCopy 17 1234 (codes "relay.example") (Result OverQuota 1)) ∷ [])
+    ∷ told (OfCopy 17 1234 (Some (codes "<1@a>")) (codes "relay.example") (Result OverQuota 1)) ∷ [])
     ≡ Refused 3 (codes "RCPT") (codes "550") None
-    ∷ Answered 7 3 17 (codes "ben") (codes "over-quota") (codes "452") 1234 (codes "relay.example") None
+    ∷ Answered 7 3 17 (codes "ben") (codes "over-quota") (codes "452") 1234 (codes "relay.example") (Some (codes "<1@a>")) None
     ∷ []
 unfolding reply_text
 a_letter = refl

@@ -1,6 +1,7 @@
 -- What becomes of a log's history by one event more.
 use Rattle.std.specs.Prelude.{[], ◌∷◌, ◌++◌, Option, Some, None}
-use Rattle.lmtp_talk.specs.Entries.{Entry, OfLine, OfCopy, OfEnd}
+use Rattle.lmtp_talk.specs.Entries.{Entry, OfLine, OfEnd}
+use Rattle.lmtp_talk.specs.Telling.{arrived_entry}
 use Rattle.lmtpd_log.specs.declared.history.Event.{Event}
 use Rattle.lmtpd_log.specs.declared.history.Event.TheVariants as events
 use Rattle.lmtpd_log.specs.declared.stream.Traffic.{Traffic}
@@ -12,6 +13,6 @@ hears h entry traffic = record h { heard = h.heard ++ record { entry = entry; tr
 
 abbrev pub after : LogHistory → Event → LogHistory
 after h (events.Line line reply) = hears h (OfLine line.now reply) None
-after h (events.Copy number size client reply) = hears h (OfCopy number size client.now reply) None
+after h (events.Copy arrived client reply) = hears h (arrived_entry arrived client.now reply) None
 after h (events.End cause traffic) = hears h (OfEnd cause) (Some traffic)
 after h (events.Shown line) = record h { shown = h.shown ++ line_of line ∷ [] }

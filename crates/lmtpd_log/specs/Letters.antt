@@ -63,5 +63,5 @@ after_copy letter = record letter { recipients = drop 1 letter.recipients }
 
 abbrev pub after_entry : LoggedLetter → Entry → LoggedLetter
 after_entry letter (OfLine line reply) = after_line letter line reply
-after_entry letter (OfCopy number size client reply) = after_copy letter
+after_entry letter (OfCopy number size message_id client reply) = after_copy letter
 after_entry letter (OfEnd cause) = letter

@@ -43,11 +43,11 @@ refused_lines rules line reply =
     let address = if rules.addresses then address_in rules.site.utf8 line else None in
     if is_refusal reply then Refused rules.lane (verb_word line) (code_of rules.site reply) address ∷ [] else []
 
-abbrev pub copy_lines : LineRules → ℕ → ℕ → List ℕ → Reply → Option (List ℕ × List ℕ) → List Line
-copy_lines rules number size client (replies.Result outcome box) envelope =
+abbrev pub copy_lines : LineRules → ℕ → ℕ → Option (List ℕ) → List ℕ → Reply → Option (List ℕ × List ℕ) → List Line
+copy_lines rules number size message_id client (replies.Result outcome box) envelope =
     Answered rules.start rules.lane number (box_name rules.site box) (outcome_word outcome)
-    (code_of rules.site (replies.Result outcome box)) size (take NAME_LIMIT client) envelope ∷ []
-copy_lines rules number size client _ envelope = []
+    (code_of rules.site (replies.Result outcome box)) size (take NAME_LIMIT client) message_id envelope ∷ []
+copy_lines rules number size message_id client _ envelope = []
 
 abbrev pub end_lines : LineRules → EndCause → Traffic → List Line
 end_lines rules cause t = Ended rules.lane t.client (cause_text cause) t.read t.written ∷ []
@@ -55,8 +55,8 @@ end_lines rules cause t = Ended rules.lane t.client (cause_text cause) t.read t.
 -- `letter` is what the log knows of the letter under way, where the lines show addresses
 abbrev pub lines_for_entry : LineRules → Option LoggedLetter → Option Traffic → Entry → List Line
 lines_for_entry rules letter traffic (OfLine line reply) = refused_lines rules line reply
-lines_for_entry rules letter traffic (OfCopy number size client reply) =
-    copy_lines rules number size client reply (option_and_then next_envelope letter)
+lines_for_entry rules letter traffic (OfCopy number size message_id client reply) =
+    copy_lines rules number size message_id client reply (option_and_then next_envelope letter)
 lines_for_entry rules letter traffic (OfEnd cause) = option_map_or (λ t. end_lines rules cause t) traffic []
 
 abbrev pub lines_for : LineRules → Option LoggedLetter → Heard → List Line

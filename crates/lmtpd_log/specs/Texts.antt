@@ -1,13 +1,10 @@
 -- What texts, and what is made of them, say.
-use Rattle.std.specs.Prelude.{ℕ, List, take, map, Option, option_map}
+use Rattle.std.specs.Prelude.{ℕ, List, map, Option, option_map}
+use Rattle.mail_head.specs.Texts.{text_of}
 use Rattle.lmtpd_log.specs.declared.addresses.Addresses.{Addresses}
 use Rattle.lmtpd_log.specs.declared.letter.Letter.{Letter}
 use Rattle.lmtpd_log.specs.declared.pairs.Envelope.{Envelope}
-use Rattle.lmtpd_log.specs.declared.text.Text.{Text}
 use Rattle.lmtpd_log.specs.Letters.{LoggedLetter}
-
-abbrev pub text_of : {N : ℕ} → Text N → List ℕ
-text_of t = take t.size t.bytes
 
 abbrev pub envelope_texts : Envelope → List ℕ × List ℕ
 envelope_texts e = (text_of e.sender, text_of e.recipient)

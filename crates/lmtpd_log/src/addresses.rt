@@ -4,9 +4,9 @@ ghost use Rattle.std.specs.Prelude.{◌≤◌};
 ghost use Rattle.std.specs.VecDeque.{deque_capacity};
 ghost use Rattle.mail_world.specs.declared.limits.TheConstants.{RECIPIENT_LIMIT};
 
-use crate::naming::named_by;
+use crate::naming::{Address, named_by};
 use crate::pairs::Envelope;
-use crate::text::{Address, Text};
+use mail_head::Text;
 use mail_world::Reply;
 use mail_world::limits::RECIPIENT_LIMIT;
 use std::alloc::{AllocError, Global};
@@ -24,7 +24,8 @@ pub(crate) struct Addresses {
 impl Addresses {
     ghost use Rattle.std.specs.Prelude.{◌≡◌, [], IfOk, option_map};
     ghost use Rattle.lmtpd_log.specs.Letters.{after_copy, after_line, next_envelope, no_letter, with_recipient};
-    ghost use Rattle.lmtpd_log.specs.Texts.{envelope_texts, logged_letter, text_of};
+    ghost use Rattle.lmtpd_log.specs.Texts.{envelope_texts, logged_letter};
+    ghost use Rattle.mail_head.specs.Texts.{text_of};
 
     /// Of no letter. No other call takes memory.
     pub(crate) fn new(alloc: Global) -> Result<Addresses, AllocError>

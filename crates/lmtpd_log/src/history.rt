@@ -5,7 +5,7 @@ ghost use Rattle.lmtpd_log.specs.History.{LogHistory};
 
 use crate::pairs::Line;
 use crate::stream::Traffic;
-use lmtp_talk::EndCause;
+use lmtp_talk::{Arrived, EndCause};
 use mail_world::Reply;
 use std::marker::{Brand, Model, PhantomData};
 
@@ -13,7 +13,7 @@ use std::marker::{Brand, Model, PhantomData};
 #[derive(Clone, Copy)]
 pub(crate) enum Event<'a> {
     Line(&'a [u8], Reply),
-    Copy(u64, u64, &'a [u8], Reply),
+    Copy(Arrived, &'a [u8], Reply),
     End(EndCause, Traffic),
     Shown(Line),
 }

@@ -2,10 +2,11 @@
 
 ghost use Rattle.std.specs.Prelude.{◌≡◌, [], ◌∷◌, Bool, IfOk, IfSome, List, Option, length};
 ghost use Rattle.std.specs.List.{AllByRecursion};
-ghost use Rattle.lmtp_talk.specs.Entries.{Entry, OfLine, OfCopy, OfEnd, with_entries};
+ghost use Rattle.lmtp_talk.specs.Entries.{Entry, OfLine, OfEnd, with_entries};
+ghost use Rattle.lmtp_talk.specs.Telling.{arrived_entry};
 
 use crate::stream::Traffic;
-use lmtp_talk::EndCause;
+use lmtp_talk::{Arrived, EndCause};
 use mail_world::Reply;
 use std::alloc::{AllocError, Global};
 
@@ -22,10 +23,9 @@ pub trait LaneLog: Drop {
     fn command(&mut self, line: &[u8], reply: Reply)
         ensures { told self.new ≡ with_entries (told self.old) (OfLine line.now reply ∷ []) };
 
-    /// The reply for a recipient's copy of a message: the message's number in the lane, its bytes, and the client's
-    /// name in its last LHLO.
-    fn copy(&mut self, number: u64, size: u64, client: &[u8], reply: Reply)
-        ensures { told self.new ≡ with_entries (told self.old) (OfCopy number size client.now reply ∷ []) };
+    /// The reply for a recipient's copy of that message, to a client who gave that name in its last LHLO.
+    fn copy(&mut self, arrived: Arrived, client: &[u8], reply: Reply)
+        ensures { told self.new ≡ with_entries (told self.old) (arrived_entry arrived client.now reply ∷ []) };
 
     /// The conversation ended for that cause once that much had come and gone; its replies were written, or never are.
     fn ended(&mut self, cause: EndCause, traffic: Traffic)

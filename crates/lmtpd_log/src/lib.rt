@@ -22,7 +22,6 @@ mod naming;
 mod pairs;
 mod setting;
 mod stream;
-mod text;
 mod verb;
 mod visits;
 mod words;

@@ -16,7 +16,7 @@ use crate::line_sink::LineSink;
 use crate::pairs::{Line, Seconds};
 use crate::setting::LaneSetting;
 use crate::stream::Traffic;
-use lmtp_talk::EndCause;
+use lmtp_talk::{Arrived, EndCause};
 use mail_world::Reply;
 use std::alloc::{AllocError, Global};
 use std::time::{Clock, Duration};
@@ -115,7 +115,8 @@ impl<E: LineSink, C: Clock + Drop> LineLog<E, C> {
 
 impl<E: LineSink, C: Clock + Drop> LaneLog for LineLog<E, C> {
     ghost use Rattle.std.specs.Prelude.{◌∷◌, Some};
-    ghost use Rattle.lmtp_talk.specs.Entries.{OfLine, OfCopy, OfEnd, with_entries};
+    ghost use Rattle.lmtp_talk.specs.Entries.{OfLine, OfEnd, with_entries};
+    ghost use Rattle.lmtp_talk.specs.Telling.{arrived_entry};
     ghost use Rattle.lmtpd_log.specs.Lines.{ShowsForRoom, has_room, heard_by, rules_in, shows_addresses, told_to, waits};
 
     ghost told = { λ log. Some (told_to log) };
@@ -137,9 +138,9 @@ impl<E: LineSink, C: Clock + Drop> LaneLog for LineLog<E, C> {
     }
 
     /// A line for each copy.
-    fn copy(&mut self, number: u64, size: u64, client: &[u8], reply: Reply)
+    fn copy(&mut self, arrived: Arrived, client: &[u8], reply: Reply)
         ensures told { Some (told_to self.new)
-            ≡ with_entries (Some (told_to self.old)) (OfCopy number size client.now reply ∷ []) }
+            ≡ with_entries (Some (told_to self.old)) (arrived_entry arrived client.now reply ∷ []) }
         ensures waits { ShowsForRoom (has_room self.old) (waits self.old)
             (E.shown self.old.sink) (E.shown self.new.sink) }
         ensures rules { rules_in self.new ≡ rules_in self.old }
@@ -149,9 +150,9 @@ impl<E: LineSink, C: Clock + Drop> LaneLog for LineLog<E, C> {
         let envelope = self.letter.copy();
         let made = self
             .setting
-            .answered(number, size, client, reply, seconds, envelope);
+            .answered(arrived, client, reply, seconds, envelope);
         keep(&mut self.waiting, made);
-        self.history.add(Event::Copy(number, size, client, reply));
+        self.history.add(Event::Copy(arrived, client, reply));
     }
 
     /// The last line of a conversation.

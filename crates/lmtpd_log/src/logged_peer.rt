@@ -1,7 +1,7 @@
 //! A client of whose conversation a lane's log is told.
 
 use crate::lane_log::LaneLog;
-use lmtp_talk::{Came, Pause, Peer, PeerFault};
+use lmtp_talk::{Arrived, Came, Pause, Peer, PeerFault};
 use mail_world::Reply;
 
 /// A client, who has the lane's log for the time of its conversation.
@@ -30,7 +30,7 @@ impl<P: Peer, G: LaneLog> Peer for LoggedPeer<P, G> {
         self.log.command(line, reply);
     }
 
-    fn tell_copy(&mut self, number: u64, size: u64, client: &[u8], reply: Reply) {
-        self.log.copy(number, size, client, reply);
+    fn tell_copy(&mut self, arrived: Arrived, client: &[u8], reply: Reply) {
+        self.log.copy(arrived, client, reply);
     }
 }

@@ -1,20 +1,24 @@
-//! The address that a command line names, and how a line of the log shows it.
+//! The address that a command line names, and how a line of the log shows it and a message's id.
 
 ghost use Rattle.std.specs.Prelude.{◌≡◌, take, option_map};
 ghost use Rattle.mail_world.specs.Grammar.{local_text, mailbox_text};
 ghost use Rattle.mail_world.specs.declared.limits.TheConstants.{PATH_LIMIT};
 ghost use Rattle.lmtp_text.specs.Seen.{seen_target};
+ghost use Rattle.mail_head.specs.Texts.{text_of};
 ghost use Rattle.lmtpd_log.specs.Letters.{address_in, named_by};
-ghost use Rattle.lmtpd_log.specs.Shown.{shown_address};
-ghost use Rattle.lmtpd_log.specs.Texts.{text_of};
+ghost use Rattle.lmtpd_log.specs.Shown.{escaped, shown_address};
 
-use crate::text::{Address, Text};
 use lmtp_text::{Command, Extensions, Target, read_command_at};
+use mail_head::Text;
+use mail_world::limits::PATH_LIMIT;
 use percent_encoding::{AsciiSet, CONTROLS, ascii_set, percent_encode};
 use std::fmt;
 use std::fmt::{Display, Formatter};
 
-/// What has an escape in an address, beside what isn't ASCII: with the space it is one word.
+/// The address of a sender or a recipient.
+pub(crate) type Address = Text<PATH_LIMIT>;
+
+/// What has an escape in an address and in an id, beside what isn't ASCII: with the space it is one word.
 pub const ESCAPED: AsciiSet = ascii_set!(CONTROLS.add(b' '));
 
 /// The address that a command line names, where it is one of MAIL or RCPT that can be read. A size that MAIL says is
@@ -72,6 +76,20 @@ fn local_address(local: &[u8], quoted: bool) -> Address
         address
     } else {
         Text::of(local)
+    }
+}
+
+/// A message's id as a line shows it.
+#[derive(Clone, Copy, Drop)]
+pub(crate) struct Escaped<'a>(pub &'a [u8]);
+
+impl Display for Escaped<'_> {
+    ghost use Rattle.std.specs.Prelude.{Some};
+
+    ghost output = { λ shown. Some (escaped shown.0.now) };
+
+    fn fmt<W: fmt::Write>(&self, f: &mut Formatter<W>) -> fmt::Result {
+        f.write(&percent_encode(self.0, ESCAPED))
     }
 }
 

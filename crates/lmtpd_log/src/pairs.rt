@@ -1,11 +1,11 @@
 //! The lines of a lane's log: what each begins with, and its pairs in their order.
 
-use crate::naming::Shown;
-use crate::text::{Address, Text};
+use crate::naming::{Address, Escaped, Shown};
 use crate::words::{cause_text, outcome_word};
 use lmtp_lane::Client;
 use lmtp_talk::EndCause;
 use log::kv::{Error, Source, ToValue, Value, VisitSource};
+use mail_head::{MessageId, Text};
 use mail_world::Outcome;
 use mail_world::limits::{BOX_NAME_LIMIT, NAME_LIMIT};
 use std::fmt;
@@ -54,6 +54,8 @@ pub struct CopyLine {
     pub bytes: u64,
     pub seconds: Seconds,
     pub client: Text<NAME_LIMIT>,
+    /// Where the message's head has one.
+    pub message_id: Option<MessageId>,
     /// Where the lines show addresses.
     pub envelope: Option<Envelope>,
 }
@@ -72,6 +74,14 @@ impl CopyLine {
         visitor.visit_pair("outcome", outcome_word(self.outcome).to_value())?;
         visitor.visit_pair("code", shown(&self.code).to_value())
     }
+
+    // The message's id, where its head has one.
+    fn visit_id<V: VisitSource>(&self, visitor: &mut V) -> Result<(), Error> {
+        match &self.message_id {
+            Some(id) => visitor.visit_pair("message-id", Value::Display(&Escaped(id.text()))),
+            None => Ok(()),
+        }
+    }
 }
 
 impl Source for CopyLine {
@@ -81,6 +91,7 @@ impl Source for CopyLine {
         visitor.visit_pair("bytes", self.bytes.to_value())?;
         visitor.visit_pair("seconds", Value::Display(&self.seconds))?;
         visitor.visit_pair("client", shown(&self.client).to_value())?;
+        self.visit_id(visitor)?;
         self.envelope.visit(visitor)
     }
 }

@@ -1,13 +1,13 @@
 //! What all lines of a lane have in common, and the lines that are made with it.
 
-use crate::naming::address_in;
+use crate::naming::{Address, address_in};
 use crate::pairs::{CopyLine, EndLine, Envelope, Id, Line, RefusedLine, Seconds};
 use crate::stream::Traffic;
-use crate::text::{Address, Text};
 use crate::verb::verb_of;
 use crate::words::is_refusal;
-use lmtp_talk::EndCause;
+use lmtp_talk::{Arrived, EndCause};
 use lmtp_text::{REPLY_LIMIT, Site, write_reply};
+use mail_head::Text;
 use mail_world::Reply;
 use std::sync::Arc;
 
@@ -31,7 +31,8 @@ impl LaneSetting {
     ghost use Rattle.lmtpd_log.specs.Letters.{address_in};
     ghost use Rattle.lmtpd_log.specs.Owed.{code_of, copy_lines, end_lines, refused_lines};
     ghost use Rattle.lmtpd_log.specs.Rules.{lines_in, rules_of};
-    ghost use Rattle.lmtpd_log.specs.Texts.{envelope_texts, text_of};
+    ghost use Rattle.lmtpd_log.specs.Texts.{envelope_texts};
+    ghost use Rattle.mail_head.specs.Texts.{text_of};
 
     /// The line for a reply to a command line, where it refuses one.
     pub(crate) fn refused(&self, line: &[u8], reply: Reply) -> Option<Line>
@@ -55,15 +56,15 @@ impl LaneSetting {
     /// The line for the reply for a copy.
     pub(crate) fn answered(
         &self,
-        number: u64,
-        size: u64,
+        arrived: Arrived,
         client: &[u8],
         reply: Reply,
         seconds: Seconds,
         envelope: Option<Envelope>,
     ) -> Option<Line>
-        ensures { lines_in result ≡ (if self.now.is_on then copy_lines (rules_of self.now) number size client.now reply
-            (option_map envelope_texts envelope) else []) }
+        ensures { lines_in result ≡ (if self.now.is_on then copy_lines (rules_of self.now) arrived.number arrived.size
+            (option_map (λ id. text_of id) arrived.message_id) client.now reply (option_map envelope_texts envelope)
+            else []) }
     {
         if !self.is_on {
             return None;
@@ -73,14 +74,15 @@ impl LaneSetting {
                 id: Id {
                     start: self.start,
                     lane: self.lane,
-                    number,
+                    number: arrived.number,
                 },
                 mailbox: Text::of(self.site.box_name(mailbox)),
                 outcome,
                 code: self.code(reply),
-                bytes: size,
+                bytes: arrived.size,
                 seconds,
                 client: Text::of(client),
+                message_id: arrived.message_id,
                 envelope,
             })),
             _ => None,

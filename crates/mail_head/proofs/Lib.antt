@@ -1,4 +1,4 @@
-mod Filled
+pub mod Filled
 mod Blanks
 mod Lines
 mod GoingOn

@@ -43,7 +43,7 @@ abbrev pub after_colon : List ℕ → Option (List ℕ)
 after_colon text =
     let rest = after_blanks text in if begins (byte ":") rest then Some (drop 1 rest) else None
 
--- what a line has of the value of the field that it begins, where that is a Message-ID, whatever the case of the letters
+-- what a line has of the value of the field that it begins, where that is a Message-ID, in letters of any case
 abbrev pub name : List ℕ
 name = codes "Message-ID"
 

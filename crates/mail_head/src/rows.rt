@@ -6,7 +6,8 @@ ghost use Rattle.mail_head.specs.MessageIds.{message_id_of};
 /// The ids that heads have.
 pub fn message_ids()
     ensures one { message_id_of (codes "Subject: hi\r\nMessage-ID: <a@b>\r\n\r\nhello\r\n") ≡ Some (codes "<a@b>") }
-    ensures first_of_two { message_id_of (codes "Message-ID: <a@b>\r\nMessage-ID: <c@d>\r\n\r\n") ≡ Some (codes "<a@b>") }
+    ensures first_of_two { message_id_of (codes "Message-ID: <a@b>\r\nMessage-ID: <c@d>\r\n\r\n")
+        ≡ Some (codes "<a@b>") }
     ensures other_case { message_id_of (codes "message-id :  <a@b> \r\n\r\n") ≡ Some (codes "<a@b>") }
     ensures tabs { message_id_of (codes "MESSAGE-ID\t:\t<a@b>\t\r\n\r\n") ≡ Some (codes "<a@b>") }
     ensures no_body { message_id_of (codes "Message-ID: <a@b>\r\n") ≡ Some (codes "<a@b>") }
@@ -49,5 +50,6 @@ pub fn no_ids()
 pub fn last_bytes()
     ensures cut { message_id_of (codes "To: " ++ replicate 4072 120 ++ codes "\r\nMessage-ID: <abcdefg@h>\r\n\r\n")
         ≡ Some (codes "<abcde") }
-    ensures too_late { message_id_of (codes "To: " ++ replicate 4090 120 ++ codes "\r\nMessage-ID: <a@b>\r\n\r\n") ≡ None }
+    ensures too_late { message_id_of (codes "To: " ++ replicate 4090 120 ++ codes "\r\nMessage-ID: <a@b>\r\n\r\n")
+        ≡ None }
 {}

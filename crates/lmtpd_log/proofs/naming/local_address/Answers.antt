@@ -1,7 +1,7 @@
 use Rattle.std.proofs.Common.{codes}
 use Rattle.mail_world.specs.declared.limits.TheConstants.{PATH_LIMIT}
-use Rattle.lmtpd_log.specs.Texts.{text_of}
-use Rattle.lmtpd_log.proofs.Filled.{with_two}
+use Rattle.mail_head.specs.Texts.{text_of}
+use Rattle.mail_head.proofs.Filled.{with_two}
 use Rattle.lmtpd_log.proofs.naming.local_address.Goals as goal
 
 pub returns-then-quoted : goal.returns-then-quoted

@@ -1,8 +1,8 @@
 use Rattle.std.proofs.Common.{codes}
 use Rattle.mail_world.specs.Grammar.{local_text}
 use Rattle.mail_world.specs.declared.limits.TheConstants.{PATH_LIMIT}
-use Rattle.lmtpd_log.specs.Texts.{text_of}
-use Rattle.lmtpd_log.proofs.Filled.{with_two}
+use Rattle.mail_head.specs.Texts.{text_of}
+use Rattle.mail_head.proofs.Filled.{with_two}
 use Rattle.lmtpd_log.proofs.naming.recipient_address.Goals as goal
 
 pub returns-in-Some : goal.returns-in-Some

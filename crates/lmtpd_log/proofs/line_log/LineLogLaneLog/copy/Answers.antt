@@ -1,5 +1,6 @@
-use Rattle.std.proofs.Common.{◌++◌, ◌∙◌, [], ℕ, List, Option, None, ap, cond, refl, sym}
-use Rattle.lmtp_talk.specs.Entries.{OfCopy}
+use Rattle.std.proofs.Common.{◌++◌, ◌∙◌, [], ℕ, List, Option, None, ap, cond, option_map, refl, sym}
+use Rattle.mail_head.specs.Texts.{text_of}
+use Rattle.lmtp_talk.specs.Telling.{arrived_entry}
 use Rattle.lmtpd_log.specs.Letters.{first_letter}
 use Rattle.lmtpd_log.specs.Line.{Line}
 use Rattle.lmtpd_log.specs.Owed.{Heard, copy_lines, letter_after, lines_owed}
@@ -16,9 +17,10 @@ invariant_of-self g c =
     let heard = log.history.list.heard in
     let first = first_letter rules.addresses in
     let client = c.args.client.now in
-    let h : Heard = record { entry = OfCopy c.args.number c.args.size client c.args.reply; traffic = None } in
+    let h : Heard = record { entry = arrived_entry c.args.arrived client c.args.reply; traffic = None } in
+    let id = option_map (λ id. text_of id) c.args.arrived.message_id in
     let copied : Option (List ℕ × List ℕ) → List Line =
-    λ e. cond rules.is_on (copy_lines rules c.args.number c.args.size client c.args.reply e) [] in
+    λ e. cond rules.is_on (copy_lines rules c.args.arrived.number c.args.arrived.size id client c.args.reply e) [] in
     let waits = lines_of log.waiting.items in
     record {
       room = c.keep.ensures.capacity ∙ log.room;

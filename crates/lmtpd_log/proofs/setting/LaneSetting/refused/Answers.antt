@@ -6,7 +6,7 @@ use Rattle.lmtpd_log.specs.Letters.{address_in}
 use Rattle.lmtpd_log.specs.Line.{Line, Refused}
 use Rattle.lmtpd_log.specs.Owed.{code_of, refused_lines}
 use Rattle.lmtpd_log.specs.Rules.{rules_of}
-use Rattle.lmtpd_log.specs.Texts.{text_of}
+use Rattle.mail_head.specs.Texts.{text_of}
 use Rattle.lmtpd_log.specs.Verbs.{ends_word, known_verb, verb_among, verb_word, verbs, without_white_space}
 use Rattle.lmtpd_log.proofs.setting.LaneSetting.refused.Goals as goal
 

@@ -1,8 +1,0 @@
-use Rattle.std.proofs.Common.{arith}
-use Rattle.lmtpd_log.proofs.Filled.{filled}
-use Rattle.lmtpd_log.proofs.text.Text.add.Goals as goal
-
-pub returns : goal.returns
-returns g c =
-    filled g.row.N c.args.self.now.size c.min-count.result _ c.args.self.now.bytes c.args.text.now
-    c.copy_from_slice.new.self (omega arith) (omega arith) (omega arith) c.copy_from_slice.ensures.after
