@@ -240,6 +240,7 @@ HEADS = [
     (["Message-ID: <1@a.example> code=250 mailbox=ben"], " message-id=<1@a.example>%20code=250%20mailbox=ben"),
     (["Message-ID: \x1b[2K<ü@a.example>"], " message-id=%1B[2K<%C3%BC@a.example>"),
     (["Message-ID: " + "x" * 300], " message-id=" + "x" * 250),
+    (["Message-ID: " + "ü" * 150], " message-id=" + "%C3%BC" * 125),
     (["Message-ID:"], " message-id="),
     (["X-Message-ID: <1@a.example>", "Message-IDs: <2@a.example>"], ""),
     (["Subject: a secret", " Message-ID: <1@a.example>"], ""),
