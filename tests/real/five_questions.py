@@ -58,11 +58,14 @@ def said(there, command):
 
 
 def it_arrived(there):
-    """The letter of the ten lines."""
-    logged, found = commands("Did it arrive?")
+    """The letter of the ten lines, in the server's log, in the mailbox, and by its Message-ID in both logs."""
+    logged, found, in_both = commands("Did it arrive?")
     (line,) = [line for line in said(there, logged).splitlines() if "copy answered" in line]
     number = re.search(r" id=\d{16}-(\d+-\d+) mailbox=anna outcome=stored code=250 bytes=\d+ ", line)[1]
     assert re.fullmatch(rf"\d+:\s+by mx\.example with LMTP id {number};\n", said(there, found.replace("2-17", number)))
+    name = re.search(r" message-id=(<\S+>)$", line)[1]
+    lines = said(there, re.sub("<.*>", lambda _: re.escape(name), in_both)).splitlines()
+    assert any("postfix/cleanup" in line for line in lines) and any("copy answered" in line for line in lines), lines
 
 
 def it_was_refused(there):

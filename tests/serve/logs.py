@@ -11,7 +11,7 @@ from cases import case, equal
 from clients import Client, deliver_one
 from files import give_room, of_size
 from replies import CLOSING, GO_AHEAD, GREETING, OFFER, RECIPIENT_OK, SENDER_OK, as_bytes
-from replies import not_stored, over_quota, stored
+from replies import no_room, not_stored, over_quota, stored, too_large
 from server import Server, run, start, words
 
 LINE = re.compile(
@@ -228,6 +228,65 @@ def addresses_in_utf8_are_escaped(folder):
             equal(client.ask("MAIL FROM:<jürgen@a.example>")[:3], "501")
             client.quit()
         equal(server.end().errors[0], "[INFO  lmtpd] command refused lane=0 verb=MAIL code=501")
+
+
+# The head of a letter, and how the line of its copy ends.
+HEADS = [
+    (["Message-ID: <1@a.example>", "Subject: a secret"], " message-id=<1@a.example>"),
+    (["Subject: a secret"], ""),
+    (["Subject: a secret", "message-id :\t<1@a.example> "], " message-id=<1@a.example>"),
+    (["Message-ID:", " <1@a.", "\texample>", "Subject: a secret"], " message-id=<1@a.example>"),
+    (["Message-ID: <1@a.example>", "Message-ID: <2@a.example>"], " message-id=<1@a.example>"),
+    (["Message-ID: <1@a.example> code=250 mailbox=ben"], " message-id=<1@a.example>%20code=250%20mailbox=ben"),
+    (["Message-ID: \x1b[2K<ü@a.example>"], " message-id=%1B[2K<%C3%BC@a.example>"),
+    (["Message-ID: " + "x" * 300], " message-id=" + "x" * 250),
+    (["Message-ID: " + "ü" * 150], " message-id=" + "%C3%BC" * 125),
+    (["Message-ID:"], " message-id="),
+    (["X-Message-ID: <1@a.example>", "Message-IDs: <2@a.example>"], ""),
+    (["Subject: a secret", " Message-ID: <1@a.example>"], ""),
+    (["Subject: a secret", "", "Message-ID: <1@a.example>"], ""),
+    (["", "Message-ID: <1@a.example>"], ""),
+    # the first line has 3,911 bytes, and the name of the second 12, which leaves 173 of 4,096
+    (["Subject: " + "x" * 3_900, "Message-ID: <" + "x" * 200 + ">"], " message-id=<" + "x" * 172),
+    (["Subject: " + "x" * 900] * 5 + ["Message-ID: <1@a.example>"], ""),
+]
+
+
+@case
+def message_ids_are_logged(folder):
+    """a copy's line ends with the letter's Message-ID, where its head has one: the first such field of the first 4,096
+    bytes, in any case of its name, without line ends and blanks around it, as one word of 250 bytes at most"""
+    with Server(folder, ["anna"], 1, "--lanes", 1, "--log", "info") as server:
+        with Client(server.address).greet() as client:
+            for head, _ in HEADS:
+                equal(client.deliver(["anna"], *head, "", "Message-ID: <body@a.example>")[1], [stored("anna")])
+            client.quit()
+        ended = server.end()
+    logged = [line.split(" client=relay.example")[1] for line in ended.errors[:-1]]
+    equal(logged, [ends for _, ends in HEADS])
+
+
+@case
+def message_ids_of_refused_copies_are_logged(folder):
+    """a letter that is too large, over the quota, or has no room, and one for two mailboxes have their Message-ID in
+    each line, before the addresses where these are shown"""
+    given = ["--lanes", 1, "--message-limit", 65_536, "--blocks", 8, "--quota", 9_000, "--log", "info"]
+    with Server(folder, ["anna", "ben"], 1, *given, "--log-addresses") as server:
+        with Client(server.address).greet() as client:
+            said = [("large", 70_000, too_large), ("waits", 40_000, no_room), ("much", 10_000, over_quota)]
+            for name, size, reply in [*said, ("both", 10, stored)]:
+                head = [f"Message-ID: <{name}@a.example>", ""]
+                recipients = ["anna", "ben"] if reply == stored else ["anna"]
+                # in lines that a message may have
+                lines = ["x" * 990] * (size // 992) + ["x" * (size % 992)]
+                equal(client.deliver(recipients, *head, *lines)[1], [reply(name) for name in recipients])
+            client.quit()
+        ended = server.end()
+    copies = [line for line in ended.errors if "copy answered" in line]
+    expected = [("large", "anna"), ("waits", "anna"), ("much", "anna"), ("both", "anna"), ("both", "ben")]
+    expected = [(f"<{name}@a.example>", f"<{box}@mx.example>") for name, box in expected]
+    shown = [re.search(r" message-id=(\S+) sender=<carl@a\.example> recipient=(\S+)$", line) for line in copies]
+    equal([found and found.groups() for found in shown], expected)
 
 
 def varies(line):
