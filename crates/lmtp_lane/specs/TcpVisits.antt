@@ -22,9 +22,9 @@ bounds_each v = v.bounds
 abbrev pub conversations_ended : {L E : Type 0} → TcpVisits L E → ℕ
 conversations_ended v = v.ended
 
--- what it tells: how many conversations have ended, and none of them; it has no log
+-- what it tells: how many conversations have ended, and none of them
 abbrev pub told_by : {L E : Type 0} → TcpVisits L E → VisitsTold
-told_by v = record { each = None; count = v.ended; log = None }
+told_by v = record { each = None; count = v.ended }
 
 -- a client who has done nothing yet
 abbrev pub IsNewcomer : PeerState → Type 0

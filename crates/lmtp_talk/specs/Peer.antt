@@ -2,13 +2,12 @@
 use Rattle.std.specs.Prelude.{◌≡◌, ◌≤◌, ◌⊎◌, ℕ, ◌+◌, ◌-◌, ◌^◌, List, [], length, take, Option}
 use Rattle.std.specs.Io.KnownBytes.{Appends, Consumes, IsAtEnd}
 use Rattle.mail_world.specs.Failures.{Rises}
-use Rattle.lmtp_talk.specs.Entries.{Entry, with_entries}
 use Rattle.lmtp_talk.specs.declared.peer.Came.{Came}
 use Rattle.lmtp_talk.specs.declared.peer.Came.TheVariants.{Bytes, End, Stop}
 
 -- the bytes that were read of it, those that are still to come and those that it was given, each where it tells; how
 -- often it was read, which stays at its largest value; how often it failed; how often it said that the server is to
--- stop; the names of the borrows that it holds; what its log was told of the conversation, where it tells
+-- stop; the names of the borrows that it holds
 pub record PeerState : Type 0 where
   pub read : Option (List ℕ)
   pub unread : Option (List ℕ)
@@ -17,7 +16,6 @@ pub record PeerState : Type 0 where
   pub failures : ℕ
   pub stops : ℕ
   pub holds : List ℕ
-  pub told : Option (List Entry)
 
 -- these bytes were read and those were written
 pub record HasMoved (old new : PeerState) (came said : List ℕ) : Type 0 where
@@ -26,30 +24,23 @@ pub record HasMoved (old new : PeerState) (came said : List ℕ) : Type 0 where
   pub written : Appends old.written new.written said
   pub still : new.holds ≡ old.holds
 
--- the same, and nothing failed, and the log was told nothing
+-- the same, and nothing failed
 pub record HasTransferred (old new : PeerState) (came said : List ℕ) : Type 0 where
   pub moved : HasMoved old new came said
   pub sound : new.failures ≡ old.failures
   pub same : new.stops ≡ old.stops
-  pub untold : new.told ≡ old.told
 
--- nothing was read, written or told, and it failed
+-- nothing was read or written, and it failed
 pub record PeerFailed (old new : PeerState) : Type 0 where
   pub moved : HasMoved old new [] []
   pub failed : Rises old.failures new.failures
   pub same : new.stops ≡ old.stops
-  pub untold : new.told ≡ old.told
 
--- nothing was read, written or told, and it said that the server is to stop
+-- nothing was read or written, and it said that the server is to stop
 pub record HasStopped (old new : PeerState) : Type 0 where
   pub moved : HasMoved old new [] []
   pub sound : new.failures ≡ old.failures
   pub stopped : Rises old.stops new.stops
-  pub untold : new.told ≡ old.told
-
--- the log was told these further entries, and nothing else happened
-abbrev pub with_told : PeerState → List Entry → PeerState
-with_told peer more = record peer { told = with_entries peer.told more }
 
 -- a count that stops at 2^64 - 1 went up that often
 abbrev pub RisesBy : ℕ → ℕ → ℕ → Type 0

@@ -1,5 +1,5 @@
 -- What contracts see of a client over a stream.
-use Rattle.std.specs.Prelude.{◌≡◌, ◌-◌, ◌<◌, ◌⊎◌, ℕ, true, false, List, [], Result, length, Option, None, Some, Ok}
+use Rattle.std.specs.Prelude.{◌≡◌, ◌-◌, ◌+◌, ◌<◌, ◌⊎◌, ℕ, true, false, List, [], Result, length, Option, None, Some, Ok}
 use Rattle.std.specs.Arc.{arc_value}
 use Rattle.std.specs.Duration.{as_nanos}
 use Rattle.std.specs.declared.time.Duration.{Duration}
@@ -26,7 +26,6 @@ tcp_state remaining p = record {
   failures = p.failures;
   stops = p.stops;
   holds = [];
-  told = None;
 }
 
 -- something waits, and nothing was handed out; or nothing came, and what the client did is so
@@ -68,17 +67,28 @@ pub record TakesRead {T E F : Type 0} (IsAsked : E → Type 0) (IsOver : E → �
       → (old.had_mail ≡ true) ⊎ (IsAsked (arc_value old.curfew) × (is_at_rest pause ≡ true))
   pub untouched : (old.reads_left ≡ 0) ⊎ (0 < length (waiting old.buffer)) → new.stream ≡ old.stream
 
+-- how many bytes a read handed out, and how many the stream was read for it: what it handed out and what waits now,
+-- without what waited before
+abbrev pub handed : {F : Type 0} → Result Came F → ℕ
+handed (Ok (Bytes n)) = n
+handed _ = 0
+
+abbrev pub brought : {T E F : Type 0} → TcpPeer T E → TcpPeer T E → Result Came F → ℕ
+brought old new result = (handed result + length (waiting new.buffer)) - length (waiting old.buffer)
+
 -- how many nanoseconds a client has been written to after its conversation was over
 abbrev pub time_over : Option Duration → Duration → ℕ
 time_over None now = 0
 time_over (Some since) now = as_nanos now - as_nanos since
 
--- nothing was read of it, and as many reads may be made, and as many waits may bring nothing, as its bounds say
+-- nothing was read of it or written to it, and as many reads may be made, and as many waits may bring nothing, as its bounds say
 pub record IsNew {T E : Type 0} (bounds : Bounds) (peer : TcpPeer T E) : Type 0 where
   pub reads_left : peer.reads_left ≡ bounds.reads
   pub waits : peer.waits ≡ bounds.waits
   pub unread : waiting peer.buffer ≡ []
   pub no_mail : peer.had_mail ≡ false
+  pub none_read : peer.bytes_read ≡ 0
+  pub none_written : peer.bytes_written ≡ 0
   pub none_made : peer.reads ≡ 0
   pub failures : peer.failures ≡ 0
   pub stops : peer.stops ≡ 0

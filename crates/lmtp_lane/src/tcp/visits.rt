@@ -5,7 +5,7 @@ ghost use Rattle.std.specs.Arc.{arc_value};
 
 use crate::tcp::listener::Listener;
 use crate::visits::Visits;
-use lmtp_talk::{Bounds, ClientStream, Curfew, EndCause, ReadBuffer, TcpPeer, is_silence};
+use lmtp_talk::{Bounds, Client, ClientStream, Curfew, EndCause, ReadBuffer, TcpPeer, is_silence};
 use std::io;
 use std::io::{ErrorKind, Read, Write};
 use std::sync::{Arc, Wait};
@@ -96,10 +96,10 @@ where
             return None;
         }
         match self.accept(rt) {
-            Ok(Some((stream, curfew))) => {
+            Ok(Some((stream, client, curfew))) => {
                 self.connections -= 1;
                 let buffer = self.buffer.take().unwrap();
-                Some(TcpPeer::new(stream, buffer, self.bounds, curfew))
+                Some(TcpPeer::new(stream, client, buffer, self.bounds, curfew))
             }
             Ok(None) => {
                 self.stopped = true;
@@ -113,7 +113,7 @@ where
     }
 
     // The next client that is still there, or none once the server's end is asked for.
-    fn accept<R: Wait>(&self, rt: &R) -> io::Result<Option<(L::Stream, Arc<E>)>>
+    fn accept<R: Wait>(&self, rt: &R) -> io::Result<Option<(L::Stream, Client, Arc<E>)>>
         ensures { result ≡ Ok None → E.IsAsked (arc_value self.now.curfew) }
     {
         for _ in rt.forever() {
@@ -121,13 +121,13 @@ where
                 return Ok(None);
             }
             match self.listener.accept() {
-                Ok((stream, _)) => {
+                Ok((stream, client)) => {
                     stream.set_read_timeout(Duration::from_millis(WAIT_MS))?;
                     stream.set_write_timeout(Duration::from_millis(WAIT_MS))?;
                     let Ok(curfew) = Arc::try_clone(&self.curfew) else {
                         return Err(io::Error::from(ErrorKind::OutOfMemory));
                     };
-                    return Ok(Some((stream, curfew)));
+                    return Ok(Some((stream, client, curfew)));
                 }
                 Err(error) if error.kind() == ErrorKind::ConnectionAborted => {}
                 Err(error) if is_silence(&error) => {}

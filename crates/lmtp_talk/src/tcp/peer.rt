@@ -4,6 +4,7 @@ ghost use Rattle.std.specs.Prelude.{◌≡◌, ◌<◌, [], false, length, Ok, I
 ghost use Rattle.std.specs.Arc.{arc_value};
 ghost use Rattle.std.specs.Duration.{as_nanos};
 
+use crate::client::{Client, Traffic};
 use crate::curfew::{Curfew, has_passed};
 use crate::ending::EndCause;
 use crate::pause::Pause;
@@ -13,8 +14,6 @@ use crate::tcp::drain::close;
 use crate::tcp::read_buffer::ReadBuffer;
 use crate::tcp::retry::{is_silence, write_some};
 use crate::tcp::stream::ClientStream;
-use crate::telling::Arrived;
-use mail_world::Reply;
 use std::io;
 use std::io::{Error, ErrorKind, Read, Write};
 use std::sync::Arc;
@@ -40,6 +39,7 @@ pub struct TcpPeer<T, E: Drop> {
     stream: T,
     buffer: ReadBuffer,
     curfew: Arc<E>,
+    client: Client,
     // when the conversation began
     begun: Duration,
     // how many waits may bring nothing
@@ -52,7 +52,10 @@ pub struct TcpPeer<T, E: Drop> {
     had_mail: bool,
     // when it was first to be written to after its conversation was over
     over_since: Option<Duration>,
-    // each stays at its largest value
+    // the bytes that reads of the stream brought, and that its writes took; each count stays at its largest value
+    bytes_read: u64,
+    bytes_written: u64,
+    // how often it was read, failed and said stop, likewise
     reads: u64,
     failures: u64,
     stops: u64,
@@ -62,9 +65,16 @@ impl<T, E: Curfew> TcpPeer<T, E> {
     ghost use Rattle.lmtp_talk.specs.TcpPeer.{IsNew};
 
     /// A client whose conversation begins now, within these bounds.
-    pub fn new(stream: T, mut buffer: ReadBuffer, bounds: Bounds, curfew: Arc<E>) -> TcpPeer<T, E>
+    pub fn new(
+        stream: T,
+        client: Client,
+        mut buffer: ReadBuffer,
+        bounds: Bounds,
+        curfew: Arc<E>,
+    ) -> TcpPeer<T, E>
         ensures fresh { IsNew bounds result }
         ensures stream { result.stream ≡ stream }
+        ensures client { result.client ≡ client }
     {
         buffer.clear();
         let begun = curfew.moment();
@@ -72,23 +82,19 @@ impl<T, E: Curfew> TcpPeer<T, E> {
             stream,
             buffer,
             curfew,
+            client,
             begun,
             waits: bounds.waits,
             reads_left: bounds.reads,
             heard: begun,
             had_mail: false,
             over_since: None,
+            bytes_read: 0,
+            bytes_written: 0,
             reads: 0,
             failures: 0,
             stops: 0,
         }
-    }
-
-    /// The stream that its bytes come and go over.
-    pub fn stream(&self) -> &T
-        ensures { result.now ≡ self.now.stream }
-    {
-        &self.stream
     }
 }
 
@@ -200,10 +206,35 @@ enum Waited {
     Over,
 }
 
+impl<T: Read, E: Drop> TcpPeer<T, E> {
+    ghost use Rattle.std.specs.Prelude.{MatchResult};
+    ghost use Rattle.lmtp_talk.specs.Peer.{RisesBy};
+    ghost use Rattle.lmtp_talk.specs.ReadBuffer.{waiting, Refills};
+
+    // Reads the stream once, where nothing waits, and counts what it brings.
+    fn refill(&mut self) -> io::Result<usize>
+        requires { waiting self.old.buffer ≡ [] }
+        ensures fills { Refills (T.remaining self.old.stream) (T.remaining self.new.stream) result
+            (waiting self.new.buffer) }
+        ensures counts { MatchResult result
+            (λ n. RisesBy n self.old.bytes_read self.new.bytes_read)
+            (λ _. self.new.bytes_read ≡ self.old.bytes_read) }
+        ensures same { self.new ≡ record self.old {
+          stream = self.new.stream;
+          buffer = self.new.buffer;
+          bytes_read = self.new.bytes_read;
+        } }
+    {
+        let size = self.buffer.refill(&mut self.stream)?;
+        self.bytes_read = self.bytes_read.saturating_add(size as u64);
+        Ok(size)
+    }
+}
+
 impl<T: Read, E: Curfew> TcpPeer<T, E> {
-    ghost use Rattle.std.specs.Prelude.{IfSome, Some, None, ◌⊎◌};
+    ghost use Rattle.std.specs.Prelude.{IfSome, Some, None, ◌⊎◌, ◌-◌};
     ghost use Rattle.mail_world.specs.Failures.{Rises};
-    ghost use Rattle.lmtp_talk.specs.Peer.{PeerFailed};
+    ghost use Rattle.lmtp_talk.specs.Peer.{PeerFailed, RisesBy};
     ghost use Rattle.lmtp_talk.specs.ReadBuffer.{waiting};
     ghost use Rattle.lmtp_talk.specs.TcpPeer.{Fills, WaitedFor, tcp_state};
 
@@ -214,9 +245,11 @@ impl<T: Read, E: Curfew> TcpPeer<T, E> {
         ensures over { result ≡ Ok Waited.Over → E.IsOver (arc_value self.old.curfew) (as_nanos self.old.begun) }
         ensures silent { result ≡ Ok Waited.Silent → waiting self.new.buffer ≡ [] }
         ensures err { OnErr result (PeerFailed (tcp_state T.remaining self.old) (tcp_state T.remaining self.new)) }
+        ensures counts { RisesBy (length (waiting self.new.buffer)) self.old.bytes_read self.new.bytes_read }
         ensures bounds { self.new ≡ record self.old {
           stream = self.new.stream;
           buffer = self.new.buffer;
+          bytes_read = self.new.bytes_read;
           failures = self.new.failures;
           heard = self.new.heard;
         } }
@@ -225,7 +258,7 @@ impl<T: Read, E: Curfew> TcpPeer<T, E> {
             if self.is_over() {
                 return Ok(Waited::Over);
             }
-            match self.buffer.refill(&mut self.stream) {
+            match self.refill() {
                 Ok(0) => return Ok(Waited::End),
                 Ok(_) => {
                     self.heard = self.curfew.moment();
@@ -258,6 +291,8 @@ impl<T: Read, E: Curfew> TcpPeer<T, E> {
     fn fill(&mut self, pause: Pause) -> Result<Option<Came>, PeerFault>
         ensures ok { IfOk result (Fills T.remaining self.old self.new) }
         ensures err { OnErr result (PeerFailed (tcp_state T.remaining self.old) (tcp_state T.remaining self.new)) }
+        ensures counts { RisesBy (length (waiting self.new.buffer) - length (waiting self.old.buffer))
+            self.old.bytes_read self.new.bytes_read }
         ensures waits { 0 < length (waiting self.old.buffer)
             → ((result ≡ Ok None) × (self.new ≡ self.old))
             ⊎ ((result ≡ Ok (Some Came.Stop)) × (self.new.stream ≡ self.old.stream)
@@ -348,9 +383,9 @@ impl<T: Write, E: Curfew> TcpPeer<T, E> {
 }
 
 impl<T: Read + Write, E: Curfew> Peer for TcpPeer<T, E> {
-    ghost use Rattle.std.specs.Prelude.{[], None};
-    ghost use Rattle.lmtp_talk.specs.Peer.{WasRead, HasBrought, PeerFailed, HasWritten};
-    ghost use Rattle.lmtp_talk.specs.TcpPeer.{TakesRead, tcp_state};
+    ghost use Rattle.std.specs.Prelude.{[], None, MatchResult};
+    ghost use Rattle.lmtp_talk.specs.Peer.{WasRead, HasBrought, PeerFailed, HasWritten, RisesBy};
+    ghost use Rattle.lmtp_talk.specs.TcpPeer.{TakesRead, brought, tcp_state};
 
     ghost state = { λ p.
         record {
@@ -361,7 +396,6 @@ impl<T: Read + Write, E: Curfew> Peer for TcpPeer<T, E> {
           failures = p.failures;
           stops = p.stops;
           holds = [];
-          told = None;
         } };
 
     /// What it handed out, what its buffer has and what the stream has left are, together, what buffer and
@@ -373,6 +407,7 @@ impl<T: Read + Write, E: Curfew> Peer for TcpPeer<T, E> {
             (λ came. HasBrought (tcp_state T.remaining self.old) (tcp_state T.remaining self.new) buffer.new came) }
         ensures failed { OnErr result (PeerFailed (tcp_state T.remaining self.old) (tcp_state T.remaining self.new)) }
         ensures bound { TakesRead E.IsAsked E.IsOver pause self.old self.new result }
+        ensures counts { RisesBy (brought self.old self.new result) self.old.bytes_read self.new.bytes_read }
     {
         self.reads = self.reads.saturating_add(1);
         if self.reads_left == 0 {
@@ -388,16 +423,38 @@ impl<T: Read + Write, E: Curfew> Peer for TcpPeer<T, E> {
         Ok(Came::Bytes(self.buffer.hand_out(buffer)))
     }
 
-    fn write(&mut self, bytes: &[u8]) -> Result<usize, PeerFault> {
+    fn write(&mut self, bytes: &[u8]) -> Result<usize, PeerFault>
+        requires { 0 < length bytes.now }
+        ensures reads { self.new.reads ≡ self.old.reads }
+        ensures ok { IfOk result
+            (λ n. HasWritten (tcp_state T.remaining self.old) (tcp_state T.remaining self.new) bytes.now n) }
+        ensures err { OnErr result (PeerFailed (tcp_state T.remaining self.old) (tcp_state T.remaining self.new)) }
+        ensures counts { MatchResult result
+            (λ n. RisesBy n self.old.bytes_written self.new.bytes_written)
+            (λ _. self.new.bytes_written ≡ self.old.bytes_written) }
+    {
         match self.write_on(bytes) {
             Ok(0) | Err(_) => Err(self.fail()),
-            Ok(size) => Ok(size),
+            Ok(size) => {
+                self.bytes_written = self.bytes_written.saturating_add(size as u64);
+                Ok(size)
+            }
         }
     }
 
-    /// It has no log.
-    fn tell_command(&mut self, _line: &[u8], _reply: Reply) {}
-
-    /// It has no log.
-    fn tell_copy(&mut self, _arrived: Arrived, _client: &[u8], _reply: Reply) {}
+    fn traffic(&self) -> Traffic
+        ensures { result ≡ record {
+          client = self.now.client;
+          began = self.now.begun;
+          read = self.now.bytes_read;
+          written = self.now.bytes_written;
+        } }
+    {
+        Traffic {
+            client: self.client,
+            began: self.begun,
+            read: self.bytes_read,
+            written: self.bytes_written,
+        }
+    }
 }
