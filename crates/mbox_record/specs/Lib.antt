@@ -1,4 +1,5 @@
 pub mod Envelope
+pub mod Fault
 pub mod TurnState
 pub mod TurnLog
 pub mod Spool
