@@ -105,7 +105,7 @@ module _ (at : Setting) (manner : Manner) (note : Note) (old new : TurnedMailbox
   abbrev text : List ℕ
   text = record_of at.calendar at.site note
 
-  -- its turn, and whether that was had
+  -- its turn, and whether that was missed
   abbrev Once : Outcome → Bool → Type 0
   Once told missed = (y : IsToldOnce at manner note told old new) × (is_not_had y.turn ≡ missed)
 

@@ -428,12 +428,13 @@ impl<F: MailboxFile + Drop, C: Clock + Drop> Spool for FileSpool<F, C> {
             let fault = self.refusal();
             return Err(self.fail(fault));
         }
-        if self.waiting.len() == BUFFER_SIZE {
-            if let Err(fault) = self.write_waiting() {
-                return Err(self.fail(fault));
-            }
+        if self.waiting.len() < BUFFER_SIZE {
+            return Ok(self.take(piece));
         }
-        Ok(self.take(piece))
+        match self.write_waiting() {
+            Ok(()) => Ok(self.take(piece)),
+            Err(unwritten) => Err(self.fail(unwritten)),
+        }
     }
 
     /// Writes what waits, and has the file's bytes kept by the system. The first fault of a turn says why the file's
@@ -467,11 +468,13 @@ impl<F: MailboxFile + Drop, C: Clock + Drop> Spool for FileSpool<F, C> {
             let fault = self.refusal();
             return Err(self.fail(fault));
         }
-        if let Err(fault) = self.keep_waiting() {
-            return Err(self.fail(fault));
+        match self.keep_waiting() {
+            Ok(()) => {
+                self.is_unsynced = false;
+                Ok(())
+            }
+            Err(unkept) => Err(self.fail(unkept)),
         }
-        self.is_unsynced = false;
-        Ok(())
     }
 
     /// How the file ends, with the bytes that wait.

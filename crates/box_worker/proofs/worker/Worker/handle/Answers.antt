@@ -1,5 +1,6 @@
 use Rattle.std.proofs.Common.{◌≡◌, ◌∙◌, ℕ, List, [], ◌∷◌, ◌++◌, ap, sym, subst, Bool}
 use Rattle.lmtp_text.specs.Calendar.{civil_at}
+use Rattle.mail_world.specs.declared.Outcome.{Outcome}
 use Rattle.mail_world.specs.declared.Txn.{Txn}
 use Rattle.mail_world.specs.Records.{record_of}
 use Rattle.mail_world.specs.Site.{Site}
@@ -35,6 +36,8 @@ returns g c quota worker copies old before was timed x =
     let moment : ℕ = clock_of now.slips c.args.receiver.now in
     let accepted : Bool = told.ensures.0 in
     let Q : Txn → Type 0 = λ t. IsOffered moment t.lane (slip_by t c.release-released.result.place (outcome_of took.result)) accepted now.slips told.new.self in
+    let T : Outcome → Type 0 = λ o. IsOffered moment c.release-released.result.txn.lane
+    (slip_by c.release-released.result.txn c.release-released.result.place o) accepted now.slips told.new.self in
     let R : ℕ → Type 0 = λ p. IsOffered moment c.args.post.txn.lane (slip_by c.args.post.txn p (outcome_of took.result)) accepted now.slips told.new.self in
     let H : ℕ → Type 0 = λ n. IsWorking at manner (copies ++ c.args.post ∷ []) before c.args.receiver.now old (record {
       slips = told.new.self;
@@ -47,4 +50,4 @@ returns g c quota worker copies old before was timed x =
     subst H (sym c.saturating_add-self.ensures)
     (working_more at manner copies before was c.args.receiver.now old now self.mailbox.limit told.new.self c.args.post accepted x timed took.result took.new.self
     (g.O.TurnObserver.told c.turn.new.self) took.ensures.tallied (subst K text took.ensures.turns) c.turn.ensures
-    (subst R (gone.1 ∙ parts.ensures.names.1) (subst Q (gone.0 ∙ parts.ensures.names.0) told.ensures.1)))
+    (subst R (gone.1 ∙ parts.ensures.names.1) (subst Q (gone.0 ∙ parts.ensures.names.0) (subst T c.outcome.ensures told.ensures.1))))
