@@ -1,9 +1,9 @@
 //! An LMTP server (RFC 2033): its lanes and its workers, each in a thread.
 //!
 //! The programs use `run_house`: where it returns Ok, each mailbox got of each lane what its conversations owe it, what
-//! the threads did is a run of the model, and each observer was told of it. The names of `lmtp_talk` and `lmtp_lane` that
-//! they need are handed on here. It never knows what clients, spools, gates, clock and observers really are: they are
-//! handed in.
+//! the threads did is a run of the model, and each observer was told of it. The names of `lmtp_talk` and `lmtp_lane`
+//! that they need are handed on here. It never knows what clients, spools, gates, clock and observers really are: they
+//! are handed in.
 #![tactic(auto)]
 
 mod house;
