@@ -2,10 +2,9 @@
 
 use crate::naming::{Address, address_in};
 use crate::pairs::{CopyLine, EndLine, Envelope, Id, Line, RefusedLine, Seconds};
-use crate::stream::Traffic;
 use crate::verb::verb_of;
 use crate::words::is_refusal;
-use lmtp_talk::{Arrived, EndCause};
+use lmtp_talk::{Arrived, EndCause, Traffic};
 use lmtp_text::{REPLY_LIMIT, Site, write_reply};
 use mail_head::Text;
 use mail_world::Reply;

@@ -7,7 +7,7 @@ use Rattle.lmtpd_log.specs.Owed.{Heard, copy_lines, letter_after, lines_owed}
 use Rattle.lmtpd_log.specs.Rules.{lines_of, rules_of}
 use Rattle.lmtpd_log.specs.Texts.{letter_of}
 use Rattle.lmtpd_log.proofs.Owing.{still_known, still_owed, under_way}
-use Rattle.lmtpd_log.proofs.line_log.LineLogLaneLog.copy.Goals as goal
+use Rattle.lmtpd_log.proofs.line_log.LineLogObserver.copy.Goals as goal
 
 pub invariant_of-self : goal.invariant_of-self
 invariant_of-self g c =

@@ -5,7 +5,7 @@ use Rattle.lmtpd_log.specs.Owed.{Heard, letter_after, lines_owed}
 use Rattle.lmtpd_log.specs.Rules.{lines_of, rules_of}
 use Rattle.lmtpd_log.specs.Texts.{letter_of}
 use Rattle.lmtpd_log.proofs.Owing.{still_known, still_owed, under_way}
-use Rattle.lmtpd_log.proofs.line_log.LineLogLaneLog.command.Goals as goal
+use Rattle.lmtpd_log.proofs.line_log.LineLogObserver.command.Goals as goal
 
 pub invariant_of-self : goal.invariant_of-self
 invariant_of-self g c =
