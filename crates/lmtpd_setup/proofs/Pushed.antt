@@ -2,6 +2,7 @@
 use Rattle.std.proofs.Common.{◌≡◌, ◌∙◌, ◌+◌, ◌<◌, ◌++◌, ◌∷◌, [], ℕ, List, ap, get_or, length, map, sym, take}
 use Rattle.std.proofs.lemmas.List.{map-append, map_more}
 use Rattle.std.proofs.Math.Seq.{take-length}
+use Rattle.std.specs.List.{AllByRecursion}
 
 -- one more element was made
 pub one_more : {X Y Z : Type 0} (f : X → Z) (g : Y → Z) (made : List X) (from : List Y) (i : ℕ) (x : X) (d : Y) → i < length from
@@ -13,3 +14,8 @@ one_more f g made from i x d low before is =
 pub all_made : {X Y Z : Type 0} (f : X → Z) (g : Y → Z) (made : List X) (from : List Y) (i : ℕ) → i ≡ length from
     → map f made ≡ map g (take i from) → map f made ≡ map g from
 all_made f g made from i all before = before ∙ ap (λ n. map g (take n from)) all ∙ ap (λ l. map g l) (take-length from)
+
+-- what held of each holds of one more
+pub all_more : {X : Type 0} (P : X → Type 0) (xs : List X) (x : X) → AllByRecursion P xs → P x → AllByRecursion P (xs ++ x ∷ [])
+all_more P [] x all one = (one, tt)
+all_more P (y ∷ ys) x all one = (all.0, all_more P ys x all.1 one)
