@@ -131,8 +131,8 @@ impl<E: LineSink, C: Clock + Drop> Observer for LineLog<E, C> {
         ensures rules { rules_in self.new ≡ rules_in self.old }
     {
         self.make_room();
-        let made = self.setting.refused(line, reply);
-        keep(&mut self.waiting, made);
+        let refused = self.setting.refused(line, reply);
+        keep(&mut self.waiting, refused);
         self.letter.line(line, reply);
         self.history.add(Event::Line(line, reply));
     }

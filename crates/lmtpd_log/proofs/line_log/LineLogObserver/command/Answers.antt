@@ -19,7 +19,7 @@ invariant_of-self g c =
     record {
       room = c.keep.ensures.capacity ∙ log.room;
       owes = still_owed rules letter first heard h (g.E.LineSink.shown log.sink) waits _ log.owes log.knows
-          (c.keep.ensures.lines ∙ ap (λ ls. waits ++ ls) c.refused-made.ensures)
+          (c.keep.ensures.lines ∙ ap (λ ls. waits ++ ls) c.refused-refused.ensures)
           ∙ sym (ap (λ l. lines_owed rules l.heard) c.add.ensures);
       rests = under_way heard _ h _ (ap (λ l. l.heard) c.add.ensures) refl;
       knows = still_known letter first _ heard h log.knows c.line.ensures
