@@ -34,7 +34,6 @@ use Rattle.mail_lives.proofs.Stepping.{steps_read}
 use Rattle.mbox_record.specs.Spool.{SpoolState}
 use Rattle.mbox_record.specs.declared.spool.SpoolFault.TheVariants.{Other}
 use Rattle.box_worker.specs.declared.turn.TurnEnd.{TurnEnd}
-use Rattle.box_worker.specs.declared.turn.TurnEnd.TheVariants.{Broke}
 use Rattle.box_worker.specs.declared.turn.TurnEnd.TheVariants as ends
 use Rattle.box_worker.specs.Told.{is_stored, says_over_quota, owed_to}
 use Rattle.box_worker.specs.Turned.{IsFullWhereBroken}
@@ -118,8 +117,8 @@ module _ (outcome : Outcome) (end : TurnEnd) (lock unlock : Standing) (got : ℕ
   abbrev came : Clients
   came = beside (served 0) (Some [])
 
-  abbrev left : Clients
-  left = beside (served 1) (Some entries)
+  abbrev went : Clients
+  went = beside (served 1) (Some entries)
 
   abbrev before_turn : Mailbox
   before_turn = beside (spool lock []) (Some [])
@@ -132,7 +131,7 @@ module _ (outcome : Outcome) (end : TurnEnd) (lock unlock : Standing) (got : ℕ
 
   abbrev back : HandedBack Clients Mailbox
   back = record {
-    visits = left ∷ [];
+    visits = went ∷ [];
     spools = after_turn ∷ [];
     conversations = 1 ∷ [];
     tallies = tally turns ∷ [];
@@ -181,7 +180,7 @@ module _ (outcome : Outcome) (end : TurnEnd) (lock unlock : Standing) (got : ℕ
   unfolding entries
   entries_told = refl
 
-  lane_work : IsLaneWork site (λ moment. ⊤) (λ peer. ⊤) 0 lane (lane_told view came left 1)
+  lane_work : IsLaneWork site (λ moment. ⊤) (λ peer. ⊤) 0 lane (lane_told view came went 1)
   unfolding everything
   lane_work = record {
     visited = record { told = refl; counts = inl refl; each = (is_visit, tt) };
@@ -200,10 +199,10 @@ module _ (outcome : Outcome) (end : TurnEnd) (lock unlock : Standing) (got : ℕ
   }
 
   lane_works : (k count : ℕ) (before after : Clients) → slice_get (came ∷ []) k ≡ Some before
-      → slice_get (left ∷ []) k ≡ Some after → slice_get (1 ∷ []) k ≡ Some count
+      → slice_get (went ∷ []) k ≡ Some after → slice_get (1 ∷ []) k ≡ Some count
       → IsLaneWork site (λ moment. ⊤) (λ peer. ⊤) k lane (lane_told view before after count)
   lane_works zero count before after x y z =
-      let same : (came, left, 1) ≡ (before, after, count) = cc in
+      let same : (came, went, 1) ≡ (before, after, count) = cc in
       subst (λ (t : Clients × Clients × ℕ). IsLaneWork site (λ moment. ⊤) (λ peer. ⊤) 0 lane
       (lane_told view t.0 t.1 t.2)) same lane_work
   lane_works (suc k) count before after x y z = cc
@@ -376,7 +375,7 @@ module _ (n : ℕ) (old : List ℕ) where
   at bytes synced failures = record { bytes = bytes; synced = synced; failures = failures }
 
   abbrev killed : List Letter → Run
-  killed = run Failed (Broke (Other kinds.Other)) (at old 0 0) (at (old ++ take n more) 0 1) 200 (refl, refl)
+  killed = run Failed (ends.Broke (Other kinds.Other)) (at old 0 0) (at (old ++ take n more) 0 1) 200 (refl, refl)
       (record { room = refl; failed = inl (lit< tt); prefix = take n more; part = torn.part; left = refl })
       (omega arith, (omega arith, omega arith)) tt
 
