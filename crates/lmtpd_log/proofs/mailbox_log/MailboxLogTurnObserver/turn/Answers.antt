@@ -10,9 +10,10 @@ invariant_of-self g c =
     let ends = log.history.list.turns in
     let end = c.args.end in
     record {
-      owes = still_owed name ends end log.condition (g.E.MailboxSink.shown log.sink) _ _ log.owes log.knows
-          c.show_line.ensures c.show_line-2.ensures
+      owes = still_owed name c.as_str-name.result.now ends end log.condition c.use_line.result c.store_line.result
+          (g.E.MailboxSink.shown log.sink) _ _ log.owes log.knows c.as_str-name.ensures.value c.use_line.ensures
+          c.store_line.ensures c.show_line.ensures c.show_line-2.ensures
           ∙ sym (ap (λ l. with_name name (turn_lines l.turns)) c.add.ensures);
-      knows = still_known ends end log.condition _ log.knows c.after.ensures
+      knows = still_known ends end log.condition _ log.knows c.after-self.ensures
           ∙ sym (ap (λ l. condition_after l.turns) c.add.ensures);
     }
