@@ -34,6 +34,8 @@ impl TurnEnd {
 
 /// Sees the turns at one mailbox, one after the other.
 pub trait TurnObserver: Drop {
+    ghost use Rattle.box_worker.specs.declared.turn.TurnEnd.{TurnEnd};
+
     // what it was told, where it says that
     ghost told: { Self → Option (List TurnEnd) };
 

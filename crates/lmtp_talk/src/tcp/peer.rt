@@ -427,8 +427,8 @@ impl<T: Read + Write, E: Curfew> Peer for TcpPeer<T, E> {
         requires { 0 < length bytes.now }
         ensures reads { self.new.reads ≡ self.old.reads }
         ensures ok { IfOk result
-            (λ n. HasWritten (tcp_state T.remaining self.old) (tcp_state T.remaining self.new) bytes.now n) }
-        ensures err { OnErr result (PeerFailed (tcp_state T.remaining self.old) (tcp_state T.remaining self.new)) }
+            (λ n. HasWritten (tcp_state (λ _. None) self.old) (tcp_state (λ _. None) self.new) bytes.now n) }
+        ensures err { OnErr result (PeerFailed (tcp_state (λ _. None) self.old) (tcp_state (λ _. None) self.new)) }
         ensures counts { MatchResult result
             (λ n. RisesBy n self.old.bytes_written self.new.bytes_written)
             (λ _. self.new.bytes_written ≡ self.old.bytes_written) }
