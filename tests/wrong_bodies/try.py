@@ -143,10 +143,17 @@ def give_turns(turns, more, said):
     turns.release(more)
 
 
-def try_in_turn(turns, *crate):
-    """Tries a crate's as soon as there is a turn."""
+def take_next(waiting, said):
+    """The lowest crate that waits while `rt ci` goes on, which proves those first; then the highest, whose checks take
+    the longest, so that none of these is left alone at the end."""
+    return waiting.pop(-1 if said and lines_of(said)[1] else 0)
+
+
+def try_next(turns, waiting, root, edits, crates, folder, said):
+    """Tries the next crate's as soon as there is a turn."""
     with turns:
-        return try_crate(*crate)
+        name = take_next(waiting, said)
+        return try_crate(root, name, edits[name], crates, folder, said)
 
 
 def try_crate(root, name, edits, crates, folder, said):
@@ -197,7 +204,7 @@ def main(root, jobs, words):
     with tempfile.TemporaryDirectory(prefix=".trying-", dir=root) as folder:
         with concurrent.futures.ThreadPoolExecutor(jobs + more) as pool:
             room = pathlib.Path(folder)
-            tried = [pool.submit(try_in_turn, turns, root, it, edits[it], crates, room, said) for it in order]
+            tried = [pool.submit(try_next, turns, order, root, edits, crates, room, said) for _ in list(order)]
             kinds = [kind for it in tried for kind in it.result()]
     print(", ".join(f"{kinds.count(kind)} {kind}" for kind in told.KINDS))
     return 1 if any(kind in told.BAD for kind in kinds) else 0

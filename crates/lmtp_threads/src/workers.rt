@@ -58,7 +58,8 @@ pub struct WorkerJob<N: DepotName, S: Spool + Drop, T: TurnObserver, G: Gate + D
     quota: Option<u64>,
 }
 
-impl<N: DepotName, S: Spool + Drop, T: TurnObserver, G: Gate + Drop> Model for WorkerJob<N, S, T, G> {
+impl<N: DepotName, S: Spool + Drop, T: TurnObserver, G: Gate + Drop> Model
+    for WorkerJob<N, S, T, G> {
     ghost use Rattle.std.specs.Arc.{arc_value};
     ghost use Rattle.lmtp_threads.specs.Works.{share_of};
     ghost use Rattle.lmtp_threads.specs.Tasks.{BoxTask};

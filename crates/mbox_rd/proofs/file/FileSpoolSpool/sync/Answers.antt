@@ -34,11 +34,11 @@ returns-in-Err-clause-any_moment g c =
 pub returns-in-Ok-clause-any_moment : goal.returns-in-Ok-clause-any_moment
 returns-in-Ok-clause-any_moment g c =
     let S = g.F.MailboxFile.state in let order = subst (IsInOrder S) c.self.view_is c.self.invariant.2 in
-    any_moment S c.args.self.now _ c.keep_waiting.new.self.file _ _ order (ap (λ (s : FileSpool _). s.file) c.self-2.view_is)
+    any_moment S c.args.self.now _ c.keep_waiting.new.self.file _ _ order (ap (λ (s : FileSpool _). s.file) c.self-in-Ok.view_is)
     (prefix_appended _ c.args.self.now.waiting) (prefix_itself _) c.keep_waiting.ensures.moments
 
 pub returns-in-Ok-clause-stored : goal.returns-in-Ok-clause-stored
 returns-in-Ok-clause-stored g c =
     let S = g.F.MailboxFile.state in
-    subst (λ (s : FileSpool _). Stores S c.args.self.now (S s.file)) (sym c.self-2.view_is)
+    subst (λ (s : FileSpool _). Stores S c.args.self.now (S s.file)) (sym c.self-in-Ok.view_is)
     (stores S c.args.self.now (S c.keep_waiting.new.self.file) c.in-Ok.ensures.kept)
