@@ -18,7 +18,7 @@ use crate::room::tell_of_room;
 use crate::site::served_site;
 use crate::stop::Stop;
 use lmtp_text::Site;
-use lmtpd_log::LineSetting;
+use lmtpd_log::{LineSetting, LogSink, MailboxSink};
 use lmtpd_words::ServeWords;
 use mbox_rd::RangeLock;
 use std::alloc::Global;
@@ -33,6 +33,7 @@ pub struct ServerSetup<H>
 where
     H: Files + Clock + Eprint + Copy + Drop,
     H::File: RangeLock,
+    LogSink<ServerLog<H>>: MailboxSink,
 {
     pub site: Arc<Site>,
     /// By it the program says what it can't open.
