@@ -17,7 +17,7 @@ use crate::exchange::Exchange;
 use crate::report::LaneReport;
 use crate::setting::LaneStart;
 use crate::visits::Visits;
-use lmtp_talk::{Dialogue, Observer, Peer, serve};
+use lmtp_talk::{Dialogue, Observer, Peer, ReadBuffer, serve};
 use lmtp_text::Site;
 use mail_post::{Sender, SlipReceiver};
 use mail_world::limits::READ_LIMIT;
@@ -75,15 +75,24 @@ pub fn lane_run_at<N: DepotName, V: Visits, C: Clock, O: Observer, R: Wait>(
         (lane_start (V.finished visits) (V.over visits) (O.told observer) lane senders.items slips)
         (lane_end lane result) }
 {
-    let Desk { dialogue, gather } = desk;
+    let Desk {
+        dialogue,
+        buffer,
+        gather,
+    } = desk;
     let exchange = Exchange::new(*senders.allocator(), lane, senders, slips, gather);
-    let bounded = BoundedDialogue { dialogue, reads };
+    let bounded = BoundedDialogue {
+        dialogue,
+        buffer,
+        reads,
+    };
     lane_at::<Brand, N, V, C, O, R>(rt, bounded, exchange, visits, depot, clock, observer)
 }
 
-// A dialogue, and how many reads each of its conversations may make.
+// A dialogue, the buffer that its clients are read with, and how many reads each conversation may make.
 struct BoundedDialogue {
     dialogue: Dialogue,
+    buffer: ReadBuffer,
     reads: u32,
 }
 
@@ -108,6 +117,7 @@ fn lane_at<S: LaneStart, N: DepotName, V: Visits, C: Clock, O: Observer, R: Wait
 {
     let BoundedDialogue {
         mut dialogue,
+        mut buffer,
         reads,
     } = bounded;
     let mut visits = visits;
@@ -119,6 +129,7 @@ fn lane_at<S: LaneStart, N: DepotName, V: Visits, C: Clock, O: Observer, R: Wait
     let conversations = serve_all(
         rt,
         &mut dialogue,
+        &mut buffer,
         &mut visits,
         &mut delivery,
         &mut observer,
@@ -144,6 +155,7 @@ fn lane_at<S: LaneStart, N: DepotName, V: Visits, C: Clock, O: Observer, R: Wait
 fn serve_all<'a, N: DepotName, V: Visits, C: Clock, O: Observer, R: Wait, S: LaneStart>(
     rt: &R,
     dialogue: &mut Dialogue,
+    buffer: &mut ReadBuffer,
     visits: &mut V,
     delivery: &mut LaneDelivery<'a, N, C, R, S>,
     observer: &mut O,
@@ -167,7 +179,7 @@ fn serve_all<'a, N: DepotName, V: Visits, C: Clock, O: Observer, R: Wait, S: Lan
         let Some(peer) = visits.next(rt) else {
             return conversations;
         };
-        converse(dialogue, visits, delivery, observer, peer, reads);
+        converse(dialogue, buffer, visits, delivery, observer, peer, reads);
         conversations = conversations.saturating_add(1);
     }
     unreachable!()
@@ -176,6 +188,7 @@ fn serve_all<'a, N: DepotName, V: Visits, C: Clock, O: Observer, R: Wait, S: Lan
 // Serves a client while no channel is gone, hands it back, and tells the observer so.
 fn converse<'a, N: DepotName, V: Visits, C: Clock, O: Observer, R: Wait, S: LaneStart>(
     dialogue: &mut Dialogue,
+    buffer: &mut ReadBuffer,
     visits: &mut V,
     delivery: &mut LaneDelivery<'a, N, C, R, S>,
     observer: &mut O,
@@ -196,7 +209,7 @@ fn converse<'a, N: DepotName, V: Visits, C: Clock, O: Observer, R: Wait, S: Lane
     ensures site { dialogue.new.session.site ≡ dialogue.old.session.site }
 {
     let mut peer = peer;
-    let end = serve(dialogue, &mut peer, delivery, observer, reads);
+    let end = serve(dialogue, buffer, &mut peer, delivery, observer, reads);
     let traffic = peer.traffic();
     visits.done(peer, end);
     observer.ended(end, traffic);

@@ -2,6 +2,7 @@
 use Rattle.std.specs.Prelude.{◌≡◌, ◌≤◌, ◌⊎◌, ℕ, ◌+◌, ◌-◌, ◌^◌, List, [], length, take, Option}
 use Rattle.std.specs.Io.KnownBytes.{Appends, Consumes, IsAtEnd}
 use Rattle.mail_world.specs.Failures.{Rises}
+use Rattle.lmtp_talk.specs.declared.tcp.read_buffer.TheConstants.{PIECE_LIMIT}
 use Rattle.lmtp_talk.specs.declared.peer.Came.{Came}
 use Rattle.lmtp_talk.specs.declared.peer.Came.TheVariants.{Bytes, End, Stop}
 
@@ -50,11 +51,11 @@ RisesBy times old new = (new ≡ old + times) ⊎ ((2 ^ 64 - 1 ≤ old + times) 
 abbrev pub WasRead : ℕ → PeerState → PeerState → Type 0
 WasRead made old new = RisesBy made old.reads new.reads
 
--- a read has brought what it answered
+-- a read has brought what it answered: bytes are the piece that its buffer lends now
 abbrev pub HasBrought : PeerState → PeerState → List ℕ → Came → Type 0
-HasBrought old new buffer (Bytes n) = (1 ≤ n) × (n ≤ length buffer) × HasTransferred old new (take n buffer) []
-HasBrought old new buffer End = HasTransferred old new [] [] × IsAtEnd new.unread
-HasBrought old new buffer Stop = HasStopped old new
+HasBrought old new piece (Bytes n) = (1 ≤ n) × (n ≤ PIECE_LIMIT) × (n ≡ length piece) × HasTransferred old new piece []
+HasBrought old new piece End = HasTransferred old new [] [] × IsAtEnd new.unread
+HasBrought old new piece Stop = HasStopped old new
 
 -- a prefix of that many bytes was accepted
 abbrev pub HasWritten : PeerState → PeerState → List ℕ → ℕ → Type 0

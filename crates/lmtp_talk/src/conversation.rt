@@ -1,11 +1,12 @@
 //! One conversation, from its greeting to its end.
 
-ghost use Rattle.std.specs.Prelude.{◌≡◌, ◌≢◌, ◌<◌, ℕ, [], ◌∷◌, length, IfSome, IfOk, OnErr, MatchOption};
+ghost use Rattle.std.specs.Prelude.{◌≡◌, ◌≢◌, ℕ, [], ◌∷◌, IfSome, IfOk, OnErr, MatchOption};
 ghost use Rattle.mail_world.specs.Session.{Stop};
 ghost use Rattle.mail_world.specs.Lists.{is_content};
 ghost use Rattle.lmtp_session.specs.Steps.{MayStop};
 ghost use Rattle.lmtp_talk.specs.Steps.{talk, TakesInputs};
 ghost use Rattle.lmtp_talk.specs.Rounds.{Greets, Leaves, TakesRound, EndsRound, HandlesPiece, end_after, stopped_or};
+ghost use Rattle.lmtp_talk.specs.ReadBuffer.{piece_of};
 ghost use Rattle.lmtp_talk.specs.Peer.{WasRead, HasBrought, PeerFailed};
 ghost use Rattle.lmtp_talk.specs.Parties.{parties};
 ghost use Rattle.lmtp_talk.specs.Served.{terms, HasRead, IsServed};
@@ -17,16 +18,15 @@ use crate::handling::handle;
 use crate::observer::Observer;
 use crate::pause::Pause;
 use crate::peer::{Came, Peer, PeerFault};
+use crate::tcp::ReadBuffer;
 use mail_world::State;
-
-/// The bytes that one read asks for.
-const READ_SIZE: usize = 4_096;
 
 /// Serves one conversation. All that was read is handled, and its replies are written, before the next read; nothing is
 /// read after QUIT, and that many reads are made at most. Where a write fails the conversation ends once the bytes that
-/// were read are handled. The observer isn't told of the end.
+/// were read are handled. What is read is handled where the buffer lends it. The observer isn't told of the end.
 pub fn serve<P: Peer, D: Delivery, O: Observer>(
     dialogue: &mut Dialogue,
+    buffer: &mut ReadBuffer,
     peer: &mut P,
     delivery: &mut D,
     observer: &mut O,
@@ -41,7 +41,7 @@ pub fn serve<P: Peer, D: Delivery, O: Observer>(
     ensures same { D.site delivery.new ≡ D.site delivery.old }
 {
     greet(dialogue, peer);
-    take_rounds(dialogue, peer, delivery, observer, reads)
+    take_rounds(dialogue, buffer, peer, delivery, observer, reads)
 }
 
 // The first reply (RFC 5321, 4.3.1).
@@ -60,6 +60,7 @@ fn greet<P: Peer>(dialogue: &mut Dialogue, peer: &mut P)
 // Takes rounds until the conversation ends.
 fn take_rounds<P: Peer, D: Delivery, O: Observer>(
     dialogue: &mut Dialogue,
+    buffer: &mut ReadBuffer,
     peer: &mut P,
     delivery: &mut D,
     observer: &mut O,
@@ -75,9 +76,8 @@ fn take_rounds<P: Peer, D: Delivery, O: Observer>(
     ensures site { dialogue.new.session.site ≡ dialogue.old.session.site }
     ensures same { D.site delivery.new ≡ D.site delivery.old }
 {
-    let mut buffer = [0; READ_SIZE];
     for _made in 0..reads {
-        if let Some(end) = take_round(dialogue, peer, delivery, observer, &mut buffer) {
+        if let Some(end) = take_round(dialogue, buffer, peer, delivery, observer) {
             return end;
         }
     }
@@ -92,12 +92,11 @@ fn take_rounds<P: Peer, D: Delivery, O: Observer>(
 // One read and all that it brings; the cause where the conversation ends with it.
 fn take_round<P: Peer, D: Delivery, O: Observer>(
     dialogue: &mut Dialogue,
+    buffer: &mut ReadBuffer,
     peer: &mut P,
     delivery: &mut D,
     observer: &mut O,
-    buffer: &mut [u8],
 ) -> Option<EndCause>
-    requires some { 0 < length buffer.old }
     requires may { MayStop dialogue.old.session.session.state }
     requires none { dialogue.old.outbox.pending ≡ [] }
     requires here { D.site delivery.old ≡ dialogue.old.session.site }
@@ -112,7 +111,6 @@ fn take_round<P: Peer, D: Delivery, O: Observer>(
         (λ end. (end ≢ EndCause.ReadBound) × HasRead 1 (P.state peer.old) (P.state peer.new) end) }
     ensures may { MatchOption result (MayStop dialogue.new.session.session.state) (λ _. Unit {0}) }
     ensures none { MatchOption result (dialogue.new.outbox.pending ≡ []) (λ _. Unit {0}) }
-    ensures size { length buffer.new ≡ length buffer.old }
     ensures site { dialogue.new.session.site ≡ dialogue.old.session.site }
     ensures same { D.site delivery.new ≡ D.site delivery.old }
 {
@@ -121,9 +119,9 @@ fn take_round<P: Peer, D: Delivery, O: Observer>(
         return Some(EndCause::WriteFault);
     }
     let pause = dialogue.pause();
-    match hear(peer, observer, buffer, pause) {
-        Ok(Came::Bytes(size)) => {
-            take_piece(dialogue, peer, delivery, observer, &buffer[..size]);
+    match hear(buffer, peer, observer, pause) {
+        Ok(Came::Bytes(_)) => {
+            take_piece(dialogue, peer, delivery, observer, buffer.piece());
             end_or_go_on(dialogue)
         }
         Ok(Came::End) => {
@@ -144,14 +142,13 @@ fn take_round<P: Peer, D: Delivery, O: Observer>(
 
 // Reads once, when all replies are written.
 fn hear<P: Peer, O: Observer>(
+    buffer: &mut ReadBuffer,
     peer: &mut P,
     observer: &mut O,
-    buffer: &mut [u8],
     pause: Pause,
 ) -> Result<Came, PeerFault>
-    requires { 0 < length buffer.old }
     ensures reads { WasRead 1 (P.state peer.old) (P.state peer.new) }
-    ensures ok { IfOk result (λ came. HasBrought (P.state peer.old) (P.state peer.new) buffer.new came) }
+    ensures ok { IfOk result (λ came. HasBrought (P.state peer.old) (P.state peer.new) (piece_of buffer.new) came) }
     ensures err { OnErr result (PeerFailed (P.state peer.old) (P.state peer.new)) }
     ensures untold { O.told observer.new ≡ O.told observer.old }
 {

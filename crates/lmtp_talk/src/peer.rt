@@ -1,10 +1,12 @@
 //! The other end of a conversation: bytes come from it and go to it, and it may fail.
 
 ghost use Rattle.std.specs.Prelude.{◌≡◌, ◌<◌, length, IfOk, OnErr};
+ghost use Rattle.lmtp_talk.specs.ReadBuffer.{piece_of};
 ghost use Rattle.lmtp_talk.specs.Peer.{PeerState, WasRead, HasBrought, HasWritten, PeerFailed};
 
 use crate::client::Traffic;
 use crate::pause::Pause;
+use crate::tcp::ReadBuffer;
 use thiserror::Error;
 
 /// A read or a write failed, for a reason that the peer keeps to itself.
@@ -15,7 +17,7 @@ pub struct PeerFault;
 /// What a read came to.
 #[derive(Clone, Copy, Debug, PartialEq, Eq)]
 pub enum Came {
-    /// That many bytes came, one at least.
+    /// That many bytes came, one at least; the buffer lends them.
     Bytes(usize),
     /// There are no more.
     End,
@@ -28,11 +30,11 @@ pub trait Peer {
     // what was read of it, what is still to come, what it was given, and how often it was read and failed
     ghost state: { Self → PeerState };
 
-    /// Reads bytes into the beginning of the buffer, where the conversation stands so.
-    fn read(&mut self, buffer: &mut [u8], pause: Pause) -> Result<Came, PeerFault>
-        requires { 0 < length buffer.old }
+    /// Lets the buffer lend the bytes that come next, where the conversation stands so. What it lent before is gone.
+    /// A peer is read with the same buffer each time, which nobody else changes meanwhile.
+    fn read(&mut self, buffer: &mut ReadBuffer, pause: Pause) -> Result<Came, PeerFault>
         ensures reads { WasRead 1 (state self.old) (state self.new) }
-        ensures ok { IfOk result (λ came. HasBrought (state self.old) (state self.new) buffer.new came) }
+        ensures ok { IfOk result (λ came. HasBrought (state self.old) (state self.new) (piece_of buffer.new) came) }
         ensures err { OnErr result (PeerFailed (state self.old) (state self.new)) };
 
     /// Writes a prefix of the bytes, one at least, and says how many.

@@ -2,7 +2,7 @@
 
 ghost use Rattle.std.specs.Prelude.{[], None};
 
-use lmtp_house::{Came, Client, Pause, Peer, PeerFault, Traffic};
+use lmtp_house::{Came, Client, Pause, Peer, PeerFault, ReadBuffer, Traffic};
 use std::io::{Read, Write};
 use std::time::Duration;
 
@@ -31,9 +31,9 @@ impl<R: Read, W: Write> Peer for StreamPeer<R, W> {
       holds = [];
     } };
 
-    fn read(&mut self, buffer: &mut [u8], _pause: Pause) -> Result<Came, PeerFault> {
+    fn read(&mut self, buffer: &mut ReadBuffer, _pause: Pause) -> Result<Came, PeerFault> {
         self.reads = self.reads.saturating_add(1);
-        match self.reader.read(buffer) {
+        match buffer.take_piece(&mut self.reader) {
             Ok(0) => Ok(Came::End),
             Ok(size) => {
                 self.bytes_read = self.bytes_read.saturating_add(size as u64);

@@ -1,10 +1,11 @@
-use Rattle.std.proofs.Common.{◌≡◌, ◌<◌, ℕ, Option, take, length, refl, sym, ap, ◌∙◌, subst, arith, length-take-le}
+use Rattle.std.proofs.Common.{◌≡◌, ◌<◌, ℕ, List, [], Option, length, refl, sym, ap, ◌∙◌, subst, arith}
 use Rattle.std.specs.Prelude.{MatchOption}
 use Rattle.lmtp_talk.specs.declared.ending.EndCause.{EndCause}
 use Rattle.lmtp_talk.specs.declared.ending.EndCause.TheVariants as ends
 use Rattle.lmtp_talk.specs.declared.peer.Came.{Came}
 use Rattle.lmtp_talk.specs.declared.peer.Came.TheVariants.{Bytes, End, Stop}
-use Rattle.lmtp_talk.specs.Peer.{HasBrought}
+use Rattle.lmtp_talk.specs.Peer.{HasBrought, HasTransferred}
+use Rattle.lmtp_talk.specs.ReadBuffer.{piece_of}
 use Rattle.lmtp_talk.specs.Served.{terms, IsServed}
 use Rattle.lmtp_talk.specs.Rounds.{TakesRound, EndsRound, stopped_or}
 use Rattle.lmtp_talk.specs.Parties.{parties}
@@ -26,11 +27,13 @@ returns-in-Ok-Bytes-clause-round g c =
     let before = parties (g.P.Peer.state c.args.peer.now) (g.O.Observer.told c.args.observer.now) in
     let heard = parties (g.P.Peer.state c.hear.new.peer) (g.O.Observer.told c.hear.new.observer) in
     let after = parties (g.P.Peer.state c.take_piece.new.peer) (g.O.Observer.told c.take_piece.new.observer) in
-    let came : HasBrought (g.P.Peer.state c.args.peer.now) (g.P.Peer.state c.hear.new.peer) c.hear.new.buffer (Bytes c.in-Ok-Bytes.size) =
-    subst (λ (x : Came). HasBrought (g.P.Peer.state c.args.peer.now) (g.P.Peer.state c.hear.new.peer) c.hear.new.buffer x) c.in-Ok-Bytes.field-0-is
+    let came : HasBrought (g.P.Peer.state c.args.peer.now) (g.P.Peer.state c.hear.new.peer) (piece_of c.hear.new.buffer) (Bytes _) =
+    subst (λ (x : Came). HasBrought (g.P.Peer.state c.args.peer.now) (g.P.Peer.state c.hear.new.peer) (piece_of c.hear.new.buffer) x) c.in-Ok-Bytes.field-0-is
     c.in-Ok-Bytes.ensures.ok in
-    let size : length (take c.in-Ok-Bytes.size c.hear.new.buffer) ≡ c.in-Ok-Bytes.size = length-take-le c.in-Ok-Bytes.size c.hear.new.buffer came.1 in
-    let some : 0 < length (take c.in-Ok-Bytes.size c.hear.new.buffer) = omega (arith, size, came.0) in
+    let piece = c.piece.result.now in
+    let some : 0 < length piece = omega (arith, came.0, came.2, ap length c.piece.ensures) in
+    let moved : HasTransferred (g.P.Peer.state c.args.peer.now) (g.P.Peer.state c.hear.new.peer) piece [] =
+    subst (λ (l : List ℕ). HasTransferred (g.P.Peer.state c.args.peer.now) (g.P.Peer.state c.hear.new.peer) l []) (sym c.piece.ensures) came.3 in
     let by : Option EndCause → Type 0 = λ o. MatchOption o
     (TakesRound g.D.Delivery.HasCome g.D.Delivery.IsDrafting (talk c.args.dialogue.now before c.args.delivery.now)
     (talk c.take_piece.new.dialogue after c.take_piece.new.delivery))
@@ -40,15 +43,15 @@ returns-in-Ok-Bytes-clause-round g c =
     subst by (sym c.end_or_go_on.ensures)
     (turns_by g.D.Delivery.HasCome g.D.Delivery.IsDrafting c.args.dialogue.now c.take_piece.new.dialogue before
     heard after
-    c.args.delivery.now c.take_piece.new.delivery (take c.in-Ok-Bytes.size c.hear.new.buffer) c.take_piece.new.dialogue.session.session.state refl
-    c.take_piece.ensures.none some came.2 c.hear.ensures.untold c.take_piece.ensures.handles)
+    c.args.delivery.now c.take_piece.new.delivery piece c.take_piece.new.dialogue.session.session.state refl
+    c.take_piece.ensures.none some moved c.hear.ensures.untold c.take_piece.ensures.handles)
 
 pub returns-in-Ok-End-clause-round : goal.returns-in-Ok-End-clause-round
 returns-in-Ok-End-clause-round g c reads site start first handled h =
     let before = parties (g.P.Peer.state c.args.peer.now) (g.O.Observer.told c.args.observer.now) in
     let heard = parties (g.P.Peer.state c.hear.new.peer) (g.O.Observer.told c.hear.new.observer) in
-    let came : HasBrought (g.P.Peer.state c.args.peer.now) (g.P.Peer.state c.hear.new.peer) c.hear.new.buffer End =
-    subst (λ (x : Came). HasBrought (g.P.Peer.state c.args.peer.now) (g.P.Peer.state c.hear.new.peer) c.hear.new.buffer x) c.in-Ok-End.field-0-is
+    let came : HasBrought (g.P.Peer.state c.args.peer.now) (g.P.Peer.state c.hear.new.peer) (piece_of c.hear.new.buffer) End =
+    subst (λ (x : Came). HasBrought (g.P.Peer.state c.args.peer.now) (g.P.Peer.state c.hear.new.peer) (piece_of c.hear.new.buffer) x) c.in-Ok-End.field-0-is
     c.in-Ok-End.ensures.ok in
     served reads site start heard (g.D.Delivery.HasCome first) (g.D.Delivery.HasCome c.args.delivery.now)
     (g.D.Delivery.HasCome c.leave-in-Ok-End.new.delivery) (g.D.Delivery.IsDrafting c.args.delivery.now)
@@ -65,8 +68,8 @@ pub returns-in-Ok-Stop-clause-round : goal.returns-in-Ok-Stop-clause-round
 returns-in-Ok-Stop-clause-round g c reads site start first handled h =
     let before = parties (g.P.Peer.state c.args.peer.now) (g.O.Observer.told c.args.observer.now) in
     let after = parties (g.P.Peer.state c.stop.new.peer) (g.O.Observer.told c.hear.new.observer) in
-    let came : HasBrought (g.P.Peer.state c.args.peer.now) (g.P.Peer.state c.hear.new.peer) c.hear.new.buffer Stop =
-    subst (λ (x : Came). HasBrought (g.P.Peer.state c.args.peer.now) (g.P.Peer.state c.hear.new.peer) c.hear.new.buffer x) c.in-Ok-Stop.field-0-is
+    let came : HasBrought (g.P.Peer.state c.args.peer.now) (g.P.Peer.state c.hear.new.peer) (piece_of c.hear.new.buffer) Stop =
+    subst (λ (x : Came). HasBrought (g.P.Peer.state c.args.peer.now) (g.P.Peer.state c.hear.new.peer) (piece_of c.hear.new.buffer) x) c.in-Ok-Stop.field-0-is
     c.in-Ok-Stop.ensures.ok in
     let by : EndCause → Type 0 = λ end. IsServed (terms site reads) start after (g.D.Delivery.HasCome first)
     (g.D.Delivery.HasCome c.leave-in-Ok-Stop.new.delivery) end in

@@ -25,7 +25,6 @@ pub loop-made-preserved : goal.loop-made-preserved
 loop-made-preserved g c = record {
   may = c.in_default.ensures.may;
   none = c.in_default.ensures.none;
-  room = c.in_default.ensures.size ∙ c.loop-made.invariant.room;
   site = c.in_default.ensures.site ∙ c.loop-made.invariant.site;
   same = c.in_default.ensures.same ∙ c.loop-made.invariant.same;
   reads = rises_then c.loop-made._made 1 _ _ _ c.loop-made.invariant.reads c.in_default.ensures.reads;

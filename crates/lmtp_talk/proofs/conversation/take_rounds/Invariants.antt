@@ -11,7 +11,6 @@ abbrev pub invariant-loop-made : goal.invariant-loop-made
 invariant-loop-made g l = record {
   may : MayStop l.dialogue.session.session.state;
   none : l.dialogue.outbox.pending ≡ [];
-  room : length l.buffer ≡ 4096;
   site : l.dialogue.session.site ≡ l.initial.dialogue.session.site;
   same : g.D.Delivery.site l.delivery ≡ g.D.Delivery.site l.initial.delivery;
   reads : WasRead l._made (g.P.Peer.state l.initial.peer) (g.P.Peer.state l.peer);
