@@ -10,3 +10,4 @@ pub mod Pieces
 pub mod Onward
 pub mod Written
 pub mod Wholes
+pub mod Counted
