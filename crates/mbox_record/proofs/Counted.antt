@@ -1,10 +1,11 @@
 -- What a writer writes, counted: a spool that stands in proofs alone holds it, so what is said of a writer is said of
 -- counts.
 use Rattle.std.proofs.Common.{◌≡◌, ℕ, ◌+◌, ◌-◌, ◌^◌, ◌<◌, ◌≤◌, min, arith, List, [], ◌∷◌, ◌++◌, length, take, drop, None, true, false, refl, sym, ap, ◌∙◌}
-use Rattle.std.proofs.Common.{slice_index_or}
+use Rattle.std.proofs.Common.{slice_index_or, append_assoc}
 use Rattle.std.proofs.lemmas.List.{length-append, length-take}
 use Rattle.mail_world.specs.Counts.{counted}
 use Rattle.mail_world.specs.Marks.{was}
+use Rattle.mail_world.specs.Text.{lf}
 use Rattle.mbox_marks.specs.declared.marking.Place.TheVariants.{Inside}
 use Rattle.mbox_marks.specs.declared.marking.Found.{Found}
 use Rattle.mbox_marks.specs.Marking.{Place, marks_owed}
@@ -12,10 +13,10 @@ use Rattle.mbox_marks.specs.Marked.{FindsMark}
 use Rattle.mbox_record.specs.Lengths.{Counts}
 use Rattle.mbox_record.specs.Quoted.{Pending, IsPending, quoted_owed}
 use Rattle.mbox_record.specs.Spool.{SpoolState, SpoolTook}
-use Rattle.mbox_record.specs.Writing.{Writes, Writer, bytes_owed}
+use Rattle.mbox_record.specs.Writing.{Writes, Writer, IsWriter, bytes_owed}
 use Rattle.mbox_record.proofs.Onward.{Writes-then}
 use Rattle.mbox_record.proofs.Pieces.{TakesPiece, TakesPiece-more}
-use Rattle.mbox_record.proofs.Written.{HasWritten, Writes-none, begins, up_to, with_was, looks_on, holds, one_more, writes_held, next_rest, none_held}
+use Rattle.mbox_record.proofs.Written.{HasWritten, Writes-none, begins, up_to, with_was, looks_on, holds, one_more, writes_held, next_rest, none_held, owed_parts}
 
 abbrev pub nothing : SpoolState
 nothing = record {
@@ -162,3 +163,32 @@ module _ (f : List ℕ → List ℕ) (writer view : Writer) (rest : List ℕ) (c
             (writes_of x.spool more _ _ y);
         is = counts_both count more all x.spool.bytes y.text x.is y.is is_all;
       })
+
+-- the end of the message
+pub end_counts : (writer view : Writer) → writer ≡ view → IsWriter writer → (next : Pending) (count more all : ℕ)
+    → Counts count (λ then. quoted_owed writer.quoted (writer.held ++ then)) (quoted_owed next)
+    → more ≡ counted (length (quoted_owed next [] ++ lf ∷ [])) → all ≡ min (count + more) (2 ^ 64 - 1)
+    → all ≡ counted (length (bytes_owed view [] ++ lf ∷ []))
+end_counts writer view is h next count more all y is_more is_all =
+    let t : SpoolState = onto nothing y.text in
+    let x : Writes nothing t (λ then. quoted_owed writer.quoted (writer.held ++ then)) (quoted_owed next) =
+    record { text = y.text; taken = took nothing y.text; goes = y.goes } in
+    counts_both count more all y.text (quoted_owed next [] ++ lf ∷ []) y.is is_more is_all
+    ∙ ap (λ (l : List ℕ). counted (length l)) (sym (owed_parts writer view is h nothing t t next x))
+
+-- past the marks a writer counts as a text does
+pub counts_alike : (count : ℕ) (f g h k : List ℕ → List ℕ) → Counts count f g → ((text : List ℕ) → h text ≡ f text) → ((text : List ℕ) → k text ≡ g text)
+    → Counts count h k
+counts_alike count f g h k y before after = record {
+  text = y.text;
+  is = y.is;
+  goes = λ rest. ap (λ (l : List ℕ). y.text ++ l) (after rest) ∙ y.goes rest ∙ sym (before rest);
+}
+
+-- and one count after another
+pub counts_then : (n m sum : ℕ) (f g h : List ℕ → List ℕ) → Counts n f g → Counts m g h → sum ≡ min (n + m) (2 ^ 64 - 1) → Counts sum f h
+counts_then n m sum f g h x y e = record {
+  text = x.text ++ y.text;
+  is = counts_both n m sum x.text y.text x.is y.is e;
+  goes = λ rest. append_assoc x.text y.text (h rest) ∙ ap (λ (l : List ℕ). x.text ++ l) (y.goes rest) ∙ x.goes rest;
+}

@@ -11,3 +11,4 @@ pub mod Onward
 pub mod Written
 pub mod Wholes
 pub mod Counted
+pub mod Lengthened

@@ -170,7 +170,7 @@ module _ (writer view : Writer) (is : writer ≡ view) (h : IsWriter writer) (s 
       ap (λ (w : Writer). bytes_owed w []) (sym is)
       ∙ ap (quoted_owed writer.quoted) (ap (marks_owed writer.place) (append-nil writer.held) ∙ h.whole ∙ sym (append-nil writer.held))
 
-  owed_parts : (next : Pending) (x : Writes s t (λ more. quoted_owed writer.quoted (writer.held ++ more)) (quoted_owed next))
+  pub owed_parts : (next : Pending) (x : Writes s t (λ more. quoted_owed writer.quoted (writer.held ++ more)) (quoted_owed next))
       → bytes_owed view [] ++ lf ∷ [] ≡ x.text ++ (quoted_owed next [] ++ lf ∷ [])
   owed_parts next x =
       ap (λ (l : List ℕ). l ++ lf ∷ []) (owed_last ∙ sym (x.goes []))

@@ -1,5 +1,6 @@
 //! A text whose lines end with LF and whose From lines are quoted while it comes.
 ghost use Rattle.std.specs.Prelude.{◌≡◌, ◌≤◌, ℕ, List, [], ◌∷◌, ◌++◌, length, true, IfOk, OnOk, OnErr};
+ghost use Rattle.mail_world.specs.Counts.{counted};
 ghost use Rattle.mail_world.specs.Records.{quoted_text};
 ghost use Rattle.mail_world.specs.Text.{unix, lf};
 ghost use Rattle.mbox_record.specs.Lengths.{Counts};
@@ -114,7 +115,7 @@ impl QuotedText {
 
     // Counts what `end` writes.
     pub(crate) fn count_end(self) -> u64
-        ensures { result ≡ length (quoted_owed self [] ++ lf ∷ []) }
+        ensures { result ≡ counted (length (quoted_owed self [] ++ lf ∷ [])) }
     {
         match self.pending {
             Pending::Start => 1,
