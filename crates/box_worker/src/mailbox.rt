@@ -1,9 +1,10 @@
 //! A mailbox: its spool, how many copies it has, and whether its last turn broke.
 
-ghost use Rattle.std.specs.Prelude.{◌≡◌, ◌+◌, ℕ, true, false, length, OnOk, IfErr};
+ghost use Rattle.std.specs.Prelude.{◌≡◌, ◌+◌, ℕ, List, true, false, length, OnOk, IfErr};
 ghost use Rattle.lmtp_text.specs.Calendar.{civil_at};
 ghost use Rattle.mail_world.specs.Counts.{counted};
 ghost use Rattle.mbox_record.specs.Envelope.{record_text};
+ghost use Rattle.mbox_record.specs.Lengths.{lengths_of};
 ghost use Rattle.mbox_record.specs.TurnState.{knows_end};
 ghost use Rattle.box_worker.specs.Limits.{CountsTo};
 ghost use Rattle.box_worker.specs.Stored.{mailbox_of, IsMeasured, CountsOutcome};
@@ -14,7 +15,7 @@ use crate::limit::Limit;
 use crate::store::{mend_and_store, record_size};
 use crate::turn::TurnEnd;
 use lmtp_text::Site;
-use mbox_record::{Envelope, Spool, SpoolFault, Tail};
+use mbox_record::{Envelope, Lengths, Spool, SpoolFault, Tail};
 use msg_depot::{Depot, DepotName, Hold};
 use std::marker::Model;
 use std::sync::Wait;
@@ -60,8 +61,8 @@ impl<S: Spool> Mailbox<S> {
         }
     }
 
-    /// Stores a copy of the held message in a turn of its own, or says that it is over the quota or lost. Where the
-    /// turn is missed nothing is appended. Where it is missed or breaks, this copy alone is lost: the next one has a
+    /// Stores a copy of the held message, of which these are the lengths, in a turn of its own, or says that it is over
+    /// the quota or lost. Where the turn is missed nothing is appended. Where it is missed or breaks, this copy alone is lost: the next one has a
     /// turn again.
     pub fn take<N: DepotName, R: Wait>(
         &mut self,
@@ -69,8 +70,10 @@ impl<S: Spool> Mailbox<S> {
         depot: &Depot<N>,
         site: &Site,
         envelope: &Envelope,
+        lengths: &Lengths,
         hold: &mut Hold<N>,
     ) -> TurnEnd
+        requires lengths { lengths.now ≡ lengths_of hold.old.bytes }
         ensures tallied { CountsOutcome (outcome_of result) self.old.mailbox self.new.mailbox }
         ensures turns { TurnsCopy (manner_of S.MayFind S.MayRefuse)
             (record_text civil_at site.now envelope.now hold.old.bytes) result self.old self.new }
@@ -80,7 +83,7 @@ impl<S: Spool> Mailbox<S> {
             Ok(held) => {
                 self.faulty = false;
                 self.measure(held);
-                self.take_in_turn(rt, depot, site, envelope, hold)
+                self.take_in_turn(rt, depot, site, envelope, lengths, hold)
             }
             Err(in_use) => {
                 self.in_use = self.in_use.saturating_add(1);
@@ -139,8 +142,10 @@ impl<S: Spool> Mailbox<S> {
         depot: &Depot<N>,
         site: &Site,
         envelope: &Envelope,
+        lengths: &Lengths,
         hold: &mut Hold<N>,
     ) -> TurnEnd
+        requires lengths { lengths.now ≡ lengths_of hold.old.bytes }
         requires sound { self.old.mailbox.faulty ≡ false }
         requires turn { self.old.mailbox.state.turn.in_turn ≡ true }
         ensures tallied { CountsOutcome (outcome_of result) self.old.mailbox self.new.mailbox }
@@ -150,7 +155,7 @@ impl<S: Spool> Mailbox<S> {
         ensures in_use { self.new.in_use ≡ self.old.in_use }
         ensures hold { hold.new ≡ hold.old }
     {
-        let taken = self.settle_in_turn(rt, depot, site, envelope, hold);
+        let taken = self.settle_in_turn(rt, depot, site, envelope, lengths, hold);
         self.spool.unlock();
         taken
     }
@@ -161,8 +166,10 @@ impl<S: Spool> Mailbox<S> {
         depot: &Depot<N>,
         site: &Site,
         envelope: &Envelope,
+        lengths: &Lengths,
         hold: &mut Hold<N>,
     ) -> TurnEnd
+        requires lengths { lengths.now ≡ lengths_of hold.old.bytes }
         requires sound { self.old.mailbox.faulty ≡ false }
         ensures tallied { CountsOutcome (outcome_of result) self.old.mailbox self.new.mailbox }
         ensures turn { self.new.mailbox.state.turn.in_turn ≡ self.old.mailbox.state.turn.in_turn }
@@ -172,7 +179,7 @@ impl<S: Spool> Mailbox<S> {
         ensures in_use { self.new.in_use ≡ self.old.in_use }
         ensures hold { hold.new ≡ hold.old }
     {
-        let fits = self.lets_in(rt, depot, site, envelope, hold);
+        let fits = self.lets_in(site, envelope, lengths);
         if !fits {
             return self.refuse();
         }
@@ -180,23 +187,15 @@ impl<S: Spool> Mailbox<S> {
         self.count(kept)
     }
 
-    // Whether the record of the held message may stand after what the mailbox holds. One that may is counted.
-    fn lets_in<N: DepotName, R: Wait>(
-        &mut self,
-        rt: &R,
-        depot: &Depot<N>,
-        site: &Site,
-        envelope: &Envelope,
-        hold: &mut Hold<N>,
-    ) -> bool
-        ensures measured { IsMeasured (length (record_text civil_at site.now envelope.now hold.old.bytes)) result
-            self.old self.new }
-        ensures hold { hold.new ≡ hold.old }
+    // Whether the record of a message of these lengths may stand after what the mailbox holds. One that may is counted.
+    fn lets_in(&mut self, site: &Site, envelope: &Envelope, lengths: &Lengths) -> bool
+        ensures { (message : List ℕ) → lengths.now ≡ lengths_of message
+            → IsMeasured (length (record_text civil_at site.now envelope.now message)) result self.old self.new }
     {
         let Some(limit) = self.limit else {
             return true;
         };
-        let size = record_size(rt, depot, site, envelope, hold);
+        let size = record_size(site, envelope, lengths);
         match limit.admit(size) {
             Some(next) => {
                 self.limit = Some(next);

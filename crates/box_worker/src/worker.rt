@@ -114,10 +114,13 @@ impl<S: Spool, G: Gate, O: TurnObserver> Worker<S, G, O> {
             place,
             mailbox: _,
             envelope,
+            lengths,
             mut hold,
         } = post.parts();
         self.gate.before(txn, place);
-        let end = self.mailbox.take(rt, depot, site, &envelope, &mut hold);
+        let end = self
+            .mailbox
+            .take(rt, depot, site, &envelope, &lengths, &mut hold);
         let released = release(rt, depot, txn, place, hold);
         self.gate.after(txn, place);
         self.observer.turn(end);

@@ -10,3 +10,4 @@ pub mod Parts
 pub mod Quoted
 pub mod Writing
 pub mod Steps
+pub mod Lengths
