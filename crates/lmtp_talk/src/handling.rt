@@ -115,8 +115,9 @@ fn handle_line<P: Peer, D: Delivery, O: Observer>(
     ensures same { D.site delivery.new ≡ D.site delivery.old }
     ensures reads { (P.state peer.new).reads ≡ (P.state peer.old).reads }
 {
-    let act = dialogue.session.line(dialogue.wire.line());
-    let asked = Asked::Line(dialogue.wire.line());
+    let said = dialogue.session.read(dialogue.wire.line());
+    let act = dialogue.session.line(said);
+    let asked = Asked::Line(said);
     dialogue
         .outbox
         .answer(peer, observer, &dialogue.session, asked, act);
@@ -134,7 +135,7 @@ fn refuse_line<P: Peer, O: Observer>(dialogue: &mut Dialogue, peer: &mut P, obse
     ensures reads { (P.state peer.new).reads ≡ (P.state peer.old).reads }
 {
     let act = dialogue.session.too_long();
-    let asked = Asked::Line(b"");
+    let asked = Asked::Line(dialogue.session.read(b""));
     dialogue
         .outbox
         .answer(peer, observer, &dialogue.session, asked, act);

@@ -7,6 +7,7 @@ ghost use Rattle.lmtp_talk.specs.Telling.{entries_for};
 
 use crate::observer::Observer;
 use lmtp_session::{Act, Session};
+use lmtp_text::Reading;
 use mail_head::MessageId;
 use mail_world::Reply;
 
@@ -21,8 +22,8 @@ pub struct Arrived {
 /// What replies answer.
 #[derive(Clone, Copy)]
 pub enum Asked<'a> {
-    /// A command line without its end, empty where it was too long.
-    Line(&'a [u8]),
+    /// A command line without its end, as it was read, empty where it was too long.
+    Line(Reading<'a>),
     /// A message whose data has ended.
     Message(Arrived),
 }
@@ -58,7 +59,7 @@ fn tell<O: Observer>(observer: &mut O, session: &Session, asked: Asked<'_>, repl
         (entries_for asked.entry session.now.session.client (reply ∷ [])) }
 {
     match asked {
-        Asked::Line(line) => observer.command(line, reply),
+        Asked::Line(said) => observer.command(said, reply),
         Asked::Message(arrived) => observer.copy(arrived, session.client(), reply),
     }
 }

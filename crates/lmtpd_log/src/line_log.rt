@@ -16,6 +16,7 @@ use crate::line_sink::LineSink;
 use crate::pairs::{Line, Seconds};
 use crate::setting::LaneSetting;
 use lmtp_talk::{Arrived, EndCause, Observer, Traffic};
+use lmtp_text::Reading;
 use mail_world::Reply;
 use std::alloc::{AllocError, Global};
 use std::time::{Clock, Duration};
@@ -117,6 +118,7 @@ impl<E: LineSink, C: Clock + Drop> LaneLog for LineLog<E, C> {
 
 impl<E: LineSink, C: Clock + Drop> Observer for LineLog<E, C> {
     ghost use Rattle.std.specs.Prelude.{◌∷◌, Some};
+    ghost use Rattle.lmtp_text.specs.Readings.{line_read};
     ghost use Rattle.lmtp_talk.specs.Entries.{OfLine, OfEnd, with_entries};
     ghost use Rattle.lmtp_talk.specs.Telling.{arrived_entry};
     ghost use Rattle.lmtpd_log.specs.Lines.{ShowsForRoom, has_room, heard_by, rules_in, told_to, waits};
@@ -124,17 +126,18 @@ impl<E: LineSink, C: Clock + Drop> Observer for LineLog<E, C> {
     ghost told = { λ log. Some (told_to log) };
 
     /// A line for a command that was refused.
-    fn command(&mut self, line: &[u8], reply: Reply)
-        ensures told { Some (told_to self.new) ≡ with_entries (Some (told_to self.old)) (OfLine line.now reply ∷ []) }
+    fn command(&mut self, said: Reading<'_>, reply: Reply)
+        ensures told { Some (told_to self.new)
+            ≡ with_entries (Some (told_to self.old)) (OfLine (line_read said.entry) reply ∷ []) }
         ensures waits { ShowsForRoom (has_room self.old) (waits self.old)
             (E.shown self.old.sink) (E.shown self.new.sink) }
         ensures rules { rules_in self.new ≡ rules_in self.old }
     {
         self.make_room();
-        let refused = self.setting.refused(line, reply);
+        let refused = self.setting.refused(said, reply);
         keep(&mut self.waiting, refused);
-        self.letter.line(line, reply);
-        self.history.add(Event::Line(line, reply));
+        self.letter.line(said, reply);
+        self.history.add(Event::Line(said.line(), reply));
     }
 
     /// A line for each copy.

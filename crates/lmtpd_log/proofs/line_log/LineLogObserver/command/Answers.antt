@@ -1,4 +1,5 @@
 use Rattle.std.proofs.Common.{◌++◌, ◌∙◌, ap, refl, sym, None}
+use Rattle.lmtp_text.specs.Readings.{line_read}
 use Rattle.lmtp_talk.specs.Entries.{OfLine}
 use Rattle.lmtpd_log.specs.Letters.{first_letter}
 use Rattle.lmtpd_log.specs.Owed.{Heard, letter_after, lines_owed}
@@ -14,7 +15,7 @@ invariant_of-self g c =
     let letter = letter_of log.letter in
     let heard = log.history.list.heard in
     let first = first_letter rules.addresses in
-    let h : Heard = record { entry = OfLine c.args.line.now c.args.reply; traffic = None } in
+    let h : Heard = record { entry = OfLine (line_read c.args.said) c.args.reply; traffic = None } in
     let waits = lines_of log.waiting.items in
     record {
       room = c.keep.ensures.capacity ∙ log.room;
