@@ -5,10 +5,10 @@ use Rattle.std.proofs.Math.Seq.{take-length}
 use Rattle.std.specs.List.{AllByRecursion}
 
 -- one more element was made
-pub one_more : {X Y Z : Type 0} (f : X → Z) (g : Y → Z) (made : List X) (from : List Y) (i : ℕ) (x : X) (d : Y) → i < length from
-    → map f made ≡ map g (take i from) → f x ≡ g (get_or from i d) → map f (made ++ x ∷ []) ≡ map g (take (i + 1) from)
-one_more f g made from i x d low before is =
-    map-append f made (x ∷ []) ∙ ap (λ l. l ++ f x ∷ []) before ∙ ap (λ y. map g (take i from) ++ y ∷ []) is ∙ sym (map_more g from i d low)
+pub one_more : {X Y Z : Type 0} (f : X → Z) (g : Y → Z) (made next : List X) (from : List Y) (i : ℕ) (x : X) (d : Y) → i < length from
+    → next ≡ made ++ x ∷ [] → map f made ≡ map g (take i from) → f x ≡ g (get_or from i d) → map f next ≡ map g (take (i + 1) from)
+one_more f g made next from i x d low pushed before is =
+    ap (map f) pushed ∙ map-append f made (x ∷ []) ∙ ap (λ l. l ++ f x ∷ []) before ∙ ap (λ y. map g (take i from) ++ y ∷ []) is ∙ sym (map_more g from i d low)
 
 -- all were
 pub all_made : {X Y Z : Type 0} (f : X → Z) (g : Y → Z) (made : List X) (from : List Y) (i : ℕ) → i ≡ length from

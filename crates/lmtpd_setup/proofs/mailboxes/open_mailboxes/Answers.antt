@@ -1,4 +1,4 @@
-use Rattle.std.proofs.Common.{◌≡◌, ◌∙◌, ◌<◌, [], ap, arith, length, map, rules}
+use Rattle.std.proofs.Common.{◌≡◌, ◌<◌, [], arith, length, rules}
 use Rattle.lmtpd_setup.specs.Mailboxes.{IsUntold, held_as, held_at}
 use Rattle.lmtpd_setup.proofs.Pushed.{all_made, all_pushed, one_more}
 use Rattle.lmtpd_setup.proofs.mailboxes.open_mailboxes.Goals as goal
@@ -9,9 +9,8 @@ loop-name-preserved g c =
     record {
       count = search rules;
       room = search rules;
-      held = ap (map held_as) c.push_reserved.ensures.items
-          ∙ one_more held_as (held_at c.args.access) c.loop-name.spools.items c.args.names.now c.loop-name.name-index c.in_ok-open_mailbox.field-0
-          (record { ref_ptr = (0, 0); now = [] }) within c.loop-name.invariant.held c.in_ok-open_mailbox.ensures.ok;
+      held = one_more held_as (held_at c.args.access) _ _ c.args.names.now c.loop-name.name-index c.in_ok-open_mailbox.field-0
+          (record { ref_ptr = (0, 0); now = [] }) within c.push_reserved.ensures.items c.loop-name.invariant.held c.in_ok-open_mailbox.ensures.ok;
       untold = all_pushed (λ mailbox. IsUntold mailbox) _ _ c.in_ok-open_mailbox.field-0 c.push_reserved.ensures.items c.loop-name.invariant.untold
           c.in_ok-open_mailbox.ensures.untold;
     }
