@@ -1,5 +1,4 @@
 use Rattle.std.proofs.Common.{ℕ, arith}
-use Rattle.std.proofs.lemmas.Grind.{common_steps}
 use Rattle.std.proofs.lemmas.List.{length-take, length-drop}
 use Rattle.lmtp_talk.proofs.HandedOut.{waiting_parts}
 use Rattle.lmtp_talk.proofs.tcp.read_buffer.ReadBuffer.lend.Goals as goal
