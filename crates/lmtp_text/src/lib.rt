@@ -1,8 +1,8 @@
 //! The texts of LMTP and of a mailbox: what a site is named and serves, commands as they are read, replies and moments
 //! as they are written.
 //!
-//! The layers above use that `read_command`, `Site::find`, `write_reply` and the stamps each equal their definition. It
-//! never knows what came before a command, or what is done with it.
+//! The layers above use that `read_command`, `Reading::command_at`, `Site::find`, `write_reply` and the stamps each equal
+//! their definition. It never knows what came before a command, or what is done with it.
 #![tactic(auto)]
 
 mod alphabet;

@@ -7,13 +7,14 @@ use crate::mailbox_line::MailboxLine;
 use crate::pairs::Line;
 use box_worker::TurnEnd;
 use lmtp_talk::{Arrived, EndCause, Traffic};
+use lmtp_text::Reading;
 use mail_world::Reply;
 use std::marker::{Brand, Model, PhantomData};
 
 /// What the log of a lane or of a mailbox is told, or shows.
 #[derive(Clone, Copy)]
 pub(crate) enum Event<'a> {
-    Line(&'a [u8], Reply),
+    Line(Reading<'a>, Reply),
     Copy(Arrived, &'a [u8], Reply),
     End(EndCause, Traffic),
     Shown(Line),

@@ -137,7 +137,7 @@ impl<E: LineSink, C: Clock + Drop> Observer for LineLog<E, C> {
         let refused = self.setting.refused(said, reply);
         keep(&mut self.waiting, refused);
         self.letter.line(said, reply);
-        self.history.add(Event::Line(said.line(), reply));
+        self.history.add(Event::Line(said, reply));
     }
 
     /// A line for each copy.
