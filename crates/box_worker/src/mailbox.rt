@@ -62,8 +62,8 @@ impl<S: Spool> Mailbox<S> {
     }
 
     /// Stores a copy of the held message, of which these are the lengths, in a turn of its own, or says that it is over
-    /// the quota or lost. Where the turn is missed nothing is appended. Where it is missed or breaks, this copy alone is lost: the next one has a
-    /// turn again.
+    /// the quota or lost. Where the turn is missed nothing is appended. Where it is missed or breaks, this copy alone
+    /// is lost: the next one has a turn again.
     pub fn take<N: DepotName, R: Wait>(
         &mut self,
         rt: &R,

@@ -41,8 +41,8 @@ impl RecordWriter {
         count.saturating_add(quoted.count_end())
     }
 
-    // The same beside a text whose marks stay, which stood there, has come to that place and was counted: past the marks
-    // both are one, and nothing is counted twice.
+    // The same beside a text whose marks stay, which stood there, has come to that place and was counted: past the
+    // marks both are one, and nothing is counted twice.
     pub(crate) fn count_beside(
         self,
         plain: QuotedText,
