@@ -6,11 +6,12 @@
 #   smtp-sink  Postfix's `smtp-sink -L`: the protocol, and nothing is stored
 #   dovecot    Dovecot's LMTP over mbox, mail_fsync=optimized, with a process for each connection
 #   ours       `serve` with 4 lanes and its other numbers as they are without words
-#   quota      the same with a quota that every letter fits, so that each record is measured before it is written;
-#              only where it is named
+#   quota      the same with a quota that every letter fits; only where it is named
 #   logged     the same as ours with a line of the log for each copy (--log info); only where it is named
 #   renamed    the same as ours with the marks of each head renamed (--rename-marks); only where it is named
-#   before     an older program of ours, which LMTPD_BEFORE names; only where it is named
+#   before, before-logged
+#              an older program of ours, which LMTPD_BEFORE names, without and with a line of the log for each copy;
+#              only where they are named
 # The works, by bench/serve/load.rs, which checks each reply:
 #   a, a1      4 connections, 2 KiB, one recipient: a mailbox each, and one for all
 #   b, b10     4 connections, 20 KiB, ten recipients: of 40 mailboxes, and the same ten for all

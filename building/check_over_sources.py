@@ -1,7 +1,9 @@
 #!/usr/bin/env python3
 """Checks a crate over crates below it as they stand in their sources, proved or not, so that a chain of crates can be
 mended side by side. It says nothing of the crates below: `rt ci` proves them. Those below that didn't change come as
-the libraries that a gate made here or in another clone (LIBRARIES: its top).
+the libraries that a gate made here or in another clone (LIBRARIES: its top). Without --only each function of those
+crates is checked too; with --only MODULE, for each module of CRATE, those alone that it reaches. Where nothing below
+changed CHANGED is none.
 usage: LIBRARIES=/path/to/clone building/check_over_sources.py CRATE CHANGED,CHANGED.. [words for `rattle check`]
 as in: building/check_over_sources.py box_worker mbox_record,mail_post --only worker --short-goals
 """
@@ -48,8 +50,9 @@ def main(name, changed, *more):
     words = ["--crate-name", name, root, *words_for(crate, set(changed.split(","))), "-L", f"dependency={KIT}/rlibs"]
     os.chdir(crate.folder)
     program = f"{KIT}/bin/rattle"
-    kept_words = ["--incremental", str(kept), "--jobs", "1", "--links", f"{name}="]
-    os.execv(program, [program, "check", *words, *logic, *kept_words, *more])
+    kept_words = ["--incremental", str(kept), "--links", f"{name}="]
+    jobs = [] if "--jobs" in more else ["--jobs", "1"]
+    os.execv(program, [program, "check", *words, *logic, *kept_words, *jobs, *more])
 
 
 if __name__ == "__main__":

@@ -38,7 +38,7 @@ refuses msg_depot depot 'hold::release(&self.board, hold)' "$locked hold::releas
 
 refuses box_worker worker 'release(rt, depot, txn, place, hold)' 'crate::release::Released { txn, place }' \
     'txn.*Released.*private'
-told=$'self.slips\n            .tell::<Brand, N, R>(rt, released, outcome, receiver)'
+told=$'self.slips\n            .tell::<Brand, N, R>(rt, released, end.outcome(), receiver)'
 refuses box_worker worker "$told" 'self.slips.senders.pop()' \
     'senders.*SlipSenders.*private'
 refuses box_worker worker "$told;" '' 'released.*let go.*Drop'

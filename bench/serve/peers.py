@@ -12,7 +12,7 @@ import time
 SEARCHED = os.environ.get("PATH", "") + ":/usr/sbin:/usr/lib/postfix/sbin"
 
 # They are programs of ours, which choose a port themselves.
-OF_OURS = ("ours", "quota", "logged", "renamed", "before")
+OF_OURS = ("ours", "quota", "logged", "renamed", "before", "before-logged")
 
 DOVECOT = """
 base_dir = {folder}/run
@@ -67,7 +67,7 @@ def absent(name):
         return "dovecot-lmtpd isn't installed"
     if name == "smtp-sink" and shutil.which("smtp-sink", path=SEARCHED) is None:
         return "postfix isn't installed"
-    if name == "before" and "LMTPD_BEFORE" not in os.environ:
+    if name.startswith("before") and "LMTPD_BEFORE" not in os.environ:
         return "LMTPD_BEFORE names no program"
     return None
 
@@ -86,6 +86,7 @@ class Server:
             "logged": self.logged,
             "renamed": self.renamed,
             "before": self.before,
+            "before-logged": self.before_logged,
             "plain": self.plain,
             "smtp-sink": self.smtp_sink,
             "dovecot": self.dovecot,
@@ -118,6 +119,9 @@ class Server:
 
     def before(self, folder, preload):
         return [os.environ["LMTPD_BEFORE"], *self.ours(folder, preload)[1:]]
+
+    def before_logged(self, folder, preload):
+        return [*self.before(folder, preload), "--log", "info"]
 
     def quota(self, folder, preload):
         return [*self.ours(folder, preload), "--quota", str(2**64 - 1)]

@@ -30,20 +30,25 @@ class Work:
     # Of all but Dovecot that many times as many messages, so that no run is too short to tell. A mailbox that
     # grows costs Dovecot time, so the smaller number is in its favour.
     times: int
-    # The least ratio of ours to a peer. `before` is a program from before a site chose its message limit (7757243).
+    # The least ratio of ours to a peer. `before` is a program that moves 512 bytes at a time (74e1518b).
     needed: dict = field(default_factory=dict)
 
 
 WORKS = {
-    "a": Work(4, 500, 1, 2048, 4, 5, {"dovecot": 5, "smtp-sink": 0.8, "before": 0.95}),
-    "a1": Work(4, 500, 1, 2048, 1, 5, {"dovecot": 8, "before": 0.95}),
-    "b": Work(4, 100, 10, 20480, 40, 3, {"dovecot": 5, "before": 0.95}),
-    "b10": Work(4, 100, 10, 20480, 10, 3, {"dovecot": 10, "before": 0.95}),
-    "c": Work(1, 20, 1, 1048576, 1, 5, {"dovecot": 2.5, "plain": 0.6}),
-    "c4": Work(4, 10, 1, 1048576, 4, 3),
+    "a": Work(4, 500, 1, 2048, 4, 5, {"dovecot": 5, "smtp-sink": 0.8, "plain": 0.65, "before": 0.97}),
+    "a1": Work(4, 500, 1, 2048, 1, 5, {"dovecot": 8, "before": 0.97}),
+    "b": Work(4, 100, 10, 20480, 40, 3, {"dovecot": 5, "before": 0.97}),
+    "b10": Work(4, 100, 10, 20480, 10, 3, {"dovecot": 10, "before": 0.97}),
+    "c": Work(1, 20, 1, 1048576, 1, 5, {"dovecot": 2.5, "plain": 0.65, "before": 1.25}),
+    "c4": Work(4, 10, 1, 1048576, 4, 3, {"plain": 0.65, "before": 1.25}),
 }
-# The least ratio of ours with a word to ours without it: with a log, with marks renamed.
-NEEDED_WITH = {"logged": {"a": 0.9}, "renamed": {"b": 0.95, "c": 0.95}}
+# The least ratio of ours with a word to ours without it, or to the older program with it.
+NEEDED_WITH = {
+    ("logged", "ours"): {"a": 0.9},
+    ("logged", "before-logged"): dict.fromkeys(["a", "a1", "b", "b10"], 0.97),
+    ("quota", "ours"): dict.fromkeys(WORKS, 0.95),
+    ("renamed", "ours"): {"b": 0.95, "c": 0.95},
+}
 NEEDED_SLOW = {"a": {"floor": 0.9}}
 
 
@@ -196,16 +201,20 @@ def print_tables(works, names, given, runs):
     missed = 0
     for work in works:
         needed = NEEDED_SLOW.get(work, {}) if given.slow_sync else WORKS[work].needed
-        with_word = [(name, "ours") for name in NEEDED_WITH]
-        for name, other in [*with_word, *((name, other) for name in ("ours", "plain") for other in names)]:
-            if not {name, other} <= {*names} or other == name or other in NEEDED_WITH:
-                continue
-            if name == "plain" and other in ("ours", "before"):
+        for name, other in [*NEEDED_WITH, *pairs_of(names)]:
+            if not {name, other} <= {*names}:
                 continue
             ratios = [runs[work, name, n].rate / runs[work, other, n].rate for n in range(given.rounds)]
-            least = needed.get(other) if name == "ours" else NEEDED_WITH.get(name, {}).get(work)
+            least = needed.get(other) if name == "ours" else NEEDED_WITH.get((name, other), {}).get(work)
             missed += print_ratio(work, name, other, ratios, least)
     return 1 if missed else 0
+
+
+def pairs_of(names):
+    """Ours and `plain`, each beside those that it is compared with, whose programs have no word more."""
+    others = [name for name in names if name not in ("logged", "before-logged", "quota", "renamed")]
+    ours = [("ours", other) for other in others if other != "ours"]
+    return ours + [("plain", other) for other in others if other not in ("plain", "ours", "before")]
 
 
 def print_ratio(work, name, other, ratios, needed):

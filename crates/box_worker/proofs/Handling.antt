@@ -24,12 +24,15 @@ use Rattle.mail_post.proofs.Offered.{still_numbered, accepted_nothing, offered_m
 use Rattle.mbox_record.specs.Spool.{SpoolState}
 use Rattle.mbox_record.specs.Envelope.{record_text}
 use Rattle.box_worker.specs.declared.limit.Limit.{Limit}
+use Rattle.box_worker.specs.declared.turn.TurnEnd.{TurnEnd}
 use Rattle.box_worker.specs.Limits.{Setting, CountsTo}
 use Rattle.box_worker.specs.Stored.{MailboxState, mailbox_of, CountedMailbox, CountsOutcome}
 use Rattle.box_worker.specs.Told.{slip_by, owed_to, is_stored, says_over_quota}
 use Rattle.box_worker.specs.Turned.{Manner, turned, TurnsCopy}
+use Rattle.box_worker.specs.TurnEnds.{outcome_of, with_ends}
 use Rattle.box_worker.specs.Worked.{WorkerState, counted_of, idle, is_lost, HasHandled, IsCounting, HasWorked}
-use Rattle.box_worker.proofs.OneTurn.{IsToldOnce, told_once}
+use Rattle.box_worker.proofs.Observing.{tells_none, tells_more}
+use Rattle.box_worker.proofs.OneTurn.{told_once}
 use Rattle.box_worker.proofs.Turning.{turned_more, turned_none}
 use Rattle.box_worker.proofs.Telling.{owed_more}
 
@@ -80,19 +83,28 @@ module _ (at : Setting) (manner : Manner) (copies : List Note) (old now : Worker
   one_more outcome new limit = (y : IsCounting at manner (copies ++ note ∷ []) old new limit)
       × (outcomes_in y.handled.turns ≡ outcomes_in h.turns ++ outcome ∷ [])
 
-  pub handled_more : (moment : ℕ) (outcome : Outcome) (after : CountedMailbox) → CountsOutcome outcome now.mailbox after.mailbox
-      → TurnsCopy manner (record_of at.calendar at.site note) outcome (counted_of now before) after
-      → IsOffered moment note.txn.lane (slip_by note.txn note.place outcome) accepted now.slips next
-      → one_more outcome (record { slips = next; mailbox = after.mailbox; in_use = after.in_use; taken = counted (now.taken + 1); lost = any_gone next })
-      after.limit
-  handled_more moment outcome after tallied turns offered =
+  pub handled_more : (moment : ℕ) (end : TurnEnd) (after : CountedMailbox) (told : Option (List TurnEnd))
+      → CountsOutcome (outcome_of end) now.mailbox after.mailbox
+      → TurnsCopy manner (record_of at.calendar at.site note) end (counted_of now before) after
+      → told ≡ with_ends now.told (end ∷ [])
+      → IsOffered moment note.txn.lane (slip_by note.txn note.place (outcome_of end)) accepted now.slips next
+      → one_more (outcome_of end) (record {
+        slips = next;
+        mailbox = after.mailbox;
+        in_use = after.in_use;
+        taken = counted (now.taken + 1);
+        lost = any_gone next;
+        told = told;
+      }) after.limit
+  handled_more moment end after observed tallied turns tells offered =
+      let outcome : Outcome = outcome_of end in
       let mine : offered.sender.number ≡ at.worker = h.numbered note.txn.lane offered.sender offered.is in
       let slip_is : slip_by note.txn note.place outcome offered.sender ≡ slip_of at.worker note outcome =
       ap (λ (w : ℕ). let s : Slip = record { txn = note.txn; place = note.place; worker = w; outcome = outcome } in s) mine in
       let take = turns at.quota x.counts.0 x.counts.1 in
-      let one : IsToldOnce at manner note outcome (turned now.mailbox.state now.mailbox.faulty now.in_use)
-      (turned after.mailbox.state after.mailbox.faulty after.in_use) =
-      told_once at manner note _ _ (is_counted now.in_use _ h.each.missed) outcome take.0 in
+      let told_so = told_once at manner note (turned now.mailbox.state now.mailbox.faulty now.in_use)
+      (turned after.mailbox.state after.mailbox.faulty after.in_use) (is_counted now.in_use _ h.each.missed) end take.0 in
+      let one = told_so.0 in
       let told : Told = record { outcome = outcome; turn = one.turn } in
       let outs = outcomes_in h.turns in
       let all : List Outcome = outs ++ outcome ∷ [] in
@@ -113,6 +125,7 @@ module _ (at : Setting) (manner : Manner) (copies : List Note) (old now : Worker
                 ∙ ap counted (sym (count-append says_over_quota outs (outcome ∷ [])) ∙ ap (count_by says_over_quota) (sym are));
             each = turned_more at manner copies h.turns note told (turned old.mailbox.state old.mailbox.faulty old.in_use)
                 (turned now.mailbox.state now.mailbox.faulty now.in_use) (turned after.mailbox.state after.mailbox.faulty after.in_use) h.each one refl;
+            observed = tells_more h.turns told end old.told now.told observed h.observed (refl, told_so.1) tells;
           };
           counts = take.1;
         },
@@ -121,13 +134,13 @@ module _ (at : Setting) (manner : Manner) (copies : List Note) (old now : Worker
 
 -- a worker that took nothing
 pub counting_none : (at : Setting) (manner : Manner) (slips : List (Sender Slip)) (old : SpoolState) (new : CountedMailbox)
-    → HaveNumber at.worker slips → new.mailbox ≡ mailbox_of old 0 0 false → new.in_use ≡ 0 → CountsTo at.quota 0 new.limit
-    → (y : IsCounting at manner [] (idle slips old)
-    (record { slips = slips; mailbox = new.mailbox; in_use = new.in_use; taken = 0; lost = any_gone slips }) new.limit)
+    (told : Option (List TurnEnd)) → HaveNumber at.worker slips → new.mailbox ≡ mailbox_of old 0 0 false → new.in_use ≡ 0 → CountsTo at.quota 0 new.limit
+    → (y : IsCounting at manner [] (idle slips old told)
+    (record { slips = slips; mailbox = new.mailbox; in_use = new.in_use; taken = 0; lost = any_gone slips; told = told }) new.limit)
     × (outcomes_in y.handled.turns ≡ [])
-counting_none at manner slips old new mine left none begins =
-    let P : MailboxState → ℕ → Type 0 = λ m n. (y : IsCounting at manner [] (idle slips old)
-    (record { slips = slips; mailbox = m; in_use = n; taken = 0; lost = any_gone slips }) new.limit) × (outcomes_in y.handled.turns ≡ []) in
+counting_none at manner slips old new told mine left none begins =
+    let P : MailboxState → ℕ → Type 0 = λ m n. (y : IsCounting at manner [] (idle slips old told)
+    (record { slips = slips; mailbox = m; in_use = n; taken = 0; lost = any_gone slips; told = told }) new.limit) × (outcomes_in y.handled.turns ≡ []) in
     subst (λ m. P m new.in_use) (sym left) (subst (P (mailbox_of old 0 0 false)) (sym none) (
       record {
         handled = record {
@@ -138,6 +151,7 @@ counting_none at manner slips old new mine left none begins =
           stored_count = refl;
           over_count = refl;
           each = turned_none at manner (turned old false 0) refl;
+          observed = tells_none told;
         };
         counts = (0, begins);
       },
@@ -155,6 +169,7 @@ handled_lost at manner copies old now lost x = record {
   stored_count = x.stored_count;
   over_count = x.over_count;
   each = x.each;
+  observed = x.observed;
 }
 
 -- a worker that found no channel gone: no slip was handed back, and its own channel was closed

@@ -3,6 +3,7 @@ pub mod Counting
 pub mod Counted
 pub mod Telling
 pub mod Measuring
+pub mod Observing
 pub mod OneTurn
 pub mod Turning
 pub mod Handling

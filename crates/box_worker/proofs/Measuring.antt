@@ -1,9 +1,7 @@
 -- What a worker counts in a turn, and what it does there by its count.
 use Rattle.std.proofs.Common.{◌≡◌, ℕ, ◌+◌, ◌≤◌, List, length, true, false, Option, Some, None, Result, Ok, Err, refl, ap}
 use Rattle.std.proofs.Common.{sym, ◌∙◌, subst}
-use Rattle.std.specs.Result.{OnOk, OnErr}
-use Rattle.mail_world.specs.declared.Outcome.{Outcome}
-use Rattle.mail_world.specs.declared.Outcome.TheVariants.{Stored, Failed, NoRoom, TooLarge, OverQuota}
+use Rattle.std.specs.Result.{OnOk, OnErr, IfErr}
 use Rattle.mail_world.specs.Counts.{counted}
 use Rattle.mail_world.specs.Endings.{ending}
 use Rattle.mbox_record.specs.Mending.{HasMended, HasNotMended}
@@ -12,7 +10,10 @@ use Rattle.mbox_record.specs.Tail.{ending_of}
 use Rattle.mbox_record.specs.TurnState.{TurnState}
 use Rattle.mbox_record.specs.declared.tail.Tail.{Tail}
 use Rattle.mbox_record.proofs.Taken.{Appends-then, SpoolFailed-first, SpoolFailed-later}
+use Rattle.mbox_record.specs.declared.spool.SpoolFault.{SpoolFault}
 use Rattle.box_worker.specs.declared.limit.Limit.{Limit}
+use Rattle.box_worker.specs.declared.turn.TurnEnd.{TurnEnd}
+use Rattle.box_worker.specs.declared.turn.TurnEnd.TheVariants.{Over, Stored, Broke}
 use Rattle.box_worker.specs.Limits.{CountsTo, start_of, missing, IsLetIn, IsKeptOut}
 use Rattle.box_worker.specs.Stored.{MailboxState, CountedMailbox, HasKept}
 use Rattle.box_worker.specs.Turned.{HasKeptMended, HasNotKeptMended}
@@ -44,14 +45,14 @@ module _ (quota : Option ℕ) (text : List ℕ) (old new : CountedMailbox) (some
       let m = let_in quota start (length text) old.limit new.limit some counts h in
       ((record { measured = m.0; kept = kept }, sound), (start + length text, m.1))
 
-  pub does_break : IsLetIn old.limit (length text) new.limit → HasNotKeptMended old.mailbox.state new.mailbox.state text → new.mailbox.faulty ≡ true
-      → DoesInTurn quota text Failed old.mailbox new.mailbox × ((m : ℕ) × CountsTo quota m new.limit)
-  does_break h broken faulty =
+  pub does_break : (fault : SpoolFault) → IsLetIn old.limit (length text) new.limit → HasNotKeptMended old.mailbox.state new.mailbox.state text → new.mailbox.faulty ≡ true
+      → DoesInTurn quota text (Broke fault) old.mailbox new.mailbox × ((m : ℕ) × CountsTo quota m new.limit)
+  does_break fault h broken faulty =
       let m = let_in quota start (length text) old.limit new.limit some counts h in
       ((record { measured = m.0; broken = broken }, faulty), (start + length text, m.1))
 
   pub does_keep_out : IsKeptOut old.limit (length text) → new.mailbox.state ≡ old.mailbox.state → new.mailbox.faulty ≡ false → new.limit ≡ old.limit
-      → DoesInTurn quota text OverQuota old.mailbox new.mailbox × ((m : ℕ) × CountsTo quota m new.limit)
+      → DoesInTurn quota text Over old.mailbox new.mailbox × ((m : ℕ) × CountsTo quota m new.limit)
   does_keep_out h same sound unchanged =
       let out = kept_out quota start (length text) old.limit counts h in
       let P : Option Limit → Type 0 = λ l. CountsTo quota start l in
@@ -68,31 +69,31 @@ abbrev one_over : CountedMailbox → CountedMailbox
 one_over m = record m { mailbox = record m.mailbox { over = counted (m.mailbox.over + 1) } }
 
 -- what was done in a turn to a record that was let in, by how the spool answered
-pub does_count : {T E : Type 0} (quota : Option ℕ) (text : List ℕ) (old done new : CountedMailbox) → 1 ≤ length text
+pub does_count : {T : Type 0} (quota : Option ℕ) (text : List ℕ) (old done new : CountedMailbox) → 1 ≤ length text
     → CountsTo quota (start_of old.mailbox.state) old.limit → IsLetIn old.limit (length text) done.limit → done.mailbox.faulty ≡ false
-    → (r : Result T E) (outcome : Outcome) → OnOk r (HasKeptMended old.mailbox.state done.mailbox.state text)
+    → (r : Result T SpoolFault) (end : TurnEnd) → OnOk r (HasKeptMended old.mailbox.state done.mailbox.state text)
     → OnErr r (HasNotKeptMended old.mailbox.state done.mailbox.state text)
-    → OnOk r ((outcome ≡ Stored) × (new ≡ one_stored done)) → OnErr r ((outcome ≡ Failed) × (new ≡ one_lost done))
-    → DoesInTurn quota text outcome old.mailbox new.mailbox × ((m : ℕ) × CountsTo quota m new.limit)
-does_count quota text old done new some counts fit sound (Ok x) outcome kept broken ok err =
-    let Done : Outcome → CountedMailbox → Type 0 = λ o m. DoesInTurn quota text o old.mailbox m.mailbox × ((n : ℕ) × CountsTo quota n m.limit) in
+    → OnOk r ((end ≡ Stored) × (new ≡ one_stored done)) → IfErr r (λ fault. (end ≡ Broke fault) × (new ≡ one_lost done))
+    → DoesInTurn quota text end old.mailbox new.mailbox × ((m : ℕ) × CountsTo quota m new.limit)
+does_count quota text old done new some counts fit sound (Ok x) end kept broken ok err =
+    let Done : TurnEnd → CountedMailbox → Type 0 = λ o m. DoesInTurn quota text o old.mailbox m.mailbox × ((n : ℕ) × CountsTo quota n m.limit) in
     let d : Done Stored (one_stored done) = does_store quota text old (one_stored done) some counts fit kept sound in
-    subst (λ (m : CountedMailbox). Done outcome m) (sym ok.1) (subst (λ o. Done o (one_stored done)) (sym ok.0) d)
-does_count quota text old done new some counts fit sound (Err e) outcome kept broken ok err =
-    let Done : Outcome → CountedMailbox → Type 0 = λ o m. DoesInTurn quota text o old.mailbox m.mailbox × ((n : ℕ) × CountsTo quota n m.limit) in
-    let d : Done Failed (one_lost done) = does_break quota text old (one_lost done) some counts fit broken refl in
-    subst (λ (m : CountedMailbox). Done outcome m) (sym err.1) (subst (λ o. Done o (one_lost done)) (sym err.0) d)
+    subst (λ (m : CountedMailbox). Done end m) (sym ok.1) (subst (λ o. Done o (one_stored done)) (sym ok.0) d)
+does_count quota text old done new some counts fit sound (Err fault) end kept broken ok err =
+    let Done : TurnEnd → CountedMailbox → Type 0 = λ o m. DoesInTurn quota text o old.mailbox m.mailbox × ((n : ℕ) × CountsTo quota n m.limit) in
+    let d : Done (Broke fault) (one_lost done) = does_break quota text old (one_lost done) some counts fault fit broken refl in
+    subst (λ (m : CountedMailbox). Done end m) (sym err.1) (subst (λ o. Done o (one_lost done)) (sym err.0) d)
 
 -- and to one that wasn't
 pub does_refuse : (quota : Option ℕ) (text : List ℕ) (old mid new : CountedMailbox) → 1 ≤ length text
     → CountsTo quota (start_of old.mailbox.state) old.limit → old.mailbox.faulty ≡ false → (mid ≡ old) × IsKeptOut old.limit (length text)
-    → (outcome : Outcome) → (outcome ≡ OverQuota) × (new ≡ one_over mid)
-    → DoesInTurn quota text outcome old.mailbox new.mailbox × ((m : ℕ) × CountsTo quota m new.limit)
-does_refuse quota text old mid new some counts sound out outcome is =
-    let Done : Outcome → CountedMailbox → Type 0 = λ o m. DoesInTurn quota text o old.mailbox m.mailbox × ((n : ℕ) × CountsTo quota n m.limit) in
+    → (end : TurnEnd) → (end ≡ Over) × (new ≡ one_over mid)
+    → DoesInTurn quota text end old.mailbox new.mailbox × ((m : ℕ) × CountsTo quota m new.limit)
+does_refuse quota text old mid new some counts sound out end is =
+    let Done : TurnEnd → CountedMailbox → Type 0 = λ o m. DoesInTurn quota text o old.mailbox m.mailbox × ((n : ℕ) × CountsTo quota n m.limit) in
     let same : new ≡ one_over old = is.1 ∙ ap one_over out.0 in
-    let d : Done OverQuota (one_over old) = does_keep_out quota text old (one_over old) some counts out.1 refl sound refl in
-    subst (λ (m : CountedMailbox). Done outcome m) (sym same) (subst (λ o. Done o (one_over old)) (sym is.0) d)
+    let d : Done Over (one_over old) = does_keep_out quota text old (one_over old) some counts out.1 refl sound refl in
+    subst (λ (m : CountedMailbox). Done end m) (sym same) (subst (λ o. Done o (one_over old)) (sym is.0) d)
 
 -- what mends a spool and a record, taken, or not
 pub mended_and_kept : (s t u : SpoolState) (text : List ℕ) → HasMended s t → HasKept t u text → HasKeptMended s u text

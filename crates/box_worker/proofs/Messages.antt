@@ -7,6 +7,7 @@ use Rattle.mail_world.specs.Counts.{counted}
 use Rattle.mail_world.specs.Records.{Calendar, quoted_text, stored_text}
 use Rattle.mail_world.specs.Text.{lf}
 use Rattle.mbox_record.specs.Envelope.{Envelope, record_text, head_text}
+use Rattle.mbox_record.specs.Lengths.{after_head_text}
 use Rattle.mbox_record.specs.Spool.{SpoolState, SpoolTook, SpoolFailed, HasNotSynced}
 use Rattle.mbox_record.specs.Writing.{Writer, bytes_owed, WritesPiece, FailsPiece}
 use Rattle.mbox_record.proofs.Parts.{record_split}
@@ -107,10 +108,15 @@ module _ (calendar : Calendar) (site : Site) (envelope : Envelope) (message : Li
   pub record_failed : (s t u : SpoolState) → SpoolTook s t head → SpoolFailed t u rest → SpoolFailed s u (record_text calendar site envelope message)
   record_failed s t u x y = SpoolFailed-as s u _ _ record_is (SpoolFailed-later s t u head rest x y)
 
-  -- what two counts of the parts come to, which stay at their largest value
-  pub record_count : (a b : ℕ) → a ≡ counted (length head) → b ≡ counted (length rest) → (result : Option ℕ) → SomeIff result (a + b < 2 ^ 64) (a + b)
-      → SomeIff result (length (record_text calendar site envelope message) < 2 ^ 64) (length (record_text calendar site envelope message))
-  record_count a b is_a is_b result sum =
-      let long : length (record_text calendar site envelope message) ≡ length head + length rest = ap length record_is ∙ length-append head rest in
-      let last : length rest ≡ length (bytes_owed first message) + 1 = length-append (bytes_owed first message) (lf ∷ []) in
-      sum_of (length head) (length rest) a b _ is_a is_b long (some_head calendar site envelope) (omega (arith, last)) result sum
+-- what two counts of its head and of the rest come to, which stay at their largest value
+pub record_count : (calendar : Calendar) (site : Site) (envelope : Envelope) (message : List ℕ) (a b : ℕ)
+    → a ≡ counted (length (head_text calendar site envelope)) → b ≡ counted (length (after_head_text site message))
+    → (result : Option ℕ) → SomeIff result (a + b < 2 ^ 64) (a + b)
+    → SomeIff result (length (record_text calendar site envelope message) < 2 ^ 64) (length (record_text calendar site envelope message))
+record_count calendar site envelope message a b is_a is_b result sum =
+    let head : List ℕ = head_text calendar site envelope in
+    let content : List ℕ = quoted_text (stored_text site message) in
+    let long : length (record_text calendar site envelope message) ≡ length head + length (content ++ lf ∷ []) =
+    ap length (record_split calendar site envelope message ∙ append_assoc head content (lf ∷ [])) ∙ length-append head (content ++ lf ∷ []) in
+    let last : length (content ++ lf ∷ []) ≡ length content + 1 = length-append content (lf ∷ []) in
+    sum_of (length head) (length (content ++ lf ∷ [])) a b _ is_a is_b long (some_head calendar site envelope) (omega (arith, last)) result sum

@@ -1,11 +1,11 @@
 -- One copy's turn at a spool, and what the spool lists of it.
-use Rattle.std.proofs.Common.{◌≡◌, ◌||◌, ℕ, ◌+◌, List, [], ◌∷◌, ◌++◌, length, Bool, true, false, Option, Some, inl, inr, refl, ap}
+use Rattle.std.proofs.Common.{◌≡◌, ◌||◌, ℕ, ◌+◌, List, [], ◌∷◌, ◌++◌, length, Bool, true, false, Option, Some, refl, ap}
 use Rattle.std.proofs.Common.{sym, ◌∙◌, subst, arith, append_assoc, append-nil}
 use Rattle.std.proofs.lemmas.List.{append_cancel_left}
 use Rattle.std.specs.Prelude.{count_by}
 use Rattle.mail_world.specs.declared.Note.{Note}
 use Rattle.mail_world.specs.declared.Outcome.{Outcome}
-use Rattle.mail_world.specs.declared.Outcome.TheVariants.{Stored, Failed, NoRoom, TooLarge, OverQuota}
+use Rattle.mail_world.specs.declared.Outcome.TheVariants as outcome
 use Rattle.mail_world.specs.Counts.{counted}
 use Rattle.mail_world.specs.Failures.{Rises}
 use Rattle.mail_world.specs.Records.{record_of}
@@ -14,10 +14,13 @@ use Rattle.mail_world.specs.Prefixes.{IsPrefix}
 use Rattle.mail_world.specs.Turns.{Standing, Turn, NotHad, Had, IsTurn, KeepsInTurn, breaks_last}
 use Rattle.mbox_record.specs.TurnState.{TurnState, knows_end, had}
 use Rattle.mbox_record.specs.Spool.{SpoolState, IsWithin, IsFull, LeavesPart, KeepsSince, standing, BeginsTurn, EndsTurn}
+use Rattle.box_worker.specs.declared.turn.TurnEnd.{TurnEnd}
+use Rattle.box_worker.specs.declared.turn.TurnEnd.TheVariants.{Missed, Over, Stored, Broke}
 use Rattle.box_worker.specs.Limits.{Setting}
 use Rattle.box_worker.specs.Stored.{MailboxState, CountedMailbox}
 use Rattle.box_worker.specs.Turned.{Manner, TurnedMailbox, turned, StoresInTurn, KeepsOutOfTurn, BreaksTurn, FromLock, HadTurn, MissedTurn, TakesTurn}
 use Rattle.box_worker.specs.Turned.{TurnsCopy, MeasuresAgain, CountsInTurn, EndsInTurn, IsFound, is_not_had, IsFullWhereBroken}
+use Rattle.box_worker.specs.TurnEnds.{outcome_of, says_missed}
 
 -- a copy's turn, by its end
 module _ (manner : Manner) (quota : Option ℕ) (text : List ℕ) (old locked new : MailboxState) (held before after : ℕ)
@@ -29,23 +32,22 @@ module _ (manner : Manner) (quota : Option ℕ) (text : List ℕ) (old locked ne
   abbrev is : (faulty : Bool) → new.faulty ≡ faulty → turned new.state new.faulty after ≡ turned new.state faulty before
   is faulty e = ap (λ b. turned new.state b after) e ∙ ap (λ n. turned new.state faulty n) same
 
-  pub turn_by : (outcome : Outcome) → EndsInTurn quota text outcome locked new
-      → TakesTurn manner quota text outcome (turned old.state old.faulty before) (turned new.state new.faulty after)
+  pub turn_by : (end : TurnEnd) → EndsInTurn quota text end locked new
+      → TakesTurn manner quota text end (turned old.state old.faulty before) (turned new.state new.faulty after)
+  turn_by (Missed reason) e = absurd e
+  turn_by Over e = (turn e.0, is false e.1)
   turn_by Stored e = (turn e.0, is false e.1)
-  turn_by OverQuota e = (turn e.0, is false e.1)
-  turn_by Failed e = inr (turn e.0, is true e.1)
-  turn_by NoRoom e = absurd e
-  turn_by TooLarge e = absurd e
+  turn_by (Broke reason) e = (turn e.0, is true e.1)
 
 -- and by the worker's count, which is made again at the lock
-pub had_by : (manner : Manner) (text : List ℕ) (outcome : Outcome) (held : ℕ) (old locked new : CountedMailbox)
+pub had_by : (manner : Manner) (text : List ℕ) (end : TurnEnd) (held : ℕ) (old locked new : CountedMailbox)
     → BeginsTurn old.mailbox.state locked.mailbox.state held → manner.MayFind (standing old.mailbox.state) (standing locked.mailbox.state)
     → manner.MayRefuse old.mailbox.state.turn.has_failed false → MeasuresAgain locked.mailbox.state old.limit locked.limit
-    → CountsInTurn (λ quota. EndsInTurn quota text outcome locked.mailbox new.mailbox) locked new → new.in_use ≡ old.in_use
-    → TurnsCopy manner text outcome old new
-had_by manner text outcome held old locked new begins found granted measured ends same quota n counts =
+    → CountsInTurn (λ quota. EndsInTurn quota text end locked.mailbox new.mailbox) locked new → new.in_use ≡ old.in_use
+    → TurnsCopy manner text end old new
+had_by manner text end held old locked new begins found granted measured ends same quota n counts =
     let e = ends quota (measured quota n counts) in
-    (turn_by manner quota text old.mailbox locked.mailbox new.mailbox held old.in_use new.in_use begins found granted same outcome e.0, e.1)
+    (turn_by manner quota text old.mailbox locked.mailbox new.mailbox held old.in_use new.in_use begins found granted same end e.0, e.1)
 
 -- a turn leaves its lock and its list alone until it ends
 record IsSameLog (locked done : SpoolState) : Type 0 where
@@ -103,11 +105,15 @@ module _ (at : Setting) (manner : Manner) (note : Note) (old new : TurnedMailbox
   abbrev text : List ℕ
   text = record_of at.calendar at.site note
 
+  -- its turn, and whether that was missed
+  abbrev Once : Outcome → Bool → Type 0
+  Once told missed = (y : IsToldOnce at manner note told old new) × (is_not_had y.turn ≡ missed)
+
   stays_counted : new.in_use ≡ old.in_use → new.in_use ≡ counted (old.in_use + 0)
   stays_counted e = let z : counted old.in_use ≡ counted (old.in_use + 0) = omega arith in e ∙ sym most ∙ z
 
   told_stored : HadTurn manner (StoresInTurn at.quota text) old.state new.state → new ≡ turned new.state false old.in_use
-      → IsToldOnce at manner note Stored old new
+      → Once outcome.Stored false
   told_stored h is =
       let locked = h.locked in
       let done = h.rest.done in
@@ -116,29 +122,31 @@ module _ (at : Setting) (manner : Manner) (note : Note) (old new : TurnedMailbox
       let mends : kept.mending ≡ mended locked.bytes = kept.mends (ap knows_end h.begins.turn) in
       let sound : done.turn.has_failed ≡ false =
       ap (λ (s : TurnState). s.has_failed) kept.kept.turn ∙ ap (λ (s : TurnState). s.has_failed) h.begins.turn in
-      let stays = h.rest.ends.stays sound (ap (λ (s : TurnState). s.is_unsynced) kept.kept.turn) in
-      record {
-        turn = Had (standing locked) (standing new.state);
-        is = record {
-          room = h.rest.does.measured;
-          whole = stays.0 ∙ kept.kept.appended ∙ ap (λ (m : List ℕ). locked.bytes ++ (m ++ text)) mends;
-          covered = stays.1 ∙ kept.kept.covered ∙ ap length (sym stays.0);
-          sound = h.rest.ends.sound ∙ kept.kept.sound;
-        };
-        keeps = (h.begins.covered, tt);
-        listed = lists old.state locked done h.held h.begins same new.state h.rest.ends;
-        free = λ _. ap (λ (s : TurnState). s.in_turn) h.rest.ends.turn;
-        found = λ _. (h.found, h.begins.sound, refl);
-        refused = λ _. h.granted;
-        limited = h.rest.ends.limited ∙ kept.kept.limited ∙ h.begins.limited;
-        full = tt;
-        failed = ap (λ (s : TurnState). s.has_failed) h.rest.ends.turn ∙ sound;
-        broke = ap (λ (m : TurnedMailbox). m.faulty) is;
-        missed = stays_counted (ap (λ (m : TurnedMailbox). m.in_use) is);
-      }
+      let stays = h.rest.ends.stays sound (ap (λ (s : TurnState). s.is_unsynced) kept.kept.turn) in (
+        record {
+          turn = Had (standing locked) (standing new.state);
+          is = record {
+            room = h.rest.does.measured;
+            whole = stays.0 ∙ kept.kept.appended ∙ ap (λ (m : List ℕ). locked.bytes ++ (m ++ text)) mends;
+            covered = stays.1 ∙ kept.kept.covered ∙ ap length (sym stays.0);
+            sound = h.rest.ends.sound ∙ kept.kept.sound;
+          };
+          keeps = (h.begins.covered, tt);
+          listed = lists old.state locked done h.held h.begins same new.state h.rest.ends;
+          free = λ _. ap (λ (s : TurnState). s.in_turn) h.rest.ends.turn;
+          found = λ _. (h.found, h.begins.sound, refl);
+          refused = λ _. h.granted;
+          limited = h.rest.ends.limited ∙ kept.kept.limited ∙ h.begins.limited;
+          full = tt;
+          failed = ap (λ (s : TurnState). s.has_failed) h.rest.ends.turn ∙ sound;
+          broke = ap (λ (m : TurnedMailbox). m.faulty) is;
+          missed = stays_counted (ap (λ (m : TurnedMailbox). m.in_use) is);
+        },
+        refl,
+      )
 
   told_over : HadTurn manner (KeepsOutOfTurn at.quota text) old.state new.state → new ≡ turned new.state false old.in_use
-      → IsToldOnce at manner note OverQuota old new
+      → Once outcome.OverQuota false
   told_over h is =
       let locked = h.locked in
       let done = h.rest.done in
@@ -146,28 +154,30 @@ module _ (at : Setting) (manner : Manner) (note : Note) (old new : TurnedMailbox
       let turn : done.turn ≡ locked.turn = ap (λ (s : SpoolState). s.turn) unchanged in
       let same = same_log locked done locked.turn.has_failed locked.turn.is_unsynced turn in
       let sound : done.turn.has_failed ≡ false = ap (λ (s : TurnState). s.has_failed) (turn ∙ h.begins.turn) in
-      let stays = h.rest.ends.stays sound (ap (λ (s : TurnState). s.is_unsynced) (turn ∙ h.begins.turn)) in
-      record {
-        turn = Had (standing locked) (standing new.state);
-        is = record {
-          room = h.rest.does.measured;
-          same = stays.0 ∙ ap (λ (s : SpoolState). s.bytes) unchanged;
-          sound = h.rest.ends.sound ∙ ap (λ (s : SpoolState). s.failures) unchanged;
-        };
-        keeps = (h.begins.covered, stays.1 ∙ ap (λ (s : SpoolState). s.synced) unchanged);
-        listed = lists old.state locked done h.held h.begins same new.state h.rest.ends;
-        free = λ _. ap (λ (s : TurnState). s.in_turn) h.rest.ends.turn;
-        found = λ _. (h.found, h.begins.sound, refl);
-        refused = λ _. h.granted;
-        limited = h.rest.ends.limited ∙ ap (λ (s : SpoolState). s.limit) unchanged ∙ h.begins.limited;
-        full = tt;
-        failed = ap (λ (s : TurnState). s.has_failed) h.rest.ends.turn ∙ sound;
-        broke = ap (λ (m : TurnedMailbox). m.faulty) is;
-        missed = stays_counted (ap (λ (m : TurnedMailbox). m.in_use) is);
-      }
+      let stays = h.rest.ends.stays sound (ap (λ (s : TurnState). s.is_unsynced) (turn ∙ h.begins.turn)) in (
+        record {
+          turn = Had (standing locked) (standing new.state);
+          is = record {
+            room = h.rest.does.measured;
+            same = stays.0 ∙ ap (λ (s : SpoolState). s.bytes) unchanged;
+            sound = h.rest.ends.sound ∙ ap (λ (s : SpoolState). s.failures) unchanged;
+          };
+          keeps = (h.begins.covered, stays.1 ∙ ap (λ (s : SpoolState). s.synced) unchanged);
+          listed = lists old.state locked done h.held h.begins same new.state h.rest.ends;
+          free = λ _. ap (λ (s : TurnState). s.in_turn) h.rest.ends.turn;
+          found = λ _. (h.found, h.begins.sound, refl);
+          refused = λ _. h.granted;
+          limited = h.rest.ends.limited ∙ ap (λ (s : SpoolState). s.limit) unchanged ∙ h.begins.limited;
+          full = tt;
+          failed = ap (λ (s : TurnState). s.has_failed) h.rest.ends.turn ∙ sound;
+          broke = ap (λ (m : TurnedMailbox). m.faulty) is;
+          missed = stays_counted (ap (λ (m : TurnedMailbox). m.in_use) is);
+        },
+        refl,
+      )
 
   told_broken : HadTurn manner (BreaksTurn at.quota text) old.state new.state → new ≡ turned new.state true old.in_use
-      → IsToldOnce at manner note Failed old new
+      → Once outcome.Failed false
   told_broken h is =
       let locked = h.locked in
       let done = h.rest.done in
@@ -196,54 +206,54 @@ module _ (at : Setting) (manner : Manner) (note : Note) (old new : TurnedMailbox
       let F : ℕ → Type 0 = λ n. Rises locked.failures n in
       let keeps = subst K began h.rest.ends.kept in
       let limited : new.state.limit ≡ old.state.limit = h.rest.ends.limited ∙ broken.limited ∙ h.begins.limited in
-      let L : Option ℕ → Type 0 = λ l. IsFull l new.state.bytes in
-      record {
-        turn = Had lock (standing new.state);
-        is = record {
-          room = h.rest.does.measured;
-          failed = subst F (sym h.rest.ends.sound) broken.failed;
-          prefix = part.0;
-          part = part.2;
-          left = part.1;
-        };
-        keeps = (h.begins.covered, (keeps.least, keeps.most));
-        listed = lists old.state locked done h.held h.begins same new.state h.rest.ends;
-        free = λ _. ap (λ (s : TurnState). s.in_turn) h.rest.ends.turn;
-        found = λ _. (h.found, h.begins.sound, refl);
-        refused = λ _. h.granted;
-        limited = limited;
-        full = subst L limited (h.rest.ends.full failed
-            (broken.full in_turn));
-        failed = ap (λ (s : TurnState). s.has_failed) h.rest.ends.turn ∙ failed;
-        broke = ap (λ (m : TurnedMailbox). m.faulty) is;
-        missed = stays_counted (ap (λ (m : TurnedMailbox). m.in_use) is);
-      }
+      let L : Option ℕ → Type 0 = λ l. IsFull l new.state.bytes in (
+        record {
+          turn = Had lock (standing new.state);
+          is = record {
+            room = h.rest.does.measured;
+            failed = subst F (sym h.rest.ends.sound) broken.failed;
+            prefix = part.0;
+            part = part.2;
+            left = part.1;
+          };
+          keeps = (h.begins.covered, (keeps.least, keeps.most));
+          listed = lists old.state locked done h.held h.begins same new.state h.rest.ends;
+          free = λ _. ap (λ (s : TurnState). s.in_turn) h.rest.ends.turn;
+          found = λ _. (h.found, h.begins.sound, refl);
+          refused = λ _. h.granted;
+          limited = limited;
+          full = subst L limited (h.rest.ends.full failed
+              (broken.full in_turn));
+          failed = ap (λ (s : TurnState). s.has_failed) h.rest.ends.turn ∙ failed;
+          broke = ap (λ (m : TurnedMailbox). m.faulty) is;
+          missed = stays_counted (ap (λ (m : TurnedMailbox). m.in_use) is);
+        },
+        refl,
+      )
 
   told_missed : MissedTurn manner old.state new.state → new ≡ turned new.state old.faulty (counted (old.in_use + 1))
-      → IsToldOnce at manner note Failed old new
+      → Once outcome.Failed true
   told_missed h is =
-      let same = h.misses.same in
-      record {
-        turn = NotHad;
-        is = tt;
-        keeps = tt;
-        listed = ap (λ (s : SpoolState). s.turn.turns) same;
-        free = λ e. ap (λ (s : SpoolState). s.turn.in_turn) same ∙ e;
-        found = h.found;
-        refused = h.refused;
-        limited = ap (λ (s : SpoolState). s.limit) same;
-        full = tt;
-        failed = ap (λ (s : SpoolState). s.turn.has_failed) same;
-        broke = ap (λ (m : TurnedMailbox). m.faulty) is;
-        missed = ap (λ (m : TurnedMailbox). m.in_use) is;
-      }
+      let same = h.misses.same in (
+        record {
+          turn = NotHad;
+          is = tt;
+          keeps = tt;
+          listed = ap (λ (s : SpoolState). s.turn.turns) same;
+          free = λ e. ap (λ (s : SpoolState). s.turn.in_turn) same ∙ e;
+          found = h.found;
+          refused = h.refused;
+          limited = ap (λ (s : SpoolState). s.limit) same;
+          full = tt;
+          failed = ap (λ (s : SpoolState). s.turn.has_failed) same;
+          broke = ap (λ (m : TurnedMailbox). m.faulty) is;
+          missed = ap (λ (m : TurnedMailbox). m.in_use) is;
+        },
+        refl,
+      )
 
-  pub told_once : (outcome : Outcome) → TakesTurn manner at.quota text outcome old new → IsToldOnce at manner note outcome old new
+  pub told_once : (end : TurnEnd) → TakesTurn manner at.quota text end old new → Once (outcome_of end) (says_missed end)
+  told_once (Missed reason) t = told_missed t.0 t.1
+  told_once Over t = told_over t.0 t.1
   told_once Stored t = told_stored t.0 t.1
-  told_once OverQuota t = told_over t.0 t.1
-  told_once Failed t = elim t [
-    | inl missed ↦ told_missed missed.0 missed.1
-    | inr broken ↦ told_broken broken.0 broken.1
-  ]
-  told_once NoRoom t = absurd t
-  told_once TooLarge t = absurd t
+  told_once (Broke reason) t = told_broken t.0 t.1

@@ -18,10 +18,12 @@ use Rattle.mail_post.specs.Offered.{IsPart, HaveNumber, IsOffered, any_gone}
 use Rattle.mail_post.proofs.InTime.{deed, none_done, gave_more, gone_keeps_time, took_more, took_none}
 use Rattle.mail_post.proofs.Offered.{part_more, part_both, gone_now, gone_as_before}
 use Rattle.box_worker.specs.declared.limit.Limit.{Limit}
+use Rattle.box_worker.specs.declared.turn.TurnEnd.{TurnEnd}
 use Rattle.box_worker.specs.Limits.{Setting, CountsTo}
 use Rattle.box_worker.specs.Stored.{mailbox_of, CountedMailbox, CountsOutcome}
 use Rattle.box_worker.specs.Told.{slip_by}
 use Rattle.box_worker.specs.Turned.{Manner, TurnsCopy}
+use Rattle.box_worker.specs.TurnEnds.{outcome_of, with_ends}
 use Rattle.box_worker.specs.TurnTimes.{worker_sorts, TakeTurns}
 use Rattle.box_worker.specs.Worked.{WorkerState, counted_of, idle, is_lost, HasHandled, worker_ends, IsWorking, HasWorked}
 use Rattle.box_worker.proofs.Handling.{as_many, handled_more, counting_none, handled_lost}
@@ -114,15 +116,23 @@ turns_end worker copies outcomes before slips was now same x = record {
 -- one more copy
 pub working_more : (at : Setting) (manner : Manner) (copies : List Note) (before was inbox : Inbox Note) (old now : WorkerState) (limit : Option Limit)
     (next : List (Sender Slip)) (note : Note) (accepted : Bool)
-    → IsWorking at manner copies before was old now limit → IsTimed (clock_of now.slips was) was inbox → (outcome : Outcome) (after : CountedMailbox)
-    → CountsOutcome outcome now.mailbox after.mailbox
-    → TurnsCopy manner (record_of at.calendar at.site note) outcome (counted_of now limit) after
-    → IsOffered (clock_of now.slips inbox) note.txn.lane (slip_by note.txn note.place outcome) accepted now.slips next
-    → IsWorking at manner (copies ++ note ∷ []) before inbox old
-    (record { slips = next; mailbox = after.mailbox; in_use = after.in_use; taken = counted (now.taken + 1); lost = any_gone next }) after.limit
-working_more at manner copies before was inbox old now limit next note accepted x timed outcome after tallied turns offered =
+    → IsWorking at manner copies before was old now limit → IsTimed (clock_of now.slips was) was inbox → (end : TurnEnd) (after : CountedMailbox) (told : Option (List TurnEnd))
+    → CountsOutcome (outcome_of end) now.mailbox after.mailbox
+    → TurnsCopy manner (record_of at.calendar at.site note) end (counted_of now limit) after
+    → told ≡ with_ends now.told (end ∷ [])
+    → IsOffered (clock_of now.slips inbox) note.txn.lane (slip_by note.txn note.place (outcome_of end)) accepted now.slips next
+    → IsWorking at manner (copies ++ note ∷ []) before inbox old (record {
+      slips = next;
+      mailbox = after.mailbox;
+      in_use = after.in_use;
+      taken = counted (now.taken + 1);
+      lost = any_gone next;
+      told = told;
+    }) after.limit
+working_more at manner copies before was inbox old now limit next note accepted x timed end after told tallied turns tells offered =
     let h = x.counting.handled in
-    let y = handled_more at manner copies old now limit next note accepted x.counting (clock_of now.slips inbox) outcome after tallied turns offered in
+    let outcome : Outcome = outcome_of end in
+    let y = handled_more at manner copies old now limit next note accepted x.counting (clock_of now.slips inbox) end after told tallied turns tells offered in
     record {
       counting = y.0;
       turns = subst (λ os. TakeTurns at.worker (copies ++ note ∷ []) os (worker_ends old before) (record { senders = next; inbox = inbox })) (sym y.1)
@@ -132,11 +142,11 @@ working_more at manner copies before was inbox old now limit next note accepted 
 
 -- a worker that took nothing
 pub working_none : (at : Setting) (manner : Manner) (slips : List (Sender Slip)) (inbox : Inbox Note) (old : SpoolState) (new : CountedMailbox)
-    → HaveNumber at.worker slips → new.mailbox ≡ mailbox_of old 0 0 false → new.in_use ≡ 0 → CountsTo at.quota 0 new.limit
-    → IsWorking at manner [] inbox inbox (idle slips old)
-    (record { slips = slips; mailbox = new.mailbox; in_use = new.in_use; taken = 0; lost = any_gone slips }) new.limit
-working_none at manner slips inbox old new mine left none begins =
-    let y = counting_none at manner slips old new mine left none begins in
+    (told : Option (List TurnEnd)) → HaveNumber at.worker slips → new.mailbox ≡ mailbox_of old 0 0 false → new.in_use ≡ 0 → CountsTo at.quota 0 new.limit
+    → IsWorking at manner [] inbox inbox (idle slips old told)
+    (record { slips = slips; mailbox = new.mailbox; in_use = new.in_use; taken = 0; lost = any_gone slips; told = told }) new.limit
+working_none at manner slips inbox old new told mine left none begins =
+    let y = counting_none at manner slips old new told mine left none begins in
     let ends : Ends Slip Note = record { senders = slips; inbox = inbox } in
     record { counting = y.0; turns = subst (λ os. TakeTurns at.worker [] os ends ends) (sym y.1) (turns_none at.worker ends) }
 

@@ -3,6 +3,7 @@ pub mod Limits
 pub mod Stored
 pub mod Told
 pub mod Turned
+pub mod TurnEnds
 pub mod TurnTimes
 pub mod Worked
 pub mod Between

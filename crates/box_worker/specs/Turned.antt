@@ -1,10 +1,10 @@
 -- A worker takes a turn at its mailbox for each copy, from a lock to an unlock, whatever became of the turns before.
-use Rattle.std.specs.Prelude.{◌≡◌, ◌⊎◌, ℕ, ◌+◌, Bool, true, false, List, [], ◌∷◌, ◌++◌, length, map, count_by, ⊤}
+use Rattle.std.specs.Prelude.{◌≡◌, ℕ, ◌+◌, Bool, true, false, List, [], ◌∷◌, ◌++◌, length, map, count_by, ⊤}
 use Rattle.std.specs.Prelude.{Option}
 use Rattle.std.specs.List.{AllByRecursion}
 use Rattle.mail_world.specs.declared.Note.{Note}
 use Rattle.mail_world.specs.declared.Outcome.{Outcome}
-use Rattle.mail_world.specs.declared.Outcome.TheVariants.{Stored, Failed, OverQuota}
+use Rattle.mail_world.specs.declared.Outcome.TheVariants.{Failed}
 use Rattle.mail_world.specs.Counts.{counted}
 use Rattle.mail_world.specs.Endings.{mended}
 use Rattle.mail_world.specs.Quotas.{fits}
@@ -12,6 +12,8 @@ use Rattle.mail_world.specs.Turns.{Standing, Turn, NotHad, Had, Told, HaveTurns,
 use Rattle.mbox_record.specs.Spool.{SpoolState, IsFull, SpoolFailed, standing, BeginsTurn, MissesTurn, EndsTurn}
 use Rattle.mbox_record.specs.TurnState.{knows_end}
 use Rattle.box_worker.specs.declared.limit.Limit.{Limit}
+use Rattle.box_worker.specs.declared.turn.TurnEnd.{TurnEnd}
+use Rattle.box_worker.specs.declared.turn.TurnEnd.TheVariants.{Missed, Over, Stored, Broke}
 use Rattle.box_worker.specs.Limits.{Setting, start_of, CountsTo}
 use Rattle.box_worker.specs.Stored.{HasKept, MailboxState, CountedMailbox}
 
@@ -86,39 +88,39 @@ pub record MissedTurn (manner : Manner) (old new : SpoolState) : Type 0 where
   pub found : old.turn.in_turn ≡ false → manner.MayFind (standing old) (standing new)
   pub refused : old.turn.in_turn ≡ false → manner.MayRefuse old.turn.has_failed true
 
--- A copy with that record, by what its lane is told. It has a turn, whatever became of those before: one that stores
--- the record or keeps it out, that is missed, or that breaks.
-abbrev pub TakesTurn : Manner → Option ℕ → List ℕ → Outcome → TurnedMailbox → TurnedMailbox → Type 0
+-- A copy with that record, by how its turn ended. It has one, whatever became of those before: one that is missed, that
+-- keeps the record out or stores it, or that breaks.
+abbrev pub TakesTurn : Manner → Option ℕ → List ℕ → TurnEnd → TurnedMailbox → TurnedMailbox → Type 0
+TakesTurn manner quota text (Missed reason) old new = MissedTurn manner old.state new.state
+    × (new ≡ turned new.state old.faulty (counted (old.in_use + 1)))
+TakesTurn manner quota text Over old new = HadTurn manner (KeepsOutOfTurn quota text) old.state new.state
+    × (new ≡ turned new.state false old.in_use)
 TakesTurn manner quota text Stored old new = HadTurn manner (StoresInTurn quota text) old.state new.state
     × (new ≡ turned new.state false old.in_use)
-TakesTurn manner quota text OverQuota old new = HadTurn manner (KeepsOutOfTurn quota text) old.state new.state
-    × (new ≡ turned new.state false old.in_use)
-TakesTurn manner quota text Failed old new =
-    (MissedTurn manner old.state new.state × (new ≡ turned new.state old.faulty (counted (old.in_use + 1))))
-    ⊎ (HadTurn manner (BreaksTurn quota text) old.state new.state × (new ≡ turned new.state true old.in_use))
-TakesTurn manner quota text _ old new = ⊥
+TakesTurn manner quota text (Broke reason) old new = HadTurn manner (BreaksTurn quota text) old.state new.state
+    × (new ≡ turned new.state true old.in_use)
 
 -- the same for a worker's count under a quota, which is some number of bytes before and after
-abbrev pub TurnsCopy : Manner → List ℕ → Outcome → CountedMailbox → CountedMailbox → Type 0
-TurnsCopy manner text outcome old new = (quota : Option ℕ) (n : ℕ) → CountsTo quota n old.limit
-    → TakesTurn manner quota text outcome (turned old.mailbox.state old.mailbox.faulty old.in_use)
+abbrev pub TurnsCopy : Manner → List ℕ → TurnEnd → CountedMailbox → CountedMailbox → Type 0
+TurnsCopy manner text end old new = (quota : Option ℕ) (n : ℕ) → CountsTo quota n old.limit
+    → TakesTurn manner quota text end (turned old.mailbox.state old.mailbox.faulty old.in_use)
     (turned new.mailbox.state new.mailbox.faulty new.in_use)
     × ((m : ℕ) × CountsTo quota m new.limit)
 
--- what is done in a turn, by what the lane is told
-abbrev pub DoesInTurn : Option ℕ → List ℕ → Outcome → MailboxState → MailboxState → Type 0
+-- what is done in a turn that was had, by how it ends
+abbrev pub DoesInTurn : Option ℕ → List ℕ → TurnEnd → MailboxState → MailboxState → Type 0
+DoesInTurn quota text (Missed reason) old new = ⊥
+DoesInTurn quota text Over old new = KeepsOutOfTurn quota text old.state new.state × (new.faulty ≡ false)
 DoesInTurn quota text Stored old new = StoresInTurn quota text old.state new.state × (new.faulty ≡ false)
-DoesInTurn quota text OverQuota old new = KeepsOutOfTurn quota text old.state new.state × (new.faulty ≡ false)
-DoesInTurn quota text Failed old new = BreaksTurn quota text old.state new.state × (new.faulty ≡ true)
-DoesInTurn quota text _ old new = ⊥
+DoesInTurn quota text (Broke reason) old new = BreaksTurn quota text old.state new.state × (new.faulty ≡ true)
 
 -- and from there to its unlock
-abbrev pub EndsInTurn : Option ℕ → List ℕ → Outcome → MailboxState → MailboxState → Type 0
+abbrev pub EndsInTurn : Option ℕ → List ℕ → TurnEnd → MailboxState → MailboxState → Type 0
+EndsInTurn quota text (Missed reason) old new = ⊥
+EndsInTurn quota text Over old new = FromLock (KeepsOutOfTurn quota text) old.state new.state × (new.faulty ≡ false)
 EndsInTurn quota text Stored old new = FromLock (StoresInTurn quota text) old.state new.state × (new.faulty ≡ false)
-EndsInTurn quota text OverQuota old new = FromLock (KeepsOutOfTurn quota text) old.state new.state
-    × (new.faulty ≡ false)
-EndsInTurn quota text Failed old new = FromLock (BreaksTurn quota text) old.state new.state × (new.faulty ≡ true)
-EndsInTurn quota text _ old new = ⊥
+EndsInTurn quota text (Broke reason) old new = FromLock (BreaksTurn quota text) old.state new.state
+    × (new.faulty ≡ true)
 
 -- the worker counts again what stands there at the lock
 abbrev pub MeasuresAgain : SpoolState → Option Limit → Option Limit → Type 0

@@ -13,20 +13,23 @@ use Rattle.mail_post.specs.Offered.{HaveNumber, HaveAccepted, any_gone}
 use Rattle.mail_post.specs.declared.channel.Gone.{Gone}
 use Rattle.mail_post.specs.declared.channel.Gone.TheVariants.{Closed, Lost}
 use Rattle.box_worker.specs.declared.limit.Limit.{Limit}
+use Rattle.box_worker.specs.declared.turn.TurnEnd.{TurnEnd}
 use Rattle.box_worker.specs.Limits.{Setting, CountsTo}
 use Rattle.box_worker.specs.Stored.{MailboxState, mailbox_of, CountedMailbox}
 use Rattle.box_worker.specs.Turned.{Manner, turned, HasTurned}
 use Rattle.box_worker.specs.Told.{owed_to, is_stored, says_over_quota}
+use Rattle.box_worker.specs.TurnEnds.{TellsTurns}
 use Rattle.box_worker.specs.TurnTimes.{TakeTurns}
 
--- a worker: its senders of slips, its mailbox, how many turns were missed, how many copies it took, and whether a
--- channel was found gone
+-- a worker: its senders of slips, its mailbox, how many turns were missed, how many copies it took, whether a channel
+-- was found gone, and what its observer was told, where that says so
 pub record WorkerState : Type 0 where
   pub slips : List (Sender Slip)
   pub mailbox : MailboxState
   pub in_use : ℕ
   pub taken : ℕ
   pub lost : Bool
+  pub told : Option (List TurnEnd)
 
 -- what a worker hands back: its receiver, what it came to, and its gate
 pub record WorkerBack (G : Type 0) : Type 0 where
@@ -44,12 +47,18 @@ abbrev pub counted_of : WorkerState → Option Limit → CountedMailbox
 counted_of worker limit = record { mailbox = worker.mailbox; limit = limit; in_use = worker.in_use }
 
 -- one that took nothing yet
-abbrev pub idle : List (Sender Slip) → SpoolState → WorkerState
-idle slips spool =
-    record { slips = slips; mailbox = mailbox_of spool 0 0 false; in_use = 0; taken = 0; lost = false }
+abbrev pub idle : List (Sender Slip) → SpoolState → Option (List TurnEnd) → WorkerState
+idle slips spool told = record {
+  slips = slips;
+  mailbox = mailbox_of spool 0 0 false;
+  in_use = 0;
+  taken = 0;
+  lost = false;
+  told = told;
+}
 
--- What became of these copies, the first that a worker took: each has one turn, and its lane a slip that says what came
--- of it.
+-- What became of these copies, the first that a worker took: each has one turn, its lane a slip that says what came of
+-- it, and the worker's observer was told how the turn ended.
 pub record HasHandled (at : Setting) (manner : Manner) (copies : List Note) (old new : WorkerState) : Type 0 where
   pub turns : List Told
   pub told : HaveAccepted (λ k. owed_to at.worker (outcomes_in turns) k copies) old.slips new.slips
@@ -59,6 +68,7 @@ pub record HasHandled (at : Setting) (manner : Manner) (copies : List Note) (old
   pub over_count : new.mailbox.over ≡ counted (count_by says_over_quota (outcomes_in turns))
   pub each : HasTurned at manner copies turns (turned old.mailbox.state old.mailbox.faulty old.in_use)
       (turned new.mailbox.state new.mailbox.faulty new.in_use)
+  pub observed : TellsTurns turns old.told new.told
 
 -- and what its worker counted last
 pub record IsCounting (at : Setting) (manner : Manner) (copies : List Note) (old new : WorkerState)

@@ -85,11 +85,12 @@ impl CountSpool {
 
     // Counts a failure, which outside its turn each append and sync is.
     fn fail(&mut self) -> SpoolFault
+        ensures fault { result ≡ SpoolFault.NoTurn }
         ensures new { self.new ≡ record self.old { failures = min (self.old.failures + 1) (2 ^ 64 - 1) } }
         ensures counted { Rises self.old.failures self.new.failures }
     {
         self.failures = self.failures.saturating_add(1);
-        SpoolFault
+        SpoolFault::NoTurn
     }
 }
 

@@ -1,19 +1,21 @@
 //! A mailbox: its spool, how many copies it has, and whether its last turn broke.
 
-ghost use Rattle.std.specs.Prelude.{◌≡◌, ◌+◌, ℕ, true, false, length, OnOk, OnErr};
+ghost use Rattle.std.specs.Prelude.{◌≡◌, ◌+◌, ℕ, List, true, false, length, OnOk, IfErr};
 ghost use Rattle.lmtp_text.specs.Calendar.{civil_at};
 ghost use Rattle.mail_world.specs.Counts.{counted};
 ghost use Rattle.mbox_record.specs.Envelope.{record_text};
+ghost use Rattle.mbox_record.specs.Lengths.{lengths_of};
 ghost use Rattle.mbox_record.specs.TurnState.{knows_end};
 ghost use Rattle.box_worker.specs.Limits.{CountsTo};
 ghost use Rattle.box_worker.specs.Stored.{mailbox_of, IsMeasured, CountsOutcome};
+ghost use Rattle.box_worker.specs.TurnEnds.{outcome_of};
 ghost use Rattle.box_worker.specs.Turned.{manner_of, MeasuresAgain, DoesInTurn, EndsInTurn, CountsInTurn, TurnsCopy};
 
 use crate::limit::Limit;
 use crate::store::{mend_and_store, record_size};
+use crate::turn::TurnEnd;
 use lmtp_text::Site;
-use mail_world::Outcome;
-use mbox_record::{Envelope, Spool, SpoolFault, Tail};
+use mbox_record::{Envelope, Lengths, Spool, SpoolFault, Tail};
 use msg_depot::{Depot, DepotName, Hold};
 use std::marker::Model;
 use std::sync::Wait;
@@ -59,18 +61,20 @@ impl<S: Spool> Mailbox<S> {
         }
     }
 
-    /// Stores a copy of the held message in a turn of its own, or says that it is over the quota or lost. Where the
-    /// turn is missed nothing is appended. Where it is missed or breaks, this copy alone is lost: the next one has a
-    /// turn again.
+    /// Stores a copy of the held message, of which these are the lengths, in a turn of its own, or says that it is over
+    /// the quota or lost. Where the turn is missed nothing is appended. Where it is missed or breaks, this copy alone
+    /// is lost: the next one has a turn again.
     pub fn take<N: DepotName, R: Wait>(
         &mut self,
         rt: &R,
         depot: &Depot<N>,
         site: &Site,
         envelope: &Envelope,
+        lengths: &Lengths,
         hold: &mut Hold<N>,
-    ) -> Outcome
-        ensures tallied { CountsOutcome result self.old.mailbox self.new.mailbox }
+    ) -> TurnEnd
+        requires lengths { lengths.now ≡ lengths_of hold.old.bytes }
+        ensures tallied { CountsOutcome (outcome_of result) self.old.mailbox self.new.mailbox }
         ensures turns { TurnsCopy (manner_of S.MayFind S.MayRefuse)
             (record_text civil_at site.now envelope.now hold.old.bytes) result self.old self.new }
         ensures hold { hold.new ≡ hold.old }
@@ -79,44 +83,44 @@ impl<S: Spool> Mailbox<S> {
             Ok(held) => {
                 self.faulty = false;
                 self.measure(held);
-                self.take_in_turn(rt, depot, site, envelope, hold)
+                self.take_in_turn(rt, depot, site, envelope, lengths, hold)
             }
-            Err(_) => {
+            Err(in_use) => {
                 self.in_use = self.in_use.saturating_add(1);
-                Outcome::Failed
+                TurnEnd::Missed(in_use)
             }
         }
     }
 
     // What became of a record that was let in.
-    fn count(&mut self, kept: Result<(), SpoolFault>) -> Outcome
-        ensures stored { OnOk kept ((result ≡ Outcome.Stored) × (self.new ≡ record self.old {
+    fn count(&mut self, kept: Result<(), SpoolFault>) -> TurnEnd
+        ensures stored { OnOk kept ((result ≡ TurnEnd.Stored) × (self.new ≡ record self.old {
           mailbox = record self.old.mailbox { stored = counted (self.old.mailbox.stored + 1) };
         })) }
-        ensures lost { OnErr kept ((result ≡ Outcome.Failed) × (self.new ≡ record self.old {
+        ensures lost { IfErr kept (λ fault. (result ≡ TurnEnd.Broke fault) × (self.new ≡ record self.old {
           mailbox = record self.old.mailbox { faulty = true };
         })) }
     {
         match kept {
             Ok(()) => {
                 self.stored = self.stored.saturating_add(1);
-                Outcome::Stored
+                TurnEnd::Stored
             }
-            Err(_) => {
+            Err(fault) => {
                 self.faulty = true;
-                Outcome::Failed
+                TurnEnd::Broke(fault)
             }
         }
     }
 
     // A copy that isn't let in.
-    fn refuse(&mut self) -> Outcome
-        ensures { (result ≡ Outcome.OverQuota) × (self.new ≡ record self.old {
+    fn refuse(&mut self) -> TurnEnd
+        ensures { (result ≡ TurnEnd.Over) × (self.new ≡ record self.old {
           mailbox = record self.old.mailbox { over = counted (self.old.mailbox.over + 1) };
         }) }
     {
         self.over = self.over.saturating_add(1);
-        Outcome::OverQuota
+        TurnEnd::Over
     }
 
     // Counts from what stands in the mailbox at the lock, and what mends it.
@@ -138,18 +142,20 @@ impl<S: Spool> Mailbox<S> {
         depot: &Depot<N>,
         site: &Site,
         envelope: &Envelope,
+        lengths: &Lengths,
         hold: &mut Hold<N>,
-    ) -> Outcome
+    ) -> TurnEnd
+        requires lengths { lengths.now ≡ lengths_of hold.old.bytes }
         requires sound { self.old.mailbox.faulty ≡ false }
         requires turn { self.old.mailbox.state.turn.in_turn ≡ true }
-        ensures tallied { CountsOutcome result self.old.mailbox self.new.mailbox }
+        ensures tallied { CountsOutcome (outcome_of result) self.old.mailbox self.new.mailbox }
         ensures ends { CountsInTurn (λ quota.
             EndsInTurn quota (record_text civil_at site.now envelope.now hold.old.bytes) result
             self.old.mailbox self.new.mailbox) self.old self.new }
         ensures in_use { self.new.in_use ≡ self.old.in_use }
         ensures hold { hold.new ≡ hold.old }
     {
-        let taken = self.settle_in_turn(rt, depot, site, envelope, hold);
+        let taken = self.settle_in_turn(rt, depot, site, envelope, lengths, hold);
         self.spool.unlock();
         taken
     }
@@ -160,10 +166,12 @@ impl<S: Spool> Mailbox<S> {
         depot: &Depot<N>,
         site: &Site,
         envelope: &Envelope,
+        lengths: &Lengths,
         hold: &mut Hold<N>,
-    ) -> Outcome
+    ) -> TurnEnd
+        requires lengths { lengths.now ≡ lengths_of hold.old.bytes }
         requires sound { self.old.mailbox.faulty ≡ false }
-        ensures tallied { CountsOutcome result self.old.mailbox self.new.mailbox }
+        ensures tallied { CountsOutcome (outcome_of result) self.old.mailbox self.new.mailbox }
         ensures turn { self.new.mailbox.state.turn.in_turn ≡ self.old.mailbox.state.turn.in_turn }
         ensures does { CountsInTurn (λ quota.
             DoesInTurn quota (record_text civil_at site.now envelope.now hold.old.bytes) result
@@ -171,7 +179,7 @@ impl<S: Spool> Mailbox<S> {
         ensures in_use { self.new.in_use ≡ self.old.in_use }
         ensures hold { hold.new ≡ hold.old }
     {
-        let fits = self.lets_in(rt, depot, site, envelope, hold);
+        let fits = self.lets_in(site, envelope, lengths);
         if !fits {
             return self.refuse();
         }
@@ -179,23 +187,15 @@ impl<S: Spool> Mailbox<S> {
         self.count(kept)
     }
 
-    // Whether the record of the held message may stand after what the mailbox holds. One that may is counted.
-    fn lets_in<N: DepotName, R: Wait>(
-        &mut self,
-        rt: &R,
-        depot: &Depot<N>,
-        site: &Site,
-        envelope: &Envelope,
-        hold: &mut Hold<N>,
-    ) -> bool
-        ensures measured { IsMeasured (length (record_text civil_at site.now envelope.now hold.old.bytes)) result
-            self.old self.new }
-        ensures hold { hold.new ≡ hold.old }
+    // Whether the record of a message of these lengths may stand after what the mailbox holds. One that may is counted.
+    fn lets_in(&mut self, site: &Site, envelope: &Envelope, lengths: &Lengths) -> bool
+        ensures { (message : List ℕ) → lengths.now ≡ lengths_of message
+            → IsMeasured (length (record_text civil_at site.now envelope.now message)) result self.old self.new }
     {
         let Some(limit) = self.limit else {
             return true;
         };
-        let size = record_size(rt, depot, site, envelope, hold);
+        let size = record_size(site, envelope, lengths);
         match limit.admit(size) {
             Some(next) => {
                 self.limit = Some(next);

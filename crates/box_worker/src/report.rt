@@ -1,6 +1,7 @@
 //! What a worker hands back.
 
 use crate::gate::Gate;
+use crate::turn::TurnObserver;
 use mail_post::{Receiver, SlipSender};
 use mbox_record::Spool;
 use msg_depot::DepotName;
@@ -8,9 +9,10 @@ use std::marker::Model;
 
 /// What became of a worker's copies, and all that it was lent.
 #[derive(Drop)]
-pub struct WorkerReport<N: DepotName, S: Spool, G: Gate> {
+pub struct WorkerReport<N: DepotName, S: Spool, G: Gate, O: TurnObserver> {
     pub spool: S,
     pub gate: G,
+    pub observer: O,
     /// The copies that it took, those of them that it stored, those that were over the quota, and those whose turn at
     /// the mailbox was missed. A count stays at its largest value.
     pub taken: u64,
@@ -26,7 +28,7 @@ pub struct WorkerReport<N: DepotName, S: Spool, G: Gate> {
     pub slips: Vec<SlipSender>,
 }
 
-impl<N: DepotName, S: Spool, G: Gate> Model for WorkerReport<N, S, G> {
+impl<N: DepotName, S: Spool, G: Gate, O: TurnObserver> Model for WorkerReport<N, S, G, O> {
     ghost use Rattle.box_worker.specs.Stored.{mailbox_of};
     ghost use Rattle.box_worker.specs.Worked.{WorkerBack};
 
@@ -40,6 +42,7 @@ impl<N: DepotName, S: Spool, G: Gate> Model for WorkerReport<N, S, G> {
         in_use = r.in_use;
         taken = r.taken;
         lost = r.lost;
+        told = O.told r.observer;
       };
       gate = r.gate;
     } };

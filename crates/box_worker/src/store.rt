@@ -1,9 +1,10 @@
 //! The record of a held message into a spool.
 
-ghost use Rattle.std.specs.Prelude.{◌≡◌, ◌<◌, ◌^◌, [], ◌∷◌, ◌++◌, length, OnOk, OnErr, IfOk, SomeIff};
+ghost use Rattle.std.specs.Prelude.{◌≡◌, ◌<◌, ◌^◌, ℕ, List, [], ◌∷◌, ◌++◌, length, OnOk, OnErr, IfOk, SomeIff};
 ghost use Rattle.mail_world.specs.Text.{lf};
 ghost use Rattle.lmtp_text.specs.Calendar.{civil_at};
 ghost use Rattle.mbox_record.specs.Envelope.{record_text};
+ghost use Rattle.mbox_record.specs.Lengths.{lengths_of};
 ghost use Rattle.mbox_record.specs.Spool.{SpoolTook, SpoolFailed};
 ghost use Rattle.mbox_record.specs.Writing.{bytes_owed, WritesPiece, FailsPiece};
 ghost use Rattle.box_worker.specs.Stored.{HasKept};
@@ -12,7 +13,7 @@ ghost use Rattle.box_worker.specs.Turned.{HasKeptMended, HasNotKeptMended};
 use crate::count::CountSpool;
 use lmtp_text::Site;
 use mail_world::limits::WORKER_BUFFER_SIZE;
-use mbox_record::{Envelope, RecordWriter, Spool, SpoolFault, mend};
+use mbox_record::{Envelope, Lengths, RecordWriter, Spool, SpoolFault, mend};
 use msg_depot::{Depot, DepotName, Hold};
 use std::sync::Wait;
 
@@ -56,27 +57,18 @@ pub(crate) fn mend_and_store<N: DepotName, S: Spool, R: Wait>(
     store(rt, spool, depot, site, envelope, hold)
 }
 
-/// How many bytes the record of the held message has, unless they are 2^64 or more. The head and the text are counted
-/// apart, since a count stays at 2^64 - 1.
-pub(crate) fn record_size<N: DepotName, R: Wait>(
-    rt: &R,
-    depot: &Depot<N>,
-    site: &Site,
-    envelope: &Envelope,
-    hold: &mut Hold<N>,
-) -> Option<u64>
-    ensures size { let size = length (record_text civil_at site.now envelope.now hold.old.bytes) in
-        SomeIff result (size < 2 ^ 64) size }
-    ensures hold { hold.new ≡ hold.old }
+/// How many bytes the record of a message has, unless they are 2^64 or more, by the lengths of its text. The head alone
+/// is formatted for this, and no message is read; head and text are counted apart, since a count stays at 2^64 - 1.
+pub(crate) fn record_size(site: &Site, envelope: &Envelope, lengths: &Lengths) -> Option<u64>
+    ensures { (message : List ℕ) → lengths.now ≡ lengths_of message
+        → (let size = length (record_text civil_at site.now envelope.now message) in
+        SomeIff result (size < 2 ^ 64) size) }
 {
-    let (mut head, mut text) = (CountSpool::new(), CountSpool::new());
-    let Ok(begun) = RecordWriter::begin(&mut head, site, envelope) else {
+    let mut head = CountSpool::new();
+    let Ok(_) = RecordWriter::begin(&mut head, site, envelope) else {
         unreachable!()
     };
-    let Ok(()) = append_text(rt, &mut text, depot, hold, begun) else {
-        unreachable!()
-    };
-    head.held().checked_add(text.held())
+    head.held().checked_add(lengths.at(site))
 }
 
 // Appends the record of the held message.

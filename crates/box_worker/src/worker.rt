@@ -15,6 +15,7 @@ use crate::gate::Gate;
 use crate::mailbox::Mailbox;
 use crate::release::{SlipSenders, release};
 use crate::report::WorkerReport;
+use crate::turn::TurnObserver;
 use lmtp_text::Site;
 use mail_post::{Gone, Moment, Parts, Post, Receiver, SlipSender};
 use mbox_record::Spool;
@@ -25,27 +26,29 @@ use std::sync::Wait;
 /// Stores the copies that come, one after another, and gives each lane a slip for each of its own, until the channel is
 /// closed or lost. Under a quota a copy whose record would bring the mailbox above it isn't stored, and its
 /// lane is told so. Each copy has a turn at the mailbox, from a lock to an unlock; one whose turn is missed or breaks is
-/// told Failed, and the next has a turn again. It takes no memory.
-pub fn worker_run<N: DepotName, S: Spool, G: Gate, R: Wait>(
+/// told Failed, and the next has a turn again. The observer is told how each turn ended. It takes no memory.
+pub fn worker_run<N: DepotName, S: Spool, G: Gate, O: TurnObserver, R: Wait>(
     rt: &R,
     receiver: Receiver<N>,
     slips: Vec<SlipSender>,
     spool: S,
     depot: &Depot<N>,
     gate: G,
+    observer: O,
     site: &Site,
     quota: Option<u64>,
-) -> WorkerReport<N, S, G>
+) -> WorkerReport<N, S, G, O>
     requires fresh { taken receiver ≡ [] }
     requires lanes { length slips.items ≡ receiver.lanes }
     requires worker { HaveNumber (worker_of slips.items) slips.items }
     ensures { HasWorked (setting_by site.now quota (worker_of slips.items)) (manner_of S.MayFind S.MayRefuse) receiver
-        result.receiver (idle slips.items (S.state spool)) result.worker }
+        result.receiver (idle slips.items (S.state spool) (O.told observer)) result.worker }
 {
     let mut receiver = receiver;
     let mut worker = Worker {
         mailbox: Mailbox::on(spool, quota),
         gate,
+        observer,
         slips: SlipSenders::new(slips),
         taken: 0,
     };
@@ -61,14 +64,15 @@ pub fn worker_run<N: DepotName, S: Spool, G: Gate, R: Wait>(
 
 /// A worker between two copies.
 #[derive(Drop)]
-pub struct Worker<S: Spool, G: Gate> {
+pub struct Worker<S: Spool, G: Gate, O: TurnObserver> {
     mailbox: Mailbox<S>,
     gate: G,
+    observer: O,
     slips: SlipSenders,
     taken: u64,
 }
 
-impl<S: Spool, G: Gate> Worker<S, G> {
+impl<S: Spool, G: Gate, O: TurnObserver> Worker<S, G, O> {
     // The next copy, taken after the picked time, which may be that of the slips' senders.
     fn take_next<K: Moment, N: DepotName, R: Wait>(
         &self,
@@ -101,33 +105,38 @@ impl<S: Spool, G: Gate> Worker<S, G> {
         ensures { (quota : Option ℕ) (worker : ℕ) (copies : List Note) (old : WorkerState) (before was : Inbox Note)
             → IsTimed (clock_of self.old.slips was) was receiver.now
             → IsWorking (setting_by site.now quota worker) (manner_of S.MayFind S.MayRefuse) copies before was old
-            (worker_state self.old) self.old.mailbox.limit
+            (worker_state O.told self.old) self.old.mailbox.limit
             → IsWorking (setting_by site.now quota worker) (manner_of S.MayFind S.MayRefuse) (copies ++ post ∷ [])
-            before receiver.now old (worker_state self.new) self.new.mailbox.limit }
+            before receiver.now old (worker_state O.told self.new) self.new.mailbox.limit }
     {
         let Parts {
             txn,
             place,
             mailbox: _,
             envelope,
+            lengths,
             mut hold,
         } = post.parts();
         self.gate.before(txn, place);
-        let outcome = self.mailbox.take(rt, depot, site, &envelope, &mut hold);
+        let end = self
+            .mailbox
+            .take(rt, depot, site, &envelope, &lengths, &mut hold);
         let released = release(rt, depot, txn, place, hold);
         self.gate.after(txn, place);
+        self.observer.turn(end);
         self.slips
-            .tell::<Brand, N, R>(rt, released, outcome, receiver);
+            .tell::<Brand, N, R>(rt, released, end.outcome(), receiver);
         self.taken = self.taken.saturating_add(1);
     }
 
     // What it hands back once nothing more comes.
-    fn report<N: DepotName>(self, receiver: Receiver<N>, is_lost: bool) -> WorkerReport<N, S, G>
-        ensures { result ≡ worker_back receiver (worker_state self) self.gate is_lost }
+    fn report<N: DepotName>(self, receiver: Receiver<N>, is_lost: bool) -> WorkerReport<N, S, G, O>
+        ensures { result ≡ worker_back receiver (worker_state O.told self) self.gate is_lost }
     {
         let Worker {
             mailbox,
             gate,
+            observer,
             slips,
             taken,
         } = self;
@@ -142,6 +151,7 @@ impl<S: Spool, G: Gate> Worker<S, G> {
         WorkerReport {
             spool,
             gate,
+            observer,
             taken,
             stored,
             over,

@@ -206,6 +206,7 @@ module _ {V S : Type 0} {capacity room : ℕ} (site : Site) (May : ℕ → Type 
         let s = lanes.served k count old new a b c in
         record {
           visited = s.visited;
+          logged = s.logged;
           ended = s.ended;
           counts = s.counts;
           verdicts = s.verdicts;
@@ -213,6 +214,7 @@ module _ {V S : Type 0} {capacity room : ℕ} (site : Site) (May : ℕ → Type 
           answered = lane_outcomes k (slice_get_within old_lanes.visits k old a);
         };
     stored = exchanged.stored;
+    observed = boxes.observed;
     owed = exchanged.owed;
     owed_only = exchanged.owed_only;
     told = exchanged.told;

@@ -8,13 +8,15 @@ use Rattle.mail_world.specs.Slips.{of_worker}
 use Rattle.mail_world.specs.Lists.{of_lane, due, transactions, VerdictsFit, OutcomesAreAnswers}
 use Rattle.mail_runs.specs.Courses.{outcomes_in}
 use Rattle.box_worker.specs.Told.{owed_to}
+use Rattle.box_worker.specs.TurnEnds.{TellsTurns}
 use Rattle.lmtp_house.specs.declared.house.sizes.Sizes.{Sizes}
 use Rattle.lmtp_house.specs.Handed.{HandedIn, HandedBack}
 use Rattle.lmtp_house.specs.RunOfModel.{IsRunOfModel, IsNobodyElses, IsLeftAlone}
 use Rattle.mail_world.specs.Counts.{counted}
+use Rattle.lmtp_talk.specs.Entries.{with_entries}
 use Rattle.lmtp_talk.specs.Peer.{PeerState}
 use Rattle.lmtp_talk.specs.Served.{terms}
-use Rattle.lmtp_lane.specs.Visits.{HasVisited, conversations_of}
+use Rattle.lmtp_lane.specs.Visits.{HasVisited, conversations_of, lane_entries}
 use Rattle.lmtp_threads.specs.Works.{VisitsView, LaneWork, BoxWork, LaneTold, lane_told, share_of, setting_of}
 use Rattle.lmtp_threads.specs.Works.{SpoolsView, IsBoxWork}
 use Rattle.lmtp_threads.specs.declared.tally.Tally.{Tally}
@@ -28,11 +30,12 @@ pub record IsSize (site : Site) (sizes : Sizes) (lanes spools gates : ℕ) : Typ
   pub each_spool : spools ≡ length site.boxes
   pub each_gate : gates ≡ length site.boxes
 
--- Lane k served these clients until there were no more: its verdicts fit, each moment is one that the clock may answer,
--- and each outcome is that of the slip that it heard.
+-- Lane k served these clients until there were no more, and its observer was told the entries of all conversations;
+-- its verdicts fit, each moment is one that the clock may answer, and each outcome is that of the slip that it heard.
 pub record IsLaneWork (site : Site) (May : ℕ → Type 0) (MayCome : PeerState → Type 0) (k : ℕ) (work : LaneWork)
     (told : LaneTold) : Type 0 where
   pub visited : HasVisited (terms site READ_LIMIT) MayCome told.before told.after work.visits
+  pub logged : told.later ≡ with_entries told.earlier (lane_entries site 0 work.visits)
   pub ended : told.over ≡ true
   pub counts : told.count ≡ counted (length work.visits)
   pub verdicts : VerdictsFit site (conversations_of work.visits)
@@ -40,8 +43,9 @@ pub record IsLaneWork (site : Site) (May : ℕ → Type 0) (MayCome : PeerState 
   pub answered : OutcomesAreAnswers site k work.heard (conversations_of work.visits)
 
 -- However lanes and workers interleaved: each worker took of each lane just the copies that the lane's conversations
--- owe its mailbox, in their order, and nothing else; and each lane heard of its copies every slip that their workers
--- gave, and nothing else, so that its channel is empty when it is closed.
+-- owe its mailbox, in their order, and nothing else, and its observer was told how each one's turn ended; and each lane
+-- heard of its copies every slip that their workers gave, and nothing else, so that its channel is empty when it is
+-- closed.
 pub record HasRun {V S : Type 0} (site : Site) (May : ℕ → Type 0) (view : VisitsView V) (spools : SpoolsView S)
     (old : HandedIn V S) (new : HandedBack V S) : Type 0 where
   pub lanes : ℕ → LaneWork
@@ -55,6 +59,9 @@ pub record HasRun {V S : Type 0} (site : Site) (May : ℕ → Type 0) (view : Vi
       → slice_get new.spools b ≡ Some after → slice_get new.tallies b ≡ Some tally
       → IsBoxWork (setting_of (share_of site old.quota) b) spools.manner (boxes b) (spools.state before)
       (spools.state after) tally
+  pub observed : (b : ℕ) (before after : S) → slice_get old.spools b ≡ Some before
+      → slice_get new.spools b ≡ Some after
+      → TellsTurns (boxes b).turns (spools.told before) (spools.told after)
   pub owed : (k b : ℕ) → k < length old.visits → b < length old.spools
       → of_lane k (boxes b).taken ≡ due site k b (conversations_of (lanes k).visits)
   pub owed_only : (b : ℕ) → b < length old.spools

@@ -1,19 +1,20 @@
 //! An LMTP server (RFC 2033): its lanes and its workers, each in a thread.
 //!
-//! The programs use `run_house`: where it returns Ok, each mailbox got of each lane what its conversations owe it, and
-//! what the threads did is a run of the model. The names of `lmtp_talk` and `lmtp_lane` that
-//! they need are handed on here. It never knows what clients, spools, gates and clock really are: they are handed in.
+//! The programs use `run_house`: where it returns Ok, each mailbox got of each lane what its conversations owe it, what
+//! the threads did is a run of the model, and each observer was told of it. The names of `lmtp_talk` and `lmtp_lane`
+//! that they need are handed on here. It never knows what clients, spools, gates, clock and observers really are: they
+//! are handed in.
 #![tactic(auto)]
 
 mod house;
 
 pub use house::{HouseFault, HouseReport, Room, Sizes, has_failed, is_size, run_house};
 pub use lmtp_lane::{
-    Client, Clock, Desk, Endpoint, LaneReport, Listener, SystemClock, TcpVisits, Visits, WAIT_MS,
-    lane_run, lane_run_at, tcp_visits,
+    Clock, Desk, Endpoint, LaneReport, Listener, SystemClock, TcpVisits, Visits, WAIT_MS, lane_run,
+    lane_run_at, tcp_visits,
 };
 pub use lmtp_talk::{
-    Arrived, Bounds, Came, ClientStream, Curfew, Delivery, Dialogue, EndCause, Outbox, Pause, Peer,
-    PeerFault, ReadBuffer, TcpPeer, has_passed, serve,
+    Arrived, Bounds, Came, Client, ClientStream, Curfew, Delivery, Dialogue, EndCause, Observer,
+    Outbox, Pause, Peer, PeerFault, ReadBuffer, TcpPeer, Traffic, has_passed, serve,
 };
-pub use lmtp_threads::Tally;
+pub use lmtp_threads::{Tally, Watched};

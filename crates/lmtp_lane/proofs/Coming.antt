@@ -1,5 +1,5 @@
 -- A message on its way into the depot, room by room.
-use Rattle.std.proofs.Common.{◌≡◌, ◌≤◌, ◌<◌, ℕ, zero, suc, ◌+◌, ◌-◌, List, [], ◌++◌, length, take, drop, Some, refl, ap, sym, ◌∙◌, subst, append_assoc, arith}
+use Rattle.std.proofs.Common.{◌≡◌, ◌≤◌, ◌<◌, ℕ, zero, suc, ◌+◌, ◌-◌, List, [], ◌++◌, length, take, drop, Some, refl, ap, sym, ◌∙◌, append_assoc, arith}
 use Rattle.std.specs.Prelude.{Option, None, Bool, true, false}
 use Rattle.std.specs.Option.{IfSome}
 use Rattle.std.proofs.Math.Seq.{take-add, take-append-add, paste}
@@ -17,18 +17,16 @@ use Rattle.mail_head.specs.MessageIds.{message_id_of}
 use Rattle.mail_head.proofs.FirstBytes.{none_else_tells}
 use Rattle.lmtp_lane.specs.LaneAccount.{IsComing, PutsOn}
 
--- nothing has come, and there is no draft
-pub none_came : (draft : Option Claim) (id : Option (List ℕ)) → draft ≡ None → IsComing draft [] 0 id []
-none_came draft id e =
-    let nothing : IsComing None [] 0 id [] = record {
-      long = refl;
-      before = [];
-      whole = refl;
-      rooms = (0, refl);
-      bytes = tt;
-      named = λ some. absurd (omega (arith, some));
-    } in
-    subst (λ d. IsComing d [] 0 id []) (sym e) nothing
+-- nothing has come, and a draft is empty
+pub none_came : (draft : Option Claim) (id : Option (List ℕ)) → IfSome draft (λ claim. claim.bytes ≡ []) → IsComing draft [] 0 id []
+none_came draft id empty = record {
+  long = refl;
+  before = [];
+  whole = refl;
+  rooms = (0, refl);
+  bytes = empty;
+  named = λ some. absurd (omega (arith, some));
+}
 
 -- where more have come than wait, others came before these
 some_before : (before waiting size : ℕ) → size ≡ counted (before + waiting) → waiting ≤ DATA_BUFFER_SIZE + 1 → (size ≡ waiting → ⊥) → 0 < before

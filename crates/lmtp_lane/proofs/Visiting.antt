@@ -7,26 +7,28 @@ use Rattle.mail_world.specs.Conversation.{Conversation}
 use Rattle.mail_world.specs.Lists.{Transaction, transactions}
 use Rattle.lmtp_talk.specs.declared.ending.EndCause.{EndCause}
 use Rattle.lmtp_talk.specs.Peer.{PeerState, RisesBy}
+use Rattle.lmtp_talk.specs.Parties.{Parties}
 use Rattle.lmtp_talk.specs.Served.{Terms, terms, HasRead, IsServed, transactions_in, accepted_after_conversation}
 use Rattle.lmtp_talk.proofs.Counting.{rises_then}
 use Rattle.lmtp_talk.specs.Entries.{Entry, OfEnd, entries_in, with_entries}
 use Rattle.lmtp_talk.proofs.Entered.{with_none, with_both}
 use Rattle.lmtp_lane.specs.Visits.{VisitsTold, Finished, TellsFinished, Visit, IsVisit, finished_of, conversations_of, HasFinished, HasVisited, HasConversed}
-use Rattle.lmtp_lane.specs.Visits.{LendsLog, visit_entries, lane_entries}
+use Rattle.lmtp_lane.specs.Visits.{visit_entries, lane_entries}
 use Rattle.mail_world.specs.Counts.{counted}
 
 -- a client that was served, and is handed back
-pub conversed : (by : Terms) (old new : VisitsTold) (before after : PeerState) (Before After : ℕ → List Transaction → Type 0) (cause : EndCause)
-    → IsServed by before after Before After cause → HasRead by.reads before after cause → TellsFinished old.each new.each after cause
+pub conversed : (by : Terms) (old new : VisitsTold) (before after : Parties) (later : Option (List Entry)) (Before After : ℕ → List Transaction → Type 0)
+    (cause : EndCause)
+    → IsServed by before after Before After cause → HasRead by.reads before.peer after.peer cause → TellsFinished old.each new.each after.peer cause
     → RisesBy 1 old.count new.count
-    → new.log ≡ with_entries after.told (OfEnd cause ∷ []) → HasConversed by before old new Before After
-conversed by old new before after Before After cause x reads finishes counts logs = record {
-  visit = record { before = before; after = after; conversation = x.conversation; cause = cause };
+    → later ≡ with_entries after.told (OfEnd cause ∷ []) → HasConversed by before.peer old new before.told later Before After
+conversed by old new before after later Before After cause x reads finishes counts ended = record {
+  visit = record { before = before.peer; after = after.peer; conversation = x.conversation; cause = cause };
   is = record { client = refl; reads = reads; said = x.said; moved = x.moved; accounted = x.accounted; says = x.says; causes = x.causes };
   told = finishes;
   counts = counts;
   delivered = x.delivered;
-  logged = λ n ts first. logs ∙ ap (λ (o : Option (List Entry)). with_entries o (OfEnd cause ∷ [])) (x.logged n ts first)
+  logged = λ n ts first. ended ∙ ap (λ (o : Option (List Entry)). with_entries o (OfEnd cause ∷ [])) (x.logged n ts first)
       ∙ with_both before.told (entries_in by.site n x.conversation) (OfEnd cause ∷ []);
 }
 
@@ -66,18 +68,19 @@ entries_last site n (x ∷ vs) v =
     ap (λ l. visit_entries site n x ++ l) (entries_last site k vs v)
     ∙ sym (append_assoc (visit_entries site n x) (lane_entries site k vs) (visit_entries site (accepted_all site k (conversations_of vs)) v))
 
-logged_last : (site : Site) (vs : List Visit) (v : Visit) (old now peer next : Option (List Entry)) → now ≡ with_entries old (lane_entries site 0 vs)
-    → peer ≡ now
-    → next ≡ with_entries peer (visit_entries site (accepted_all site 0 (conversations_of vs)) v) → next ≡ with_entries old (lane_entries site 0 (vs ++ v ∷ []))
-logged_last site vs v old now peer next before lent told =
+logged_last : (site : Site) (vs : List Visit) (v : Visit) (old now next : Option (List Entry)) → now ≡ with_entries old (lane_entries site 0 vs)
+    → next ≡ with_entries now (visit_entries site (accepted_all site 0 (conversations_of vs)) v) → next ≡ with_entries old (lane_entries site 0 (vs ++ v ∷ []))
+logged_last site vs v old now next before told =
     let own : List Entry = visit_entries site (accepted_all site 0 (conversations_of vs)) v in
-    told ∙ ap (λ (o : Option (List Entry)). with_entries o own) (lent ∙ before) ∙ with_both old (lane_entries site 0 vs) own
+    told ∙ ap (λ (o : Option (List Entry)). with_entries o own) before ∙ with_both old (lane_entries site 0 vs) own
     ∙ ap (λ l. with_entries old l) (sym (entries_last site 0 vs v))
 
--- the clients that were served so far, and what the delivery has come to with them
-pub record HasCalled (by : Terms) (MayCome : PeerState → Type 0) (old now : VisitsTold) (Come : ℕ → List Transaction → Type 0) (count : ℕ) : Type 0 where
+-- the clients that were served so far, what the observer was told of them, and what the delivery has come to with them
+pub record HasCalled (by : Terms) (MayCome : PeerState → Type 0) (old now : VisitsTold) (earlier later : Option (List Entry))
+    (Come : ℕ → List Transaction → Type 0) (count : ℕ) : Type 0 where
   pub visits : List Visit
   pub visited : HasVisited by MayCome old now visits
+  pub logged : later ≡ with_entries earlier (lane_entries by.site 0 visits)
   pub counts : count ≡ counted (length visits)
   pub come : Come (accepted_all by.site 0 (conversations_of visits)) (transactions by.site 0 (conversations_of visits))
 
@@ -86,11 +89,12 @@ told_none : (old : Option (List Finished)) → HasFinished old old []
 told_none None = refl
 told_none (Some told) = ap (λ l. Some l) (sym (append-nil told))
 
-pub called_none : (by : Terms) (MayCome : PeerState → Type 0) (old : VisitsTold) (Come : ℕ → List Transaction → Type 0) → Come 0 []
-    → HasCalled by MayCome old old Come 0
-called_none by MayCome old Come come = record {
+pub called_none : (by : Terms) (MayCome : PeerState → Type 0) (old : VisitsTold) (told : Option (List Entry)) (Come : ℕ → List Transaction → Type 0)
+    → Come 0 [] → HasCalled by MayCome old old told told Come 0
+called_none by MayCome old told Come come = record {
   visits = [];
-  visited = record { told = told_none old.each; counts = inl (omega arith); each = tt; logged = with_none old.log };
+  visited = record { told = told_none old.each; counts = inl (omega arith); each = tt };
+  logged = with_none told;
   counts = refl;
   come = subst (λ ts. Come 0 ts) (sym (transactions_first by.site 0)) come;
 }
@@ -114,11 +118,11 @@ each_more : (P : Visit → Type 0) (vs : List Visit) (v : Visit) → AllByRecurs
 each_more P [] v h p = (p, tt)
 each_more P (x ∷ vs) v h p = (h.0, each_more P vs v h.1 p)
 
-more_called : (by : Terms) (MayCome : PeerState → Type 0) (peer : PeerState) (old now next : VisitsTold) (Come Come' : ℕ → List Transaction → Type 0)
-    (count count' : ℕ)
-    → count' ≡ counted (count + 1) → MayCome peer → peer.told ≡ now.log → HasCalled by MayCome old now Come count → HasConversed by peer now next Come Come'
-    → HasCalled by MayCome old next Come' count'
-more_called by MayCome peer old now next Come Come' count count' e may lent x y =
+more_called : (by : Terms) (MayCome : PeerState → Type 0) (peer : PeerState) (old now next : VisitsTold) (first before after : Option (List Entry))
+    (Come Come' : ℕ → List Transaction → Type 0) (count count' : ℕ)
+    → count' ≡ counted (count + 1) → MayCome peer → HasCalled by MayCome old now first before Come count
+    → HasConversed by peer now next before after Come Come' → HasCalled by MayCome old next first after Come' count'
+more_called by MayCome peer old now next first before after Come Come' count count' e may x y =
     let v : Visit = y.visit in
     let site : Site = by.site in
     let cs : List Conversation = conversations_of x.visits in
@@ -148,30 +152,19 @@ more_called by MayCome peer old now next Come Come' count count' e may lent x y 
         told = told_more old.each now.each next.each x.visits v x.visited.told y.told;
         counts = subst (λ n. RisesBy n old.count next.count) (sym size)
             (rises_then (length x.visits) 1 old.count now.count next.count x.visited.counts y.counts);
-        each =
-            each_more (IsVisit by MayCome) x.visits v x.visited.each is;
-        logged =
-            logged_last site x.visits v old.log now.log peer.told next.log x.visited.logged lent
-            (y.logged (accepted_all site 0 cs) (transactions site 0 cs) x.come);
+        each = each_more (IsVisit by MayCome) x.visits v x.visited.each is;
       };
+      logged = logged_last site x.visits v first before after x.logged (y.logged (accepted_all site 0 cs) (transactions site 0 cs) x.come);
       counts = omega (arith, e, x.counts, size);
       come = subst (λ l. Come' (accepted_all site 0 l) (transactions site 0 l)) (sym all) come;
     }
 
 pub called_more : (reads : ℕ) (site site' : Site) (MayCome : PeerState → Type 0) (peer : PeerState) (old now now' next : VisitsTold)
-    (Come Come' : ℕ → List Transaction → Type 0) (count count' : ℕ)
-    → site' ≡ site → LendsLog now now' peer → count' ≡ counted (count + 1) → MayCome peer → HasCalled (terms site reads) MayCome old now Come count
-    → HasConversed (terms site' reads) peer now' next Come Come'
-    → HasCalled (terms site reads) MayCome old next Come' count'
-called_more reads site site' MayCome peer old now now' next Come Come' count count' here same e may x y =
-    let P : Site → Type 0 = λ s. HasConversed (terms s reads) peer now' next Come Come' in
-    let z : HasConversed (terms site reads) peer now' next Come Come' = subst P here y in
-    let last : HasConversed (terms site reads) peer now next Come Come' = record {
-      visit = z.visit;
-      is = z.is;
-      told = subst (λ (o : Option (List Finished)). TellsFinished o next.each z.visit.after z.visit.cause) same.each z.told;
-      counts = subst (λ k. RisesBy 1 k next.count) same.count z.counts;
-      delivered = z.delivered;
-      logged = z.logged;
-    } in
-    more_called (terms site reads) MayCome peer old now next Come Come' count count' e may same.log x last
+    (first before after : Option (List Entry)) (Come Come' : ℕ → List Transaction → Type 0) (count count' : ℕ)
+    → site' ≡ site → now' ≡ now → count' ≡ counted (count + 1) → MayCome peer → HasCalled (terms site reads) MayCome old now first before Come count
+    → HasConversed (terms site' reads) peer now' next before after Come Come'
+    → HasCalled (terms site reads) MayCome old next first after Come' count'
+called_more reads site site' MayCome peer old now now' next first before after Come Come' count count' here same e may x y =
+    let P : Site → Type 0 = λ s. HasConversed (terms s reads) peer now' next before after Come Come' in
+    let Q : VisitsTold → Type 0 = λ v. HasConversed (terms site reads) peer v next before after Come Come' in
+    more_called (terms site reads) MayCome peer old now next first before after Come Come' count count' e may x (subst Q same (subst P here y))

@@ -1,6 +1,6 @@
 -- What contracts see of the clients that connect to a listener, and how they are shared out among lanes.
 use Rattle.std.specs.Prelude.{◌≡◌, ◌+◌, ◌/◌, ◌%◌, ◌⊎◌, ◌↔◌, ℕ, Bool, true, false, List, map}
-use Rattle.std.specs.Prelude.{nat_lt, if◌then◌else◌, Option, None, is_none, is_some, IsNone, IfSome}
+use Rattle.std.specs.Prelude.{nat_lt, if◌then◌else◌, Option, None, is_some, IsNone, IfSome}
 use Rattle.std.specs.Arc.{arc_value}
 use Rattle.std.specs.List.{range_with_len}
 use Rattle.lmtp_talk.specs.declared.tcp.peer.Bounds.{Bounds}
@@ -22,17 +22,17 @@ bounds_each v = v.bounds
 abbrev pub conversations_ended : {L E : Type 0} → TcpVisits L E → ℕ
 conversations_ended v = v.ended
 
--- what it tells: how many conversations have ended, and none of them; it has no log
+-- what it tells: how many conversations have ended, and none of them
 abbrev pub told_by : {L E : Type 0} → TcpVisits L E → VisitsTold
-told_by v = record { each = None; count = v.ended; log = None }
+told_by v = record { each = None; count = v.ended }
 
 -- a client who has done nothing yet
 abbrev pub IsNewcomer : PeerState → Type 0
 IsNewcomer peer = (peer.reads ≡ 0) × (peer.failures ≡ 0) × (peer.stops ≡ 0)
 
--- a client was handed out, and with it the buffer
+-- a client was handed out, and isn't back
 abbrev pub is_out : {L E : Type 0} → TcpVisits L E → Bool
-is_out v = is_none v.buffer
+is_out v = v.out
 
 -- the last that was asked for was none
 abbrev pub is_over : {L E : Type 0} → TcpVisits L E → Bool

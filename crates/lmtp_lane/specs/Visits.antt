@@ -16,17 +16,10 @@ pub record Finished : Type 0 where
   pub cause : EndCause
 
 -- what a Visits tells of the conversations that have ended: each of them, where it tells them, and how many these are;
--- the count stays at its largest value; and what the log of them all was told, where it tells
+-- the count stays at its largest value
 pub record VisitsTold : Type 0 where
   pub each : Option (List Finished)
   pub count : ℕ
-  pub log : Option (List Entry)
-
--- the log is lent to a client for a conversation, and all else stays
-pub record LendsLog (old new : VisitsTold) (peer : PeerState) : Type 0 where
-  pub each : new.each ≡ old.each
-  pub count : new.count ≡ old.count
-  pub log : peer.told ≡ old.log
 
 -- one more conversation is told, where they are told
 abbrev pub TellsFinished : Option (List Finished) → Option (List Finished) → PeerState → EndCause → Type 0
@@ -73,18 +66,16 @@ lane_entries site n [] = []
 lane_entries site n (v ∷ visits) = visit_entries site n v
     ++ lane_entries site (accepted_after_conversation site n v.conversation) visits
 
--- the clients that were served, one after another, and each was handed back; the log was told the entries of all of
--- them
+-- the clients that were served, one after another, and each was handed back
 pub record HasVisited (by : Terms) (MayCome : PeerState → Type 0) (old new : VisitsTold) (visits : List Visit)
     : Type 0 where
   pub told : HasFinished old.each new.each visits
   pub counts : RisesBy (length visits) old.count new.count
   pub each : AllByRecursion (IsVisit by MayCome) visits
-  pub logged : new.log ≡ with_entries old.log (lane_entries by.site 0 visits)
 
 -- this client was served, and handed back; a delivery that had come to that much before has come to its messages
--- too, and the client's log, which is given back, was told the entries of the conversation
-pub record HasConversed (by : Terms) (peer : PeerState) (old new : VisitsTold)
+-- too, and the observer, who was told that much earlier, was told the entries of the conversation
+pub record HasConversed (by : Terms) (peer : PeerState) (old new : VisitsTold) (earlier later : Option (List Entry))
     (Before After : ℕ → List Transaction → Type 0) : Type 0 where
   pub visit : Visit
   pub is : IsVisit by (λ client. client ≡ peer) visit
@@ -94,4 +85,4 @@ pub record HasConversed (by : Terms) (peer : PeerState) (old new : VisitsTold)
       → After (accepted_after_conversation by.site n visit.conversation)
       (ts ++ transactions_in by.site n visit.conversation)
   pub logged : (n : ℕ) (ts : List Transaction) → Before n ts
-      → new.log ≡ with_entries peer.told (visit_entries by.site n visit)
+      → later ≡ with_entries earlier (visit_entries by.site n visit)

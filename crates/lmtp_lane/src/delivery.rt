@@ -12,14 +12,14 @@ ghost use Rattle.lmtp_lane.specs.LaneAccount.{AgreesWith, HasOffered, IsComing, 
 
 use crate::clock::Clock;
 use crate::exchange::{Exchange, Postmark};
-use crate::incoming::Incoming;
+use crate::incoming::{CountedDraft, Incoming};
 use crate::setting::LaneStart;
 use lmtp_session::Session;
 use lmtp_talk::Delivery;
 use lmtp_wire::{Dot, Fed};
 use mail_head::MessageId;
 use mail_world::{Outcome, State, Verdict};
-use msg_depot::{Depot, DepotName, Draft};
+use msg_depot::{Depot, DepotName};
 use std::marker::PhantomData;
 use std::sync::Wait;
 
@@ -75,20 +75,22 @@ impl<'a, N: DepotName, C: Clock, R: Wait, S: LaneStart> LaneDelivery<'a, N, C, R
     }
 
     // Sends a whole message to its recipients.
-    fn deliver(&mut self, session: &Session, draft: Draft<N>)
+    fn deliver(&mut self, session: &Session, counted: CountedDraft<N>)
         requires content { session.now.session.state ≡ State.Content }
         requires here { session.now.site ≡ S.site }
         requires number { self.old.accepted ≤ NUMBER_LIMIT }
         ensures same { (self.new.accepted ≡ self.old.accepted) × (self.new.moment ≡ self.old.moment) }
         ensures clock { AgreesWith (C.May self.new.clock.now) (C.May self.old.clock.now) }
         ensures count { length self.new.exchange.gather.gather.places ≡ length session.now.session.recipients }
-        ensures delivers { Delivers (sent_as self.old.accepted session.now.session self.old.moment draft.bytes)
+        ensures delivers { Delivers (sent_as self.old.accepted session.now.session self.old.moment counted.bytes)
             (told_by self.new.exchange.gather.gather) (ends_of self.old.exchange) (ends_of self.new.exchange) }
     {
+        let CountedDraft { draft, counter } = counted;
         let hold = self.depot.seal(self.rt, draft, session.recipient_count());
         let mark = Postmark {
             number: self.accepted as u32,
             moment: self.moment,
+            lengths: counter.total(),
         };
         self.exchange.send(self.rt, self.depot, session, mark, hold);
     }

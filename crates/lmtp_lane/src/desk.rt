@@ -5,7 +5,7 @@ ghost use Rattle.std.specs.Arc.{arc_value};
 ghost use Rattle.mail_world.specs.declared.limits.TheConstants.{RECIPIENT_LIMIT};
 ghost use Rattle.mail_post.specs.Gathering.{IsDone};
 
-use lmtp_talk::Dialogue;
+use lmtp_talk::{Dialogue, ReadBuffer};
 use lmtp_text::Site;
 use mail_post::Gather;
 use mail_world::limits::RECIPIENT_LIMIT;
@@ -16,6 +16,7 @@ use std::sync::Arc;
 #[derive(Drop)]
 pub struct Desk {
     pub dialogue: Dialogue,
+    pub buffer: ReadBuffer,
     pub gather: Gather,
     ghost room: { RECIPIENT_LIMIT ≤ gather.limit },
     ghost none_missing: { IsDone gather.gather },
@@ -28,6 +29,7 @@ impl Desk {
     {
         Ok(Desk {
             dialogue: Dialogue::new(alloc, site)?,
+            buffer: ReadBuffer::new(alloc)?,
             gather: Gather::new(alloc, RECIPIENT_LIMIT)?,
         })
     }

@@ -6,6 +6,7 @@ ghost use Rattle.mail_post.specs.Offered.{HaveNumber, any_gone};
 
 use mail_post::{Gather, Sender, SlipReceiver};
 use mail_world::limits::RECIPIENT_LIMIT;
+use mbox_record::Lengths;
 use msg_depot::DepotName;
 use std::alloc::Global;
 
@@ -13,11 +14,13 @@ mod hearing;
 mod offering;
 mod sending;
 
-/// What a message is known by: its number among the lane's, and the moment when its data ended, in seconds since 1970.
+/// What a message is known by: its number among the lane's, the moment when its data ended, in seconds since 1970, and
+/// how long its text is in a record.
 #[derive(Clone, Copy)]
 pub struct Postmark {
     pub number: u32,
     pub moment: u32,
+    pub lengths: Lengths,
 }
 
 /// A lane's ends, and the gatherer of its slips.

@@ -1,7 +1,7 @@
 //! A message on its way into the depot.
 
 ghost use Rattle.std.specs.Prelude.{◌≡◌, ◌≤◌, ◌<◌, ◌+◌, ◌++◌, ℕ, List, [], length, take};
-ghost use Rattle.std.specs.Prelude.{None, Some, IfOk, IfErr, option_map};
+ghost use Rattle.std.specs.Prelude.{None, Some, IfOk, IfErr, IfSome, option_map};
 ghost use Rattle.mail_world.specs.declared.limits.TheConstants.{NUMBER_LIMIT, DATA_BUFFER_SIZE};
 ghost use Rattle.mail_world.specs.declared.Verdict.TheVariants.{Whole};
 ghost use Rattle.mail_head.specs.MessageIds.{message_id_of};
@@ -13,18 +13,38 @@ use lmtp_wire::{Dot, Fed};
 use mail_head::{MessageId, message_id_of};
 use mail_world::Verdict;
 use mail_world::limits::{DATA_BUFFER_SIZE, NUMBER_LIMIT};
+use mbox_record::LengthCounter;
 use msg_depot::{Depot, DepotName, Draft};
+use std::marker::Model;
 use std::mem;
 use std::sync::Wait;
 
 /// One byte more than the depot is given at once: so a dot always has two free places, and takes a byte at least.
 const ROOM_SIZE: usize = DATA_BUFFER_SIZE + 1;
 
+/// A draft, and how long the text of what is in it is in a record so far. Contracts see the draft alone.
+#[derive(Drop)]
+pub struct CountedDraft<N: DepotName> {
+    pub draft: Draft<N>,
+    pub counter: LengthCounter,
+}
+
+impl<N: DepotName> Model for CountedDraft<N> {
+    ghost use Rattle.mbox_record.specs.Lengths.{HasCounted};
+    ghost use Rattle.msg_depot.specs.declared.view.Claim.{Claim};
+
+    ghost Value = { Claim };
+
+    ghost view = { λ d. d.draft };
+
+    ghost invariant = { λ d. HasCounted d.counter d.draft.bytes };
+}
+
 /// The draft of a message, what waits to be put into it, how long the message is so far, and its Message-ID. There is no
 /// draft once room was lacking or the message was too large; the bytes go through the room then, and into nothing.
 #[derive(Drop)]
 pub struct Incoming<N: DepotName> {
-    pub draft: Option<Draft<N>>,
+    pub draft: Option<CountedDraft<N>>,
     pub room: [u8; ROOM_SIZE],
     /// How many bytes wait, which stand first in the room.
     pub held: usize,
@@ -54,9 +74,7 @@ impl<N: DepotName> Incoming<N> {
         self.cancel(rt, depot);
         self.held = 0;
         self.size = 0;
-        if let Ok(draft) = depot.draft(rt) {
-            self.draft = Some(draft);
-        }
+        self.draft = begin(rt, depot);
     }
 
     /// Takes bytes of the data, whose message may have as many bytes in all as the limit says.
@@ -165,8 +183,8 @@ impl<N: DepotName> Incoming<N> {
         ensures size { self.new.size ≡ self.old.size }
         ensures message_id { self.new.message_id ≡ self.old.message_id }
     {
-        if let Some(draft) = self.draft.take() {
-            depot.cancel(rt, draft);
+        if let Some(counted) = self.draft.take() {
+            depot.cancel(rt, counted.draft);
         }
     }
 
@@ -178,7 +196,7 @@ impl<N: DepotName> Incoming<N> {
         depot: &Depot<N>,
         number: u64,
         limit: u32,
-    ) -> Result<Draft<N>, Verdict>
+    ) -> Result<CountedDraft<N>, Verdict>
         ensures whole { IfOk result (λ draft. (self.old.draft ≡ Some draft)
             × (Whole ≡ verdict_on limit number self.old.size self.old.draft)) }
         ensures number { IfOk result (λ _. number ≤ NUMBER_LIMIT) }
@@ -200,18 +218,32 @@ impl<N: DepotName> Incoming<N> {
     }
 }
 
-// Adds bytes to a draft, if there is one. Where there is no room for them it is cancelled.
+// An empty draft, if there is room for one.
+fn begin<N: DepotName, R: Wait>(rt: &R, depot: &Depot<N>) -> Option<CountedDraft<N>>
+    ensures { IfSome result (λ draft. draft.bytes ≡ []) }
+{
+    let draft = depot.draft(rt).ok()?;
+    Some(CountedDraft {
+        draft,
+        counter: LengthCounter::new(),
+    })
+}
+
+// Adds bytes to a draft, if there is one, and counts them. Where there is no room for them it is cancelled.
 fn put<N: DepotName, R: Wait>(
     rt: &R,
     depot: &Depot<N>,
-    draft: Option<Draft<N>>,
+    draft: Option<CountedDraft<N>>,
     bytes: &[u8],
-) -> Option<Draft<N>>
+) -> Option<CountedDraft<N>>
     ensures { PutsOn draft result bytes.now }
 {
-    let mut draft = draft?;
+    let CountedDraft { mut draft, counter } = draft?;
     match depot.put(rt, &mut draft, bytes) {
-        Ok(()) => Some(draft),
+        Ok(()) => Some(CountedDraft {
+            draft,
+            counter: counter.add(bytes),
+        }),
         Err(_) => {
             depot.cancel(rt, draft);
             None

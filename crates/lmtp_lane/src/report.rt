@@ -1,14 +1,16 @@
 //! What a lane hands back.
 
 use crate::visits::Visits;
+use lmtp_talk::Observer;
 use mail_post::{Sender, SlipReceiver};
 use msg_depot::DepotName;
 use std::marker::Model;
 
-/// A lane's ends, and what became of its clients.
+/// A lane's ends, its observer, and what became of its clients.
 #[derive(Drop)]
-pub struct LaneReport<N: DepotName, V: Visits> {
+pub struct LaneReport<N: DepotName, V: Visits, O: Observer> {
     pub visits: V,
+    pub observer: O,
     pub senders: Vec<Sender<N>>,
     pub slips: SlipReceiver,
     /// How many conversations ended; it stays at its largest value.
@@ -17,7 +19,7 @@ pub struct LaneReport<N: DepotName, V: Visits> {
     pub gone: bool,
 }
 
-impl<N: DepotName, V: Visits> Model for LaneReport<N, V> {
+impl<N: DepotName, V: Visits, O: Observer> Model for LaneReport<N, V, O> {
     ghost use Rattle.lmtp_lane.specs.LaneRun.{LaneBack};
 
     ghost Value = { LaneBack };
@@ -25,6 +27,7 @@ impl<N: DepotName, V: Visits> Model for LaneReport<N, V> {
     ghost view = { λ r. record {
       finished = V.finished r.visits;
       over = V.over r.visits;
+      told = O.told r.observer;
       senders = r.senders.items;
       slips = r.slips;
       gone = r.gone;

@@ -17,7 +17,7 @@ use crate::exchange::Exchange;
 use crate::report::LaneReport;
 use crate::setting::LaneStart;
 use crate::visits::Visits;
-use lmtp_talk::{Dialogue, serve};
+use lmtp_talk::{Dialogue, Observer, Peer, ReadBuffer, serve};
 use lmtp_text::Site;
 use mail_post::{Sender, SlipReceiver};
 use mail_world::limits::READ_LIMIT;
@@ -26,8 +26,9 @@ use std::marker::Brand;
 use std::sync::Wait;
 
 /// Serves clients, one after another, until there are no more, or a channel is found gone: then until that conversation
-/// ends. The senders are the lane's, one for each mailbox in the site's order. It takes no memory.
-pub fn lane_run<N: DepotName, V: Visits, C: Clock, R: Wait>(
+/// ends. The senders are the lane's, one for each mailbox in the site's order. The observer is told of each reply, and
+/// of each end once the client was handed back. It takes no memory.
+pub fn lane_run<N: DepotName, V: Visits, C: Clock, O: Observer, R: Wait>(
     rt: &R,
     lane: u32,
     site: &Site,
@@ -37,21 +38,23 @@ pub fn lane_run<N: DepotName, V: Visits, C: Clock, R: Wait>(
     senders: Vec<Sender<N>>,
     slips: SlipReceiver,
     clock: &C,
-) -> LaneReport<N, V>
+    observer: O,
+) -> LaneReport<N, V, O>
     requires site { desk.dialogue.session.site ≡ site.now }
     requires count { length senders.items ≡ length site.now.boxes }
     requires lane { HaveNumber lane senders.items }
     requires none_out { V.out visits ≡ false }
     ensures { HasServed (terms site.now READ_LIMIT) (C.May clock.now) (V.MayGive visits)
-        (lane_start (V.finished visits) (V.over visits) lane senders.items slips) (lane_end lane result) }
+        (lane_start (V.finished visits) (V.over visits) (O.told observer) lane senders.items slips)
+        (lane_end lane result) }
 {
     lane_run_at(
-        rt, lane, site, desk, visits, depot, senders, slips, clock, READ_LIMIT,
+        rt, lane, site, desk, visits, depot, senders, slips, clock, observer, READ_LIMIT,
     )
 }
 
 /// The same, where each conversation may make that many reads.
-pub fn lane_run_at<N: DepotName, V: Visits, C: Clock, R: Wait>(
+pub fn lane_run_at<N: DepotName, V: Visits, C: Clock, O: Observer, R: Wait>(
     rt: &R,
     lane: u32,
     site: &Site,
@@ -61,36 +64,48 @@ pub fn lane_run_at<N: DepotName, V: Visits, C: Clock, R: Wait>(
     senders: Vec<Sender<N>>,
     slips: SlipReceiver,
     clock: &C,
+    observer: O,
     reads: u32,
-) -> LaneReport<N, V>
+) -> LaneReport<N, V, O>
     requires site { desk.dialogue.session.site ≡ site.now }
     requires count { length senders.items ≡ length site.now.boxes }
     requires lane { HaveNumber lane senders.items }
     requires none_out { V.out visits ≡ false }
     ensures { HasServed (terms site.now reads) (C.May clock.now) (V.MayGive visits)
-        (lane_start (V.finished visits) (V.over visits) lane senders.items slips) (lane_end lane result) }
+        (lane_start (V.finished visits) (V.over visits) (O.told observer) lane senders.items slips)
+        (lane_end lane result) }
 {
-    let Desk { dialogue, gather } = desk;
+    let Desk {
+        dialogue,
+        buffer,
+        gather,
+    } = desk;
     let exchange = Exchange::new(*senders.allocator(), lane, senders, slips, gather);
-    let bounded = BoundedDialogue { dialogue, reads };
-    lane_at::<Brand, N, V, C, R>(rt, bounded, exchange, visits, depot, clock)
+    let bounded = BoundedDialogue {
+        dialogue,
+        buffer,
+        reads,
+    };
+    lane_at::<Brand, N, V, C, O, R>(rt, bounded, exchange, visits, depot, clock, observer)
 }
 
-// A dialogue, and how many reads each of its conversations may make.
+// A dialogue, the buffer that its clients are read with, and how many reads each conversation may make.
 struct BoundedDialogue {
     dialogue: Dialogue,
+    buffer: ReadBuffer,
     reads: u32,
 }
 
 // The same, at a type that stands for the lane's start.
-fn lane_at<S: LaneStart, N: DepotName, V: Visits, C: Clock, R: Wait>(
+fn lane_at<S: LaneStart, N: DepotName, V: Visits, C: Clock, O: Observer, R: Wait>(
     rt: &R,
     bounded: BoundedDialogue,
     exchange: Exchange<N>,
     visits: V,
     depot: &Depot<N>,
     clock: &C,
-) -> LaneReport<N, V>
+    observer: O,
+) -> LaneReport<N, V, O>
     requires here { bounded.dialogue.session.site ≡ S.site }
     requires count { length exchange.senders.items ≡ length S.site.boxes }
     requires start { ends_of exchange ≡ record S.ends { gone = any_gone S.ends.senders } }
@@ -98,18 +113,28 @@ fn lane_at<S: LaneStart, N: DepotName, V: Visits, C: Clock, R: Wait>(
     requires clock { AgreesWith (C.May clock.now) S.May }
     requires none_out { V.out visits ≡ false }
     ensures { HasServed (terms S.site bounded.reads) S.May (V.MayGive visits)
-        (lane_state 0 (V.finished visits) (V.over visits) S.ends) (lane_end S.ends.lane result) }
+        (lane_state 0 (V.finished visits) (V.over visits) (O.told observer) S.ends) (lane_end S.ends.lane result) }
 {
     let BoundedDialogue {
         mut dialogue,
+        mut buffer,
         reads,
     } = bounded;
     let mut visits = visits;
+    let mut observer = observer;
     let limit = dialogue.session.site().message_limit();
     let mut delivery: LaneDelivery<N, C, R, S> = LaneDelivery::new(
         rt, depot, clock, exchange, limit,
     );
-    let conversations = serve_all(rt, &mut dialogue, &mut visits, &mut delivery, reads);
+    let conversations = serve_all(
+        rt,
+        &mut dialogue,
+        &mut buffer,
+        &mut visits,
+        &mut delivery,
+        &mut observer,
+        reads,
+    );
     let Exchange {
         senders,
         slips,
@@ -118,6 +143,7 @@ fn lane_at<S: LaneStart, N: DepotName, V: Visits, C: Clock, R: Wait>(
     } = delivery.exchange;
     LaneReport {
         visits,
+        observer,
         senders,
         slips,
         conversations,
@@ -126,11 +152,13 @@ fn lane_at<S: LaneStart, N: DepotName, V: Visits, C: Clock, R: Wait>(
 }
 
 // Serves clients, one after another. The answer is how many conversations ended.
-fn serve_all<'a, N: DepotName, V: Visits, C: Clock, R: Wait, S: LaneStart>(
+fn serve_all<'a, N: DepotName, V: Visits, C: Clock, O: Observer, R: Wait, S: LaneStart>(
     rt: &R,
     dialogue: &mut Dialogue,
+    buffer: &mut ReadBuffer,
     visits: &mut V,
     delivery: &mut LaneDelivery<'a, N, C, R, S>,
+    observer: &mut O,
     reads: u32,
 ) -> u64
     requires here { dialogue.old.session.site ≡ S.site }
@@ -139,8 +167,9 @@ fn serve_all<'a, N: DepotName, V: Visits, C: Clock, R: Wait, S: LaneStart>(
     requires clock { AgreesWith (C.May delivery.old.clock.now) S.May }
     requires none_out { V.out visits.old ≡ false }
     ensures { HasServed (terms S.site reads) S.May (V.MayGive visits.old)
-        (lane_state 0 (V.finished visits.old) (V.over visits.old) S.ends)
-        (lane_state result (V.finished visits.new) (V.over visits.new) (ends_of delivery.new.exchange)) }
+        (lane_state 0 (V.finished visits.old) (V.over visits.old) (O.told observer.old) S.ends)
+        (lane_state result (V.finished visits.new) (V.over visits.new) (O.told observer.new)
+        (ends_of delivery.new.exchange)) }
 {
     let mut conversations: u64 = 0;
     for _ in rt.forever() {
@@ -150,17 +179,19 @@ fn serve_all<'a, N: DepotName, V: Visits, C: Clock, R: Wait, S: LaneStart>(
         let Some(peer) = visits.next(rt) else {
             return conversations;
         };
-        converse(dialogue, visits, delivery, peer, reads);
+        converse(dialogue, buffer, visits, delivery, observer, peer, reads);
         conversations = conversations.saturating_add(1);
     }
     unreachable!()
 }
 
-// Serves a client while no channel is gone, and hands it back.
-fn converse<'a, N: DepotName, V: Visits, C: Clock, R: Wait, S: LaneStart>(
+// Serves a client while no channel is gone, hands it back, and tells the observer so.
+fn converse<'a, N: DepotName, V: Visits, C: Clock, O: Observer, R: Wait, S: LaneStart>(
     dialogue: &mut Dialogue,
+    buffer: &mut ReadBuffer,
     visits: &mut V,
     delivery: &mut LaneDelivery<'a, N, C, R, S>,
+    observer: &mut O,
     peer: V::P,
     reads: u32,
 )
@@ -168,7 +199,7 @@ fn converse<'a, N: DepotName, V: Visits, C: Clock, R: Wait, S: LaneStart>(
     requires sound { delivery.old.exchange.gone ≡ false }
     requires out { V.out visits.old ≡ true }
     ensures converses { HasConversed (terms dialogue.old.session.site reads) (V.P.state peer)
-        (V.finished visits.old) (V.finished visits.new)
+        (V.finished visits.old) (V.finished visits.new) (O.told observer.old) (O.told observer.new)
         (λ n ts. HasOffered S.site.message_limit S.May delivery.old.accepted S.ends (ends_of delivery.old.exchange) n ts
         × AgreesWith (C.May delivery.old.clock.now) S.May)
         (λ n ts. HasOffered S.site.message_limit S.May delivery.new.accepted S.ends (ends_of delivery.new.exchange) n ts
@@ -178,6 +209,8 @@ fn converse<'a, N: DepotName, V: Visits, C: Clock, R: Wait, S: LaneStart>(
     ensures site { dialogue.new.session.site ≡ dialogue.old.session.site }
 {
     let mut peer = peer;
-    let end = serve(dialogue, &mut peer, delivery, reads);
+    let end = serve(dialogue, buffer, &mut peer, delivery, observer, reads);
+    let traffic = peer.traffic();
     visits.done(peer, end);
+    observer.ended(end, traffic);
 }

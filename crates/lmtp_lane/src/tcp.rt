@@ -6,6 +6,6 @@ mod share;
 mod visits;
 
 pub use clock::SystemClock;
-pub use listener::{Client, Endpoint, Listener};
+pub use listener::{Endpoint, Listener};
 pub use share::tcp_visits;
 pub use visits::{TcpVisits, WAIT_MS};

@@ -2,6 +2,7 @@
 use Rattle.std.proofs.Common.{◌≡◌, ℕ, zero, suc, ◌+◌, ◌<◌, ◌≤◌, List, [], ◌∷◌, ◌++◌, length, map, false, Some, None}
 use Rattle.std.proofs.Common.{refl, sym, ap, ◌∙◌, subst, inl, inr, lit<, lit≤, arith, append-nil, take-append-drop}
 use Rattle.std.specs.Prelude.{slice_get, count_by, flat_map, take, drop, codes, ⊤}
+use Rattle.std.specs.declared.io.ErrorKind.TheVariants as kinds
 use Rattle.std.proofs.lemmas.List.{length-map}
 use Rattle.mail_world.specs.declared.Slip.{Slip}
 use Rattle.mail_world.specs.declared.Outcome.{Outcome}
@@ -31,20 +32,26 @@ use Rattle.mail_lives.proofs.Lists.{taken}
 use Rattle.mail_lives.proofs.MailedDue.{due_mailed}
 use Rattle.mail_lives.proofs.Stepping.{steps_read}
 use Rattle.mbox_record.specs.Spool.{SpoolState}
+use Rattle.mbox_record.specs.declared.spool.SpoolFault.TheVariants.{Other}
+use Rattle.box_worker.specs.declared.turn.TurnEnd.{TurnEnd}
+use Rattle.box_worker.specs.declared.turn.TurnEnd.TheVariants as ends
 use Rattle.box_worker.specs.Told.{is_stored, says_over_quota, owed_to}
 use Rattle.box_worker.specs.Turned.{IsFullWhereBroken}
+use Rattle.box_worker.specs.TurnEnds.{IsEndOf, TellsTurns}
 use Rattle.lmtp_text.specs.Calendar.{civil_at}
 use Rattle.lmtp_talk.specs.declared.ending.EndCause.TheVariants.{WriteFault}
+use Rattle.lmtp_talk.specs.Entries.{Entry, with_entries}
 use Rattle.lmtp_talk.specs.Peer.{PeerState}
 use Rattle.lmtp_talk.specs.Served.{terms}
-use Rattle.lmtp_lane.specs.Visits.{Visit, VisitsTold, IsVisit}
+use Rattle.lmtp_lane.specs.Visits.{Visit, VisitsTold, IsVisit, lane_entries}
 use Rattle.lmtp_threads.specs.Works.{LaneWork, BoxWork, lane_told, setting_of, share_of, IsBoxWork}
 use Rattle.lmtp_threads.specs.declared.tally.Tally.{Tally}
+use Rattle.lmtp_threads.specs.declared.watched.Watched.{Watched}
 use Rattle.lmtp_house.specs.Handed.{HandedIn, HandedBack}
 use Rattle.lmtp_house.specs.House.{HasRun, IsLaneWork}
 use Rattle.lmtp_house.specs.RunOfModel.{courses_of, server_of, threads_of}
 use Rattle.lmtp_lives.specs.Runs.{lives_at, told_in_run}
-use Rattle.lmtp_lives.specs.Rows.{Run, site, view, spools, sent, note, IsKilledAt}
+use Rattle.lmtp_lives.specs.Rows.{Run, Clients, Mailbox, site, view, spools, sent, note, IsKilledAt}
 
 -- of the only lane, or the only mailbox, and of both
 only : (P : ℕ → Type 0) → P 0 → (k : ℕ) → k < 1 → P k
@@ -56,11 +63,10 @@ both P h k b lane box = only (λ j. P j b) (only (P 0) h b box) k lane
 
 -- that many clients were served; a client that was read and failed that often
 abbrev served : ℕ → VisitsTold
-served n = record { each = None; count = n; log = None }
+served n = record { each = None; count = n }
 
 abbrev client : ℕ → PeerState
-client n =
-    record { read = None; unread = None; written = None; reads = n; failures = n; stops = 0; holds = []; told = None }
+client n = record { read = None; unread = None; written = None; reads = n; failures = n; stops = 0; holds = [] }
 
 -- a spool that stands so after these turns, and what its worker says of them
 abbrev spool : Standing → List Told → SpoolState
@@ -88,30 +94,50 @@ tally turns = record {
   faulty = last_broke false turns;
 }
 
+-- something beside its observer
+abbrev beside : {T O : Type 0} → T → O → Watched T O
+beside inner observer = record { inner = inner; observer = observer }
+
 -- others leave all letters as they are
 abbrev untouched : List Letter → Gap
 untouched letters = record { fates = map (λ l. Untouched) letters; added = [] }
 
--- of the replies the client got so many bytes
-module _ (outcome : Outcome) (lock unlock : Standing) (got : ℕ) where
+-- the turn ended so, and of the replies the client got so many bytes
+module _ (outcome : Outcome) (end : TurnEnd) (lock unlock : Standing) (got : ℕ) where
   abbrev turns : List Told
   turns = record { outcome = outcome; turn = Had lock unlock } ∷ []
 
-  abbrev handed : HandedIn VisitsTold SpoolState
-  handed = record { visits = served 0 ∷ []; spools = spool lock [] ∷ []; capacity = 1; quota = None }
+  abbrev visit : Visit
+  visit = record { before = client 0; after = client 1; conversation = sent outcome; cause = WriteFault }
 
-  abbrev back : HandedBack VisitsTold SpoolState
+  -- what the lane's observer was told
+  unfoldable entries : List Entry
+  entries = lane_entries site 0 (visit ∷ [])
+
+  abbrev came : Clients
+  came = beside (served 0) (Some [])
+
+  abbrev went : Clients
+  went = beside (served 1) (Some entries)
+
+  abbrev before_turn : Mailbox
+  before_turn = beside (spool lock []) (Some [])
+
+  abbrev after_turn : Mailbox
+  after_turn = beside (spool unlock turns) (Some (end ∷ []))
+
+  abbrev handed : HandedIn Clients Mailbox
+  handed = record { visits = came ∷ []; spools = before_turn ∷ []; capacity = 1; quota = None }
+
+  abbrev back : HandedBack Clients Mailbox
   back = record {
-    visits = served 1 ∷ [];
-    spools = spool unlock turns ∷ [];
+    visits = went ∷ [];
+    spools = after_turn ∷ [];
     conversations = 1 ∷ [];
     tallies = tally turns ∷ [];
     blocks = 1;
     slots = 1;
   }
-
-  abbrev visit : Visit
-  visit = record { before = client 0; after = client 1; conversation = sent outcome; cause = WriteFault }
 
   abbrev slip : Slip
   slip = slip_of 0 note outcome
@@ -150,10 +176,15 @@ module _ (outcome : Outcome) (lock unlock : Standing) (got : ℕ) where
         };
       }
 
-  lane_work : IsLaneWork site (λ moment. ⊤) (λ peer. ⊤) 0 lane (lane_told view (served 0) (served 1) 1)
+  entries_told : Some entries ≡ with_entries (Some []) (lane_entries site 0 (visit ∷ []))
+  unfolding entries
+  entries_told = refl
+
+  lane_work : IsLaneWork site (λ moment. ⊤) (λ peer. ⊤) 0 lane (lane_told view came went 1)
   unfolding everything
   lane_work = record {
-    visited = record { told = refl; counts = inl refl; each = (is_visit, tt); logged = refl };
+    visited = record { told = refl; counts = inl refl; each = (is_visit, tt) };
+    logged = entries_told;
     ended = refl;
     counts = refl;
     verdicts = (
@@ -167,12 +198,12 @@ module _ (outcome : Outcome) (lock unlock : Standing) (got : ℕ) where
     answered = (refl, tt);
   }
 
-  lane_works : (k count : ℕ) (before after : VisitsTold) → slice_get (served 0 ∷ []) k ≡ Some before
-      → slice_get (served 1 ∷ []) k ≡ Some after → slice_get (1 ∷ []) k ≡ Some count
+  lane_works : (k count : ℕ) (before after : Clients) → slice_get (came ∷ []) k ≡ Some before
+      → slice_get (went ∷ []) k ≡ Some after → slice_get (1 ∷ []) k ≡ Some count
       → IsLaneWork site (λ moment. ⊤) (λ peer. ⊤) k lane (lane_told view before after count)
   lane_works zero count before after x y z =
-      let same : (served 0, served 1, 1) ≡ (before, after, count) = cc in
-      subst (λ (t : VisitsTold × VisitsTold × ℕ). IsLaneWork site (λ moment. ⊤) (λ peer. ⊤) 0 lane
+      let same : (came, went, 1) ≡ (before, after, count) = cc in
+      subst (λ (t : Clients × Clients × ℕ). IsLaneWork site (λ moment. ⊤) (λ peer. ⊤) 0 lane
       (lane_told view t.0 t.1 t.2)) same lane_work
   lane_works (suc k) count before after x y z = cc
 
@@ -182,7 +213,7 @@ module _ (outcome : Outcome) (lock unlock : Standing) (got : ℕ) where
   deeds = Gave note ∷ Took note ∷ Tells slip ∷ Heard slip ∷ []
 
   abbrev threads : Threads
-  threads = threads_of site (λ k. lane) (courses_of (λ s. s) (λ b. box) handed)
+  threads = threads_of site (λ k. lane) (courses_of spools.state (λ b. box) handed)
 
   -- nothing is taken or heard before it was given or told
   record Follows (before : List Deed) : Type 0 where
@@ -208,7 +239,8 @@ module _ (outcome : Outcome) (lock unlock : Standing) (got : ℕ) where
   finds_room (x ∷ y ∷ z ∷ w ∷ []) after n e is = cc
   finds_room (x ∷ y ∷ z ∷ w ∷ v ∷ before) after n e is = cc
 
-  module _ (had : IsTurn civil_at site None note outcome (Had lock unlock))
+  module _ (ended : IsEndOf (record { outcome = outcome; turn = Had lock unlock }) end)
+      (had : IsTurn civil_at site None note outcome (Had lock unlock))
       (keeps : KeepsInTurn outcome (Had lock unlock)) (full : IsFullWhereBroken None outcome (Had lock unlock)) where
     history : IsOrderlyHistory RECIPIENT_LIMIT 1 (server_of site handed) threads deeds
     unfolding everything
@@ -257,13 +289,21 @@ module _ (outcome : Outcome) (lock unlock : Standing) (got : ℕ) where
       };
     }
 
-    box_works : (b : ℕ) (before after : SpoolState) (tells : Tally) → slice_get (spool lock [] ∷ []) b ≡ Some before
-        → slice_get (spool unlock turns ∷ []) b ≡ Some after → slice_get (tally turns ∷ []) b ≡ Some tells
-        → IsWorkOf b before after tells
+    box_works : (b : ℕ) (before after : Mailbox) (tells : Tally) → slice_get (before_turn ∷ []) b ≡ Some before
+        → slice_get (after_turn ∷ []) b ≡ Some after → slice_get (tally turns ∷ []) b ≡ Some tells
+        → IsWorkOf b (spools.state before) (spools.state after) tells
     box_works zero before after tells x y z =
-        let same : (spool lock [], spool unlock turns, tally turns) ≡ (before, after, tells) = cc in
-        subst (λ (t : SpoolState × SpoolState × Tally). IsWorkOf 0 t.0 t.1 t.2) same box_work
+        let same : (before_turn, after_turn, tally turns) ≡ (before, after, tells) = cc in
+        subst (λ (t : Mailbox × Mailbox × Tally). IsWorkOf 0 (spools.state t.0) (spools.state t.1) t.2) same box_work
     box_works (suc b) before after tells x y z = cc
+
+    box_told : (b : ℕ) (before after : Mailbox) → slice_get (before_turn ∷ []) b ≡ Some before
+        → slice_get (after_turn ∷ []) b ≡ Some after → TellsTurns turns (spools.told before) (spools.told after)
+    box_told zero before after x y =
+        let same : (before_turn, after_turn) ≡ (before, after) = cc in
+        subst (λ (t : Mailbox × Mailbox). TellsTurns turns (spools.told t.0) (spools.told t.1)) same
+        (record { ends = end ∷ []; are = (ended, tt); told = refl })
+    box_told (suc b) before after x y = cc
 
     unfoldable ran : HasRun site (λ moment. ⊤) view spools handed back
     ran =
@@ -274,6 +314,7 @@ module _ (outcome : Outcome) (lock unlock : Standing) (got : ℕ) where
           as_many_boxes = (refl, refl);
           served = lane_works;
           stored = box_works;
+          observed = box_told;
           owed = both (λ k b. of_lane k (note ∷ []) ≡ due site k b (sent outcome ∷ [])) owed;
           owed_only = λ b low. (lit< tt, tt);
           told = both (λ k b. of_worker b (slip ∷ []) ≡ owed_to b (outcome ∷ []) k (note ∷ [])) refl;
@@ -334,12 +375,12 @@ module _ (n : ℕ) (old : List ℕ) where
   at bytes synced failures = record { bytes = bytes; synced = synced; failures = failures }
 
   abbrev killed : List Letter → Run
-  killed = run Failed (at old 0 0) (at (old ++ take n more) 0 1) 200
+  killed = run Failed (ends.Broke (Other kinds.Other)) (at old 0 0) (at (old ++ take n more) 0 1) 200 (refl, refl)
       (record { room = refl; failed = inl (lit< tt); prefix = take n more; part = torn.part; left = refl })
       (omega arith, (omega arith, omega arith)) tt
 
   abbrev stores : List Letter → Run
-  stores = run Stored (at old 0 0) (at (old ++ more) (length (old ++ more)) 0) 1000
+  stores = run Stored ends.Stored (at old 0 0) (at (old ++ more) (length (old ++ more)) 0) 1000 (refl, refl)
       (record { room = refl; whole = refl; covered = refl; sound = refl }) (omega arith, tt) tt
 
 pub two_runs : (old : List ℕ) (letters : List Letter) (n : ℕ) → IsReadAs old letters

@@ -1,5 +1,5 @@
--- The worked example: clients and spools of which all is told, a message, and a run that is killed.
-use Rattle.std.specs.Prelude.{◌≡◌, ℕ, true, false, List, [], ◌∷◌, ◌++◌, take, codes, ⊤}
+-- The worked example: clients, spools and observers of which all is told, a message, and a run that is killed.
+use Rattle.std.specs.Prelude.{◌≡◌, ℕ, true, false, List, [], ◌∷◌, ◌++◌, take, codes, ⊤, Option}
 use Rattle.mail_world.specs.declared.Note.{Note}
 use Rattle.mail_world.specs.declared.Outcome.{Outcome}
 use Rattle.mail_world.specs.declared.Outcome.TheVariants.{Failed}
@@ -9,18 +9,27 @@ use Rattle.mail_world.specs.Site.{Site}
 use Rattle.mail_world.specs.Turns.{Standing, Had, addition}
 use Rattle.lmtp_text.specs.Calendar.{civil_at}
 use Rattle.mbox_record.specs.Spool.{SpoolState}
+use Rattle.box_worker.specs.declared.turn.TurnEnd.{TurnEnd}
+use Rattle.lmtp_talk.specs.Entries.{Entry}
 use Rattle.lmtp_lane.specs.Visits.{VisitsTold}
 use Rattle.lmtp_threads.specs.Works.{VisitsView, SpoolsView, visits_view, spools_view}
+use Rattle.lmtp_threads.specs.declared.watched.Watched.{Watched}
 use Rattle.lmtp_lives.specs.Runs.{ServerRun}
 
 abbrev pub site : Site
 site = site_with (codes "mx.example") [] (codes "anna" ∷ [])
 
-abbrev pub view : VisitsView VisitsTold
-view = visits_view (λ told peer. ⊤) (λ told. told) (λ told. true)
+abbrev pub Clients : Type 0
+Clients = Watched VisitsTold (Option (List Entry))
 
-abbrev pub spools : SpoolsView SpoolState
-spools = spools_view (λ state. state) (λ last now. ⊤) (λ broke refused. ⊤)
+abbrev pub view : VisitsView Clients
+view = visits_view (λ told peer. ⊤) (λ told. told) (λ told. true) (λ told. told)
+
+abbrev pub Mailbox : Type 0
+Mailbox = Watched SpoolState (Option (List TurnEnd))
+
+abbrev pub spools : SpoolsView Mailbox
+spools = spools_view (λ state. state) (λ last now. ⊤) (λ broke refused. ⊤) (λ told. told)
 
 abbrev pub Run : Type 0
 Run = ServerRun {C = ℕ} site (λ clock moment. ⊤) view spools

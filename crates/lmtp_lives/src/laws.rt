@@ -13,21 +13,23 @@ ghost use Rattle.lmtp_threads.specs.Works.{visits_view, spools_view};
 ghost use Rattle.lmtp_lives.specs.Runs.{ServerRun, life_at, lives_at, told_in_run};
 ghost use Rattle.lmtp_lives.specs.ReadBack.{AreReadBack};
 
+use box_worker::TurnObserver;
 use lmtp_lane::{Clock, Visits};
+use lmtp_talk::Observer;
 use mbox_record::Spool;
 
 /// The copies of which a lane's clients were told that they are stored are just those of the lane whose turns stored.
-pub fn told_is_stored<V: Visits, S: Spool, C: Clock>()
-    ensures { (site : Site) (run : ServerRun site C.May (visits_view V.MayGive V.finished V.over)
-        (spools_view S.state S.MayFind S.MayRefuse))
+pub fn told_is_stored<V: Visits, O: Observer, S: Spool, T: TurnObserver, C: Clock>()
+    ensures { (site : Site) (run : ServerRun site C.May (visits_view V.MayGive V.finished V.over O.told)
+        (spools_view S.state S.MayFind S.MayRefuse T.told))
         (b k : ℕ) → b < length site.boxes → k < length run.old.visits
         → of_lane k (told_in (life_at b run)) ≡ told_in_run b k run }
 {}
 
 /// To each mailbox a server's runs are lives of copies that transactions make, so that the laws of lives hold of them.
-pub fn runs_are_lives<V: Visits, S: Spool, C: Clock>()
-    ensures { (site : Site) (runs : List (ServerRun site C.May (visits_view V.MayGive V.finished V.over)
-        (spools_view S.state S.MayFind S.MayRefuse)))
+pub fn runs_are_lives<V: Visits, O: Observer, S: Spool, T: TurnObserver, C: Clock>()
+    ensures { (site : Site) (runs : List (ServerRun site C.May (visits_view V.MayGive V.finished V.over O.told)
+        (spools_view S.state S.MayFind S.MayRefuse T.told)))
         (b : ℕ) (old new : List ℕ) → b < length site.boxes → LivesLeave civil_at site (lives_at b runs) old new
         → HaveLived civil_at site (lives_at b runs) old new
         × AllByRecursion IsMailed (taken_through (lives_at b runs)) }
@@ -35,9 +37,9 @@ pub fn runs_are_lives<V: Visits, S: Spool, C: Clock>()
 
 /// Whatever any client of any run was told that it is stored, by its slip, is read back after the last run: once,
 /// whole, and in the order of the turns, but what others removed or changed.
-pub fn told_is_read_back<V: Visits, S: Spool, C: Clock>()
-    ensures { (site : Site) (runs : List (ServerRun site C.May (visits_view V.MayGive V.finished V.over)
-        (spools_view S.state S.MayFind S.MayRefuse)))
+pub fn told_is_read_back<V: Visits, O: Observer, S: Spool, T: TurnObserver, C: Clock>()
+    ensures { (site : Site) (runs : List (ServerRun site C.May (visits_view V.MayGive V.finished V.over O.told)
+        (spools_view S.state S.MayFind S.MayRefuse T.told)))
         (b : ℕ) (old new : List ℕ) (letters : List Letter) → IsOneLine site.host → b < length site.boxes
         → IsReadAs old letters → LivesLeave civil_at site (lives_at b runs) old new
         → (after : List Letter) × IsReadAs new after × AreReadBack b runs letters after }

@@ -3,11 +3,13 @@
 ghost use Rattle.std.specs.Prelude.{◌≡◌, ◌<◌, ◌≤◌, [], length, slice_get, slice_index, Some, IfOk};
 ghost use Rattle.std.specs.Arc.{arc_value};
 ghost use Rattle.mail_world.specs.Session.{Line, LongLine, DataEnded, Outcomes, Stop, fresh};
+ghost use Rattle.mail_world.specs.Site.{extensions_of};
+ghost use Rattle.lmtp_text.specs.Readings.{line_read, offered_for};
 ghost use Rattle.lmtp_session.specs.View.{reserved};
 ghost use Rattle.lmtp_session.specs.Steps.{TakesLines, MayStop, IsStep};
 
 use crate::act::Act;
-use lmtp_text::{Site, read_command_at};
+use lmtp_text::{Reading, Site};
 use mail_world::limits::{NAME_LIMIT, PATH_LIMIT, RECIPIENT_LIMIT};
 use mail_world::{Outcome, Reply, State, Verdict};
 use smallvec::SmallVec;
@@ -88,15 +90,24 @@ impl Session {
         self.state
     }
 
-    /// Takes a command line, without its CRLF.
-    #[tactic(auto, using(crate::proofs::Limits::command_within))]
-    pub fn line(&mut self, line: &[u8]) -> Act
-        requires { TakesLines self.old.session.state }
-        ensures step { IsStep self.old (Line line.now) result self.new }
-        ensures no_memory { self.new.room ≡ self.old.room }
+    /// Reads a command line, without its CRLF, for the site.
+    pub fn read<'a>(&self, line: &'a [u8]) -> Reading<'a>
+        ensures line { line_read result ≡ line.now }
+        ensures offered { offered_for result ≡ extensions_of self.now.site }
     {
         let offered = self.site.extensions();
-        self.on_command(read_command_at(line, offered))
+        Reading::of(line, offered)
+    }
+
+    /// Takes a command line that was read for the site.
+    #[tactic(auto, using(crate::proofs::Limits::command_within))]
+    pub fn line(&mut self, said: Reading<'_>) -> Act
+        requires state { TakesLines self.old.session.state }
+        requires offered { offered_for said ≡ extensions_of self.old.site }
+        ensures step { IsStep self.old (Line (line_read said.entry)) result self.new }
+        ensures no_memory { self.new.room ≡ self.old.room }
+    {
+        self.on_command(said.command())
     }
 
     /// Takes note of a line that was too long to be a command.

@@ -5,12 +5,12 @@ use Rattle.std.proofs.Math.Seq.{take-append-add}
 use Rattle.std.proofs.lemmas.List.{take_all}
 use Rattle.mail_world.specs.Lists.{Transaction}
 use Rattle.lmtp_talk.specs.declared.dialogue.Dialogue.{Dialogue}
-use Rattle.lmtp_talk.specs.Peer.{PeerState}
+use Rattle.lmtp_talk.specs.Parties.{Parties}
 use Rattle.lmtp_talk.specs.TalkState.{IsSoFar, talk_state, beginning}
 use Rattle.lmtp_talk.specs.Steps.{Advances, talk}
 
 module _ {D : Type 0} (HasCome : D → ℕ → List Transaction → Type 0) (IsDrafting : D → ℕ → List Transaction → List ℕ → Type 0) where
-  pub advances_then : (a b c : Dialogue) (p q r : PeerState) (d e f : D) (x y : List ℕ) → Advances HasCome IsDrafting (talk a p d) (talk b q e) x
+  pub advances_then : (a b c : Dialogue) (p q r : Parties) (d e f : D) (x y : List ℕ) → Advances HasCome IsDrafting (talk a p d) (talk b q e) x
       → Advances HasCome IsDrafting (talk b q e) (talk c r f) y
       → Advances HasCome IsDrafting (talk a p d) (talk c r f) (x ++ y)
   advances_then a b c p q r d e f x y one two site start first handled came h =

@@ -23,6 +23,7 @@ use Rattle.lmtp_session.specs.Steps.{TakesLines}
 use Rattle.lmtp_wire.specs.Wire.{WireView, IsAfter, LineGoesOn, EndsLine}
 use Rattle.lmtp_talk.specs.declared.dialogue.Dialogue.{Dialogue}
 use Rattle.lmtp_talk.specs.Peer.{PeerState}
+use Rattle.lmtp_talk.specs.Parties.{Parties}
 use Rattle.lmtp_talk.specs.Saying.{HasSaid}
 use Rattle.lmtp_talk.specs.TalkState.{QuitsWith, InLine, InData, IsInside, IsSoFar, talk_state, beginning}
 use Rattle.lmtp_talk.specs.Steps.{TakesInputs, TellsLine, Talk, talk, BeginsIf, TakesLine}
@@ -108,8 +109,8 @@ pub transactions-data : (site : Site) (n : ℕ) (ps : List Part) (text : List �
 transactions-data site n ps text d = transactions-append site n fresh ps (MailData text d ∷ [])
 
 -- no line ends in the bytes
-pub more_of_line : (site : Site) (start : PeerState) (Before Come : ℕ → List Transaction → Type 0) (Drafting : ℕ → List Transaction → List ℕ → Type 0)
-    (old : Dialogue) (wire : WireView) (peer : PeerState)
+pub more_of_line : (site : Site) (start : Parties) (Before Come : ℕ → List Transaction → Type 0) (Drafting : ℕ → List Transaction → List ℕ → Type 0)
+    (old : Dialogue) (wire : WireView) (peer : Parties)
     (handled came piece : List ℕ) (used : ℕ) → TakesLines old.session.session.state
     → ((taken : List ℕ) → IsAfter old.wire taken → LineGoesOn wire (taken ++ piece) (length piece) used)
     → IsSoFar (beginning site start Before) (talk_state old peer Come Drafting) handled came
@@ -138,9 +139,9 @@ taken_is : (rest piece : List ℕ) (used k : ℕ) → length rest + used ≡ k �
 taken_is rest piece used k e = ap (λ n. take n (rest ++ piece)) (sym e) ∙ take-append-add rest piece used
 
 -- a line that ends leads on by its input
-ended_line : (site : Site) (start : PeerState) (Before : ℕ → List Transaction → Type 0) {D : Type 0} (HasCome : D → ℕ → List Transaction → Type 0)
+ended_line : (site : Site) (start : Parties) (Before : ℕ → List Transaction → Type 0) {D : Type 0} (HasCome : D → ℕ → List Transaction → Type 0)
     (IsDrafting : D → ℕ → List Transaction → List ℕ → Type 0)
-    (old new : Dialogue) (wire : WireView) (before after : PeerState) (delivery later : D) (handled came piece : List ℕ) (used end : ℕ) (input : Input)
+    (old new : Dialogue) (wire : WireView) (before after : Parties) (delivery later : D) (handled came piece : List ℕ) (used end : ℕ) (input : Input)
     → TakesLines old.session.session.state
     → (h : IsSoFar (beginning site start Before) (talk_state old before (HasCome delivery) (IsDrafting delivery)) handled came)
     → EndsLine wire (h.rest ++ piece) (length h.rest) used end
@@ -156,10 +157,11 @@ ended_line site start Before {D} HasCome IsDrafting old new wire before after de
     let p : Part = CommandLine (take end bytes) in
     let mid : Dialogue = record old { wire = wire } in
     let line = in_line old.session.session.state old h.rest _ _ lines h.inside in
-    let takes : TakesInputs (inputs_of p) mid new before after = subst (λ l. TakesInputs l mid new before after) (sym input_is) t.takes in
+    let takes : TakesInputs (inputs_of p) mid new before.peer after.peer =
+    subst (λ l. TakesInputs l mid new before.peer after.peer) (sym input_is) t.takes in
     let after_lines : TakesLines (session_after_parts site fresh h.done).state = subst (λ (s : Session). TakesLines s.state) h.session lines in
     let session_is : new.session.session ≡ session_after_parts site fresh (h.done ++ p ∷ []) =
-    session_more site h.done p mid new before after takes h.same_site h.session in
+    session_more site h.done p mid new before.peer after.peer takes h.same_site h.session in
     let goes' : IsNotEnded new.session.session.state = subst (λ (s : Session). IsNotEnded s.state) (sym t.takes.session) goes in
     let state_is : is_content new.session.session.state ≡ is_content (session_after site (session_after_parts site fresh h.done) (inputs_of p)).state =
     ap (λ (s : Session). is_content s.state) (session_is ∙ session_after_parts-snoc site fresh h.done p) in
@@ -175,7 +177,7 @@ ended_line site start Before {D} HasCome IsDrafting old new wire before after de
       quits = subst (λ (s : Session). QuitsWith s.state (flat_map inputs_of (h.done ++ p ∷ []))) (sym t.takes.session)
           (subst (λ l. QuitsWith (session_after old.session.site old.session.session (input ∷ [])).state l)
           (sym (inputs-snoc h.done p ∙ ap (λ l. flat_map inputs_of h.done ++ l) input_is)) quits);
-      said = says_part site h.done p start before after mid new came takes h.same_site h.session h.said;
+      said = says_part site h.done p start.peer before.peer after.peer mid new came takes h.same_site h.session h.said;
       goes = takes.same ∙ h.goes;
       logged = λ n ts first. logged_more site n h.done p start.told before.told after.told _ t.told (h.logged n ts first)
           (entries_line site old.session.site (accepted_after site n fresh h.done) old.session.session (session_after_parts site fresh h.done) (take end bytes)
@@ -210,9 +212,9 @@ ended_line site start Before {D} HasCome IsDrafting old new wire before after de
 size_is : (bytes : List ℕ) (end : ℕ) → place_of crlf bytes ≡ Some end → length (take end bytes) ≡ end
 size_is bytes end e = let within : end + 2 ≤ length bytes = line_within bytes end e in length-take-le end bytes (omega arith)
 
-pub line_of : (site : Site) (start : PeerState) (Before : ℕ → List Transaction → Type 0) {D : Type 0} (HasCome : D → ℕ → List Transaction → Type 0)
+pub line_of : (site : Site) (start : Parties) (Before : ℕ → List Transaction → Type 0) {D : Type 0} (HasCome : D → ℕ → List Transaction → Type 0)
     (IsDrafting : D → ℕ → List Transaction → List ℕ → Type 0)
-    (old new : Dialogue) (wire : WireView) (before after : PeerState) (delivery later : D) (handled came piece : List ℕ) (used : ℕ)
+    (old new : Dialogue) (wire : WireView) (before after : Parties) (delivery later : D) (handled came piece : List ℕ) (used : ℕ)
     → TakesLines old.session.session.state
     → ((taken : List ℕ) → IsAfter old.wire taken
     → (end : ℕ) × EndsLine wire (taken ++ piece) (length taken) used end × (end + 2 ≤ LINE_LIMIT) × (wire.line ≡ take end (taken ++ piece)))
@@ -231,14 +233,14 @@ line_of site start Before {D} HasCome IsDrafting old new wire before after deliv
     t (line_goes_on old.session.site old.session.session wire.line lines)
     (quits_line old.session.site old.session.session (flat_map inputs_of h.done) wire.line lines h.quits)
 
-pub long_line_of : (site : Site) (start : PeerState) (Before : ℕ → List Transaction → Type 0) {D : Type 0} (HasCome : D → ℕ → List Transaction → Type 0)
+pub long_line_of : (site : Site) (start : Parties) (Before : ℕ → List Transaction → Type 0) {D : Type 0} (HasCome : D → ℕ → List Transaction → Type 0)
     (IsDrafting : D → ℕ → List Transaction → List ℕ → Type 0)
-    (old new : Dialogue) (wire : WireView) (before after : PeerState) (delivery : D) (handled came piece : List ℕ) (used : ℕ)
+    (old new : Dialogue) (wire : WireView) (before after : Parties) (delivery : D) (handled came piece : List ℕ) (used : ℕ)
     → TakesLines old.session.session.state
     → ((taken : List ℕ) → IsAfter old.wire taken
     → (end : ℕ) × EndsLine wire (taken ++ piece) (length taken) used end × (LINE_LIMIT < end + 2) × (wire.line ≡ []))
-    → TakesInputs (LongLine ∷ []) (record old { wire = wire }) new before after
-    → TellsLine LongLine (record old { wire = wire }) before after
+    → TakesInputs (LongLine ∷ []) (record old { wire = wire }) new before.peer after.peer
+    → TellsLine LongLine (record old { wire = wire }) before.told after.told
     → IsSoFar (beginning site start Before) (talk_state old before (HasCome delivery) (IsDrafting delivery)) handled came
     → IsSoFar (beginning site start Before) (talk_state new after (HasCome delivery) (IsDrafting delivery)) (handled ++ take used piece) came
 long_line_of site start Before {D} HasCome IsDrafting old new wire before after delivery handled came piece used lines takes t told h =

@@ -15,7 +15,7 @@ use Rattle.lmtp_wire.specs.declared.dot.Dot.{Dot}
 use Rattle.lmtp_wire.specs.Dot.{HasMade}
 use Rattle.lmtp_wire.specs.DataState.{IsDataEnd}
 use Rattle.lmtp_talk.specs.declared.dialogue.Dialogue.{Dialogue}
-use Rattle.lmtp_talk.specs.Peer.{PeerState}
+use Rattle.lmtp_talk.specs.Parties.{Parties}
 use Rattle.lmtp_talk.specs.TalkState.{QuitsWith, Comes, InLine, InData, IsInside, IsSoFar, talk_state, beginning}
 use Rattle.lmtp_talk.specs.Steps.{EndsData, talk}
 use Rattle.lmtp_talk.proofs.CutUp.{cut_data}
@@ -28,9 +28,9 @@ in_data : (state : State) (dialogue : Dialogue) (rest : List ℕ) (come : Type 0
 in_data state dialogue rest come drafts e x = subst (λ (s : State). IsInside s dialogue rest come drafts) e x
 
 -- the data goes on
-pub more_of_data : (site : Site) (start : PeerState) (Before : ℕ → List Transaction → Type 0) {D : Type 0} (HasCome : D → ℕ → List Transaction → Type 0)
+pub more_of_data : (site : Site) (start : Parties) (Before : ℕ → List Transaction → Type 0) {D : Type 0} (HasCome : D → ℕ → List Transaction → Type 0)
     (IsDrafting : D → ℕ → List Transaction → List ℕ → Type 0)
-    (old : Dialogue) (dot : Dot) (peer : PeerState) (delivery later : D) (handled came piece bytes : List ℕ) (used : ℕ)
+    (old : Dialogue) (dot : Dot) (peer : Parties) (delivery later : D) (handled came piece bytes : List ℕ) (used : ℕ)
     → old.session.session.state ≡ Content
     → ((taken made : List ℕ) → HasMade old.dot taken made → HasMade dot (taken ++ take used piece) (made ++ bytes))
     → ((n : ℕ) (ts : List Transaction) (draft : List ℕ) → IsDrafting delivery n ts draft → IsDrafting later n ts (draft ++ bytes))
@@ -64,9 +64,9 @@ more_of_data site start Before {D} HasCome IsDrafting old dot peer delivery late
     }
 
 -- the data has ended
-pub end_of_data : (site : Site) (start : PeerState) (Before : ℕ → List Transaction → Type 0) {D : Type 0} (HasCome : D → ℕ → List Transaction → Type 0)
+pub end_of_data : (site : Site) (start : Parties) (Before : ℕ → List Transaction → Type 0) {D : Type 0} (HasCome : D → ℕ → List Transaction → Type 0)
     (IsDrafting : D → ℕ → List Transaction → List ℕ → Type 0)
-    (old new : Dialogue) (dot : Dot) (before after : PeerState) (delivery mid later : D) (handled came piece bytes : List ℕ) (used : ℕ)
+    (old new : Dialogue) (dot : Dot) (before after : Parties) (delivery mid later : D) (handled came piece bytes : List ℕ) (used : ℕ)
     → old.session.session.state ≡ Content
     → ((taken made : List ℕ) → HasMade old.dot taken made → IsDataEnd (taken ++ take used piece) (made ++ bytes))
     → ((n : ℕ) (ts : List Transaction) (draft : List ℕ) → IsDrafting delivery n ts draft → IsDrafting mid n ts (draft ++ bytes))
@@ -81,7 +81,7 @@ end_of_data site start Before {D} HasCome IsDrafting old new dot before after de
     let d : Disposition = e.disposition in
     let p : Part = MailData text d in
     let session_is : new.session.session ≡ session_after_parts site fresh (h.done ++ p ∷ []) =
-    session_more site h.done p between new before after e.takes h.same_site h.session in
+    session_more site h.done p between new before.peer after.peer e.takes h.same_site h.session in
     let greets : new.session.session.state ≡ Greeted =
     ap (λ (s : Session). s.state) e.takes.session ∙ data_greets d.verdict old.session.site old.session.session d in
     let now : InLine new [] (Comes site (h.done ++ p ∷ []) Before (HasCome later)) = record {
@@ -129,7 +129,7 @@ end_of_data site start Before {D} HasCome IsDrafting old new dot before after de
           (subst (λ l. QuitsWith (session_after old.session.site old.session.session (DataEnded d.verdict ∷ outcomes_of d d.verdict)).state l)
           (sym (inputs-snoc h.done p))
           (quits_data d.verdict old.session.site old.session.session (flat_map inputs_of h.done) d content h.quits));
-      said = says_part site h.done p start before after between new came e.takes h.same_site h.session h.said;
+      said = says_part site h.done p start.peer before.peer after.peer between new came e.takes h.same_site h.session h.said;
       goes = e.takes.same ∙ h.goes;
       logged = λ n ts first.
           let k : ℕ = accepted_after site n fresh h.done in

@@ -20,6 +20,7 @@ use Rattle.lmtp_talk.specs.declared.ending.EndCause.{EndCause}
 use Rattle.lmtp_talk.specs.declared.ending.EndCause.TheVariants as ends
 use Rattle.lmtp_talk.specs.Entries.{entries_of, with_entries}
 use Rattle.lmtp_talk.specs.Peer.{PeerState, HasMoved, PeerFailed, HasStopped}
+use Rattle.lmtp_talk.specs.Parties.{Parties}
 use Rattle.lmtp_talk.specs.Saying.{HasSaid}
 use Rattle.lmtp_talk.specs.Served.{terms, is_quit, has_quit, IsWritten, IsServed}
 use Rattle.lmtp_talk.specs.TalkState.{Comes, IsInside, IsSoFar, talk_state, beginning}
@@ -178,11 +179,11 @@ record EndsConversation (site : Site) (at : Final) (ps : List Part) (start now :
   pub says : IsWritten (last_text site (last_inputs site ps at.stopped)) (end ≡ ends.WriteFault) written
   pub causes : EndsBy at start now end
 
-finished : (reads : ℕ) (site : Site) (start before now : PeerState) (Before Come Last : ℕ → List Transaction → Type 0)
+finished : (reads : ℕ) (site : Site) (start before now : Parties) (Before Come Last : ℕ → List Transaction → Type 0)
     (Drafting : ℕ → List Transaction → List ℕ → Type 0)
     (dialogue : Dialogue) (handled : List ℕ) (stopped : Bool) (end : EndCause)
     → (h : IsSoFar (beginning site start Before) (talk_state dialogue before Come Drafting) handled handled) → Comes site h.done Before Last
-    → now.told ≡ before.told → EndsConversation site (final reads dialogue.session.session.state stopped handled) h.done start now end
+    → now.told ≡ before.told → EndsConversation site (final reads dialogue.session.session.state stopped handled) h.done start.peer now.peer end
     → IsServed (terms site reads) start now Before Last end
 finished reads site start before now Before Come Last Drafting dialogue handled stopped end h comes untold f =
     let c : Conversation = record { bytes = handled; dispositions = dispositions_of h.done; stopped = stopped } in
@@ -219,14 +220,14 @@ finished reads site start before now Before Come Last Drafting dialogue handled 
     }
 
 -- a draft that is dropped, or none
-comes_in_the_end : (site : Site) (start before : PeerState) (Before Come Last : ℕ → List Transaction → Type 0)
+comes_in_the_end : (site : Site) (start before : Parties) (Before Come Last : ℕ → List Transaction → Type 0)
     (Drafting : ℕ → List Transaction → List ℕ → Type 0) (dialogue : Dialogue) (handled came : List ℕ)
     → (h : IsSoFar (beginning site start Before) (talk_state dialogue before Come Drafting) handled came)
     → Leaves (is_content dialogue.session.session.state) Come Drafting Last → Comes site h.done Before Last
 comes_in_the_end site start before Before Come Last Drafting dialogue handled came h l =
     leaves_by dialogue.session.session.state site h.done Before Come Last Drafting dialogue h.rest h.inside l
 
-pub may_stop : (site : Site) (start before : PeerState) (Before Come : ℕ → List Transaction → Type 0) (Drafting : ℕ → List Transaction → List ℕ → Type 0)
+pub may_stop : (site : Site) (start before : Parties) (Before Come : ℕ → List Transaction → Type 0) (Drafting : ℕ → List Transaction → List ℕ → Type 0)
     (dialogue : Dialogue) (handled came : List ℕ)
     → IsSoFar (beginning site start Before) (talk_state dialogue before Come Drafting) handled came → (dialogue.session.session.state ≡ Ended → ⊥)
     → MayStop dialogue.session.session.state
@@ -381,58 +382,59 @@ stop_ends reads state handled start now open' may sound = record {
 }
 
 -- all that came is handled, and it ends so
-pub served : (reads : ℕ) (site : Site) (start now : PeerState) (Before Come Last : ℕ → List Transaction → Type 0)
+pub served : (reads : ℕ) (site : Site) (start now : Parties) (Before Come Last : ℕ → List Transaction → Type 0)
     (Drafting : ℕ → List Transaction → List ℕ → Type 0) (dialogue : Dialogue) (handled : List ℕ) (end : EndCause)
     → IsSoFar (beginning site start Before) (talk_state dialogue now Come Drafting) handled handled
     → Leaves (is_content dialogue.session.session.state) Come Drafting Last
-    → EndsTalkAs reads end dialogue now handled → IsServed (terms site reads) start now Before Last end
+    → EndsTalkAs reads end dialogue now.peer handled → IsServed (terms site reads) start now Before Last end
 served reads site start now Before Come Last Drafting dialogue handled ends.Quit h l e =
     finished reads site start now now Before Come Last Drafting dialogue handled false ends.Quit h
     (comes_in_the_end site start now Before Come Last Drafting dialogue handled handled h l) refl
-    (finishes_quiet reads site start now dialogue h.done handled ends.Quit e.0 h.said
-    (λ sound. quit_ends reads dialogue.session.session.state handled start now e.1 sound h.goes))
+    (finishes_quiet reads site start.peer now.peer dialogue h.done handled ends.Quit e.0 h.said
+    (λ sound. quit_ends reads dialogue.session.session.state handled start.peer now.peer e.1 sound h.goes))
 served reads site start now Before Come Last Drafting dialogue handled ends.EndOfInput h l e =
     finished reads site start now now Before Come Last Drafting dialogue handled false ends.EndOfInput h
     (comes_in_the_end site start now Before Come Last Drafting dialogue handled handled h l) refl
-    (finishes_quiet reads site start now dialogue h.done handled ends.EndOfInput e.0 h.said
-    (λ sound. input_ends reads dialogue.session.session.state handled start now e.1 e.2 sound h.goes))
+    (finishes_quiet reads site start.peer now.peer dialogue h.done handled ends.EndOfInput e.0 h.said
+    (λ sound. input_ends reads dialogue.session.session.state handled start.peer now.peer e.1 e.2 sound h.goes))
 served reads site start now Before Come Last Drafting dialogue handled ends.ReadBound h l e =
     finished reads site start now now Before Come Last Drafting dialogue handled false ends.ReadBound h
     (comes_in_the_end site start now Before Come Last Drafting dialogue handled handled h l) refl
-    (finishes_quiet reads site start now dialogue h.done handled ends.ReadBound e.0 h.said
-    (λ sound. bound_ends reads dialogue.session.session.state handled start now e.1 e.2 sound h.goes))
+    (finishes_quiet reads site start.peer now.peer dialogue h.done handled ends.ReadBound e.0 h.said
+    (λ sound. bound_ends reads dialogue.session.session.state handled start.peer now.peer e.1 e.2 sound h.goes))
 served reads site start now Before Come Last Drafting dialogue handled ends.WriteFault h l e =
     finished reads site start now now Before Come Last Drafting dialogue handled false ends.WriteFault h
     (comes_in_the_end site start now Before Come Last Drafting dialogue handled handled h l) refl
-    (finishes_broken reads site start now dialogue.outbox.broken dialogue.outbox.pending dialogue.session.session.state false h.done handled _ e
+    (finishes_broken reads site start.peer now.peer dialogue.outbox.broken dialogue.outbox.pending dialogue.session.session.state false h.done handled _ e
     (text_not_stopped site h.done) (λ f. cc) (λ f. h.goes) h.said)
 served reads site start now Before Come Last Drafting dialogue handled ends.ReadFault h l e = absurd e
 served reads site start now Before Come Last Drafting dialogue handled ends.Stopped h l e = absurd e
 
 -- the read after it failed
-pub served_read_fault : (reads : ℕ) (site : Site) (start before now : PeerState) (Before Come Last : ℕ → List Transaction → Type 0)
+pub served_read_fault : (reads : ℕ) (site : Site) (start before now : Parties) (Before Come Last : ℕ → List Transaction → Type 0)
     (Drafting : ℕ → List Transaction → List ℕ → Type 0) (dialogue : Dialogue) (handled : List ℕ)
     → IsSoFar (beginning site start Before) (talk_state dialogue before Come Drafting) handled handled
     → Leaves (is_content dialogue.session.session.state) Come Drafting Last
-    → IsQuiet dialogue → (dialogue.session.session.state ≡ Ended → ⊥) → PeerFailed before now → IsServed (terms site reads) start now Before Last ends.ReadFault
-served_read_fault reads site start before now Before Come Last Drafting dialogue handled h l q open' f =
-    let s : HasSaid start before (record { pending = []; broken = false }) handled (last_text site (last_inputs site h.done false)) =
-    subst (λ l. HasSaid start before (record { pending = []; broken = false }) handled l) (text_not_stopped site h.done)
-    (said_whole start before dialogue handled (last_text site (flat_map inputs_of h.done)) q h.said) in
-    let moved : HasMoved start now handled s.written =
-    subst (λ l. HasMoved start now handled l) (append-nil s.written) (moved_writing start before now handled s.written [] s.moved f.moved) in
-    let failed : Rises start.failures now.failures = subst (λ k. Rises k now.failures) s.is.sound f.failed in
+    → IsQuiet dialogue → (dialogue.session.session.state ≡ Ended → ⊥) → PeerFailed before.peer now.peer
+    → now.told ≡ before.told → IsServed (terms site reads) start now Before Last ends.ReadFault
+served_read_fault reads site start before now Before Come Last Drafting dialogue handled h l q open' f untold =
+    let s : HasSaid start.peer before.peer (record { pending = []; broken = false }) handled (last_text site (last_inputs site h.done false)) =
+    subst (λ l. HasSaid start.peer before.peer (record { pending = []; broken = false }) handled l) (text_not_stopped site h.done)
+    (said_whole start.peer before.peer dialogue handled (last_text site (flat_map inputs_of h.done)) q h.said) in
+    let moved : HasMoved start.peer now.peer handled s.written =
+    subst (λ l. HasMoved start.peer now.peer handled l) (append-nil s.written) (moved_writing start.peer before.peer now.peer handled s.written [] s.moved f.moved) in
+    let failed : Rises start.peer.failures now.peer.failures = subst (λ k. Rises k now.peer.failures) s.is.sound f.failed in
     finished reads site start before now Before Come Last Drafting dialogue handled false ends.ReadFault h
-    (comes_in_the_end site start before Before Come Last Drafting dialogue handled handled h l) f.untold
+    (comes_in_the_end site start before Before Come Last Drafting dialogue handled handled h l) untold
     (record {
       written = s.written;
       moved = moved;
-      says = written_whole start before [] handled (last_text site (last_inputs site h.done false)) (ends.ReadFault ≡ ends.WriteFault) s refl;
-      causes = fault_ends reads dialogue.session.session.state handled start now open' failed (f.same ∙ h.goes);
+      says = written_whole start.peer before.peer [] handled (last_text site (last_inputs site h.done false)) (ends.ReadFault ≡ ends.WriteFault) s refl;
+      causes = fault_ends reads dialogue.session.session.state handled start.peer now.peer open' failed (f.same ∙ h.goes);
     })
 
 -- the session was told to stop, and what it said to that was written as far as it could be
-text_in_the_end : (site : Site) (start before : PeerState) (Before Come : ℕ → List Transaction → Type 0) (Drafting : ℕ → List Transaction → List ℕ → Type 0)
+text_in_the_end : (site : Site) (start before : Parties) (Before Come : ℕ → List Transaction → Type 0) (Drafting : ℕ → List Transaction → List ℕ → Type 0)
     (dialogue : Dialogue) (handled came : List ℕ)
     → (h : IsSoFar (beginning site start Before) (talk_state dialogue before Come Drafting) handled came) → MayStop dialogue.session.session.state
     → last_text site (flat_map inputs_of h.done) ++ reply_texts dialogue.session.site (replies_to dialogue.session.site dialogue.session.session (Stop ∷ []))
@@ -458,21 +460,22 @@ stopped_by reads false site start now pending state ps handled text open' may is
       causes = stop_ends reads state handled start now open' may s.is.sound;
     }
 
-pub served_stopped : (reads : ℕ) (site : Site) (start earlier before now : PeerState) (Before Come Last : ℕ → List Transaction → Type 0)
+pub served_stopped : (reads : ℕ) (site : Site) (start earlier : Parties) (before : PeerState) (now : Parties) (Before Come Last : ℕ → List Transaction → Type 0)
     (Drafting : ℕ → List Transaction → List ℕ → Type 0) (dialogue new : Dialogue) (handled : List ℕ)
     → IsSoFar (beginning site start Before) (talk_state dialogue earlier Come Drafting) handled handled
     → Leaves (is_content dialogue.session.session.state) Come Drafting Last
-    → (dialogue.session.session.state ≡ Ended → ⊥) → HasStopped earlier before → TakesInputs (Stop ∷ []) dialogue new before now → now.told ≡ before.told
+    → (dialogue.session.session.state ≡ Ended → ⊥) → HasStopped earlier.peer before → TakesInputs (Stop ∷ []) dialogue new before now.peer
+    → now.told ≡ earlier.told
     → new.outbox.pending ≡ []
     → IsServed (terms site reads) start now Before Last (stopped_or new.outbox.broken)
 served_stopped reads site start earlier before now Before Come Last Drafting dialogue new handled h l open' stops t untold none =
     let may : MayStop dialogue.session.session.state = may_stop site start earlier Before Come Drafting dialogue handled handled h open' in
-    let said : HasSaid start before dialogue.outbox handled (last_text site (flat_map inputs_of h.done)) =
-    subst (λ l. HasSaid start before dialogue.outbox l (last_text site (flat_map inputs_of h.done))) (append-nil handled)
-    (said_on dialogue.outbox.broken start earlier before dialogue.outbox.pending handled [] (last_text site (flat_map inputs_of h.done)) h.said stops.moved
+    let said : HasSaid start.peer before dialogue.outbox handled (last_text site (flat_map inputs_of h.done)) =
+    subst (λ l. HasSaid start.peer before dialogue.outbox l (last_text site (flat_map inputs_of h.done))) (append-nil handled)
+    (said_on dialogue.outbox.broken start.peer earlier.peer before dialogue.outbox.pending handled [] (last_text site (flat_map inputs_of h.done)) h.said stops.moved
     stops.sound) in
-    let rose : Rises start.stops now.stops = subst (λ k. Rises start.stops k) (sym t.same) (subst (λ k. Rises k before.stops) h.goes stops.stopped) in
+    let rose : Rises start.peer.stops now.peer.stops = subst (λ k. Rises start.peer.stops k) (sym t.same) (subst (λ k. Rises k before.stops) h.goes stops.stopped) in
     finished reads site start earlier now Before Come Last Drafting dialogue handled true (stopped_or new.outbox.broken) h
-    (comes_in_the_end site start earlier Before Come Last Drafting dialogue handled handled h l) (untold ∙ stops.untold)
-    (stopped_by reads new.outbox.broken site start now new.outbox.pending dialogue.session.session.state h.done handled _ open' rose
-    (text_in_the_end site start earlier Before Come Drafting dialogue handled handled h may) none (t.says start handled _ said))
+    (comes_in_the_end site start earlier Before Come Last Drafting dialogue handled handled h l) untold
+    (stopped_by reads new.outbox.broken site start.peer now.peer new.outbox.pending dialogue.session.session.state h.done handled _ open' rose
+    (text_in_the_end site start earlier Before Come Drafting dialogue handled handled h may) none (t.says start.peer handled _ said))

@@ -1,5 +1,5 @@
 -- The entries of parts, one part after another, and of replies.
-use Rattle.std.proofs.Common.{◌≡◌, ◌<◌, ℕ, ◌+◌, add-one, Bool, true, false, subst, List, [], ◌∷◌, ◌++◌, length, map, take, Option, Some, None, refl, sym, ap}
+use Rattle.std.proofs.Common.{◌≡◌, ◌<◌, ℕ, ◌+◌, add-one, subst, List, [], ◌∷◌, ◌++◌, length, map, take, Option, Some, None, refl, sym, ap}
 use Rattle.std.proofs.Common.{◌∙◌, append_assoc, append-nil}
 use Rattle.std.specs.Prelude.{flat_map, slice_get}
 use Rattle.std.proofs.Math.Seq.{take-suc, take-length}
@@ -17,10 +17,9 @@ use Rattle.mail_world.proofs.Owed.{accepted_after_part}
 use Rattle.lmtp_talk.specs.declared.telling.Asked.{Asked}
 use Rattle.lmtp_talk.specs.declared.telling.Asked.TheVariants as asked
 use Rattle.lmtp_talk.specs.Entries.{Entry, line_entries, copy_entries, line_kept, entries_of_part, entries_of, with_entries}
-use Rattle.lmtp_talk.specs.Peer.{PeerState, with_told}
 use Rattle.lmtp_session.specs.declared.act.Act.{Act}
 use Rattle.lmtp_session.specs.declared.act.Act.TheVariants.{Deliver}
-use Rattle.lmtp_talk.specs.Saying.{OutboxView, HasSaid, IsSaid, said}
+use Rattle.lmtp_talk.specs.Saying.{said}
 use Rattle.lmtp_talk.specs.Telling.{entries_for}
 
 -- no more entries, and entries after others
@@ -31,13 +30,6 @@ with_none (Some entries) = ap (λ l. Some l) (sym (append-nil entries))
 pub with_both : (told : Option (List Entry)) (a b : List Entry) → with_entries (with_entries told a) b ≡ with_entries told (a ++ b)
 with_both None a b = refl
 with_both (Some entries) a b = ap (λ l. Some l) (append_assoc entries a b)
-
-pub told_none : (s : PeerState) → s ≡ with_told s []
-told_none s = ap (λ (t : Option (List Entry)). record s { told = t }) (with_none s.told)
-
-pub told_both : (s t u : PeerState) (a b : List Entry) → t ≡ with_told s a → u ≡ with_told t b → u ≡ with_told s (a ++ b)
-told_both s t u a b one two =
-    two ∙ ap (λ (x : PeerState). with_told x b) one ∙ ap (λ (l : Option (List Entry)). record s { told = l }) (with_both s.told a b)
 
 -- replies one after another
 map-append : (f : Reply → Entry) (rs qs : List Reply) → map f (rs ++ qs) ≡ map f rs ++ map f qs
@@ -52,46 +44,28 @@ for_none : (ask : Asked) (client : List ℕ) → entries_for ask client [] ≡ [
 for_none (asked.Line line) client = refl
 for_none (asked.Message a) client = refl
 
-pub none_told : (s : PeerState) (ask : Asked) (client : List ℕ) → s ≡ with_told s (entries_for ask client [])
-none_told s ask client = told_none s ∙ ap (λ l. with_told s l) (sym (for_none ask client))
+pub none_told : (told : Option (List Entry)) (ask : Asked) (client : List ℕ) → told ≡ with_entries told (entries_for ask client [])
+none_told told ask client = with_none told ∙ ap (λ l. with_entries told l) (sym (for_none ask client))
 
-pub one_more_told : (s t u : PeerState) (ask : Asked) (client : List ℕ) (rs : List Reply) (i : ℕ) (r : Reply) → i < length rs → slice_get rs i ≡ Some r
-    → t ≡ with_told s (entries_for ask client (take i rs)) → u ≡ with_told t (entries_for ask client (r ∷ []))
-    → u ≡ with_told s (entries_for ask client (take (i + 1) rs))
+pub one_more_told : (s t u : Option (List Entry)) (ask : Asked) (client : List ℕ) (rs : List Reply) (i : ℕ) (r : Reply) → i < length rs
+    → slice_get rs i ≡ Some r → t ≡ with_entries s (entries_for ask client (take i rs)) → u ≡ with_entries t (entries_for ask client (r ∷ []))
+    → u ≡ with_entries s (entries_for ask client (take (i + 1) rs))
 one_more_told s t u ask client rs i r within is one two =
-    told_both s t u (entries_for ask client (take i rs)) (entries_for ask client (r ∷ [])) one two
-    ∙ ap (λ l. with_told s l) (sym (for_both ask client (take i rs) (r ∷ [])))
-    ∙ ap (λ (x : Reply). with_told s (entries_for ask client (take i rs ++ x ∷ []))) (sym (get_or_from_slice_get rs i r r is))
-    ∙ ap (λ l. with_told s (entries_for ask client l)) (sym (take-suc rs i r within) ∙ ap (λ k. take k rs) (sym (add-one i)))
+    two ∙ ap (λ (o : Option (List Entry)). with_entries o (entries_for ask client (r ∷ []))) one
+    ∙ with_both s (entries_for ask client (take i rs)) (entries_for ask client (r ∷ []))
+    ∙ ap (λ l. with_entries s l) (sym (for_both ask client (take i rs) (r ∷ [])))
+    ∙ ap (λ (x : Reply). with_entries s (entries_for ask client (take i rs ++ x ∷ []))) (sym (get_or_from_slice_get rs i r r is))
+    ∙ ap (λ l. with_entries s (entries_for ask client l)) (sym (take-suc rs i r within) ∙ ap (λ k. take k rs) (sym (add-one i)))
 
-pub all_told : (s t : PeerState) (ask : Asked) (client : List ℕ) (rs : List Reply) (n : ℕ) → n ≡ length rs
-    → t ≡ with_told s (entries_for ask client (take n rs)) → t ≡ with_told s (entries_for ask client rs)
-all_told s t ask client rs n e told = told ∙ ap (λ l. with_told s (entries_for ask client l)) (ap (λ k. take k rs) e ∙ take-length rs)
+pub all_told : (s t : Option (List Entry)) (ask : Asked) (client : List ℕ) (rs : List Reply) (n : ℕ) → n ≡ length rs
+    → t ≡ with_entries s (entries_for ask client (take n rs)) → t ≡ with_entries s (entries_for ask client rs)
+all_told s t ask client rs n e told = told ∙ ap (λ l. with_entries s (entries_for ask client l)) (ap (λ k. take k rs) e ∙ take-length rs)
 
-pub said_none : (s : PeerState) (ask : Asked) (client : List ℕ) (act : Act) (n : ℕ) (kept : List Reply) → act ≡ Deliver n
-    → s ≡ with_told s (entries_for ask client (said act kept))
+pub said_none : (s : Option (List Entry)) (ask : Asked) (client : List ℕ) (act : Act) (n : ℕ) (kept : List Reply) → act ≡ Deliver n
+    → s ≡ with_entries s (entries_for ask client (said act kept))
 said_none s ask client act n kept e =
-    let told : Act → Type 0 = λ a. s ≡ with_told s (entries_for ask client (said a kept)) in
+    let told : Act → Type 0 = λ a. s ≡ with_entries s (entries_for ask client (said a kept)) in
     subst told (sym e) (none_told s ask client)
-
-pub told_after : (s t u : PeerState) (more : List Entry) → u ≡ with_told t more → t.told ≡ s.told → u.told ≡ with_entries s.told more
-told_after s t u more told same = ap (λ (x : PeerState). x.told) told ∙ ap (λ (o : Option (List Entry)). with_entries o more) same
-
--- what was said stays so while a log is told
-is_said : (broken : Bool) (start now : PeerState) (told : Option (List Entry)) (written pending text : List ℕ) → IsSaid broken start now written pending text
-    → IsSaid broken start (record now { told = told }) written pending text
-is_said false start now told written pending text h = record { whole = h.whole; sound = h.sound }
-is_said true start now told written pending text h = record { begins = h.begins; failed = h.failed }
-
-pub said_told : (start now after : PeerState) (outbox : OutboxView) (came text : List ℕ) (more : List Entry) → after ≡ with_told now more
-    → HasSaid start now outbox came text → HasSaid start after outbox came text
-said_told start now after outbox came text more e h =
-    let said : PeerState → Type 0 = λ s. HasSaid start s outbox came text in
-    subst said (sym e) (record {
-      written = h.written;
-      moved = record { read = h.moved.read; unread = h.moved.unread; written = h.moved.written; still = h.moved.still };
-      is = is_said outbox.broken start now (with_entries now.told more) h.written outbox.pending text h.is;
-    })
 
 -- the entries of parts, one part after another
 pub entries-append : (site : Site) (n : ℕ) (session : Session) (ps qs : List Part)
@@ -115,7 +89,7 @@ entries-snoc site n ps p =
     entries-append site n fresh ps (p ∷ [])
     ∙ ap (λ l. entries_of site n fresh ps ++ l) (append-nil (entries_of_part site (accepted_after site n fresh ps) (session_after_parts site fresh ps) p))
 
--- the log was told the entries of one more part
+-- the observer was told the entries of one more part
 pub logged_more : (site : Site) (n : ℕ) (ps : List Part) (p : Part) (start before after : Option (List Entry)) (entries : List Entry)
     → after ≡ with_entries before entries → before ≡ with_entries start (entries_of site n fresh ps)
     → entries ≡ entries_of_part site (accepted_after site n fresh ps) (session_after_parts site fresh ps) p

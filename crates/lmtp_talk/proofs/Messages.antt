@@ -16,7 +16,7 @@ use Rattle.lmtp_session.specs.View.{View}
 use Rattle.lmtp_session.specs.Steps.{IsAct, IsTransition, IsStep}
 use Rattle.lmtp_talk.specs.declared.dialogue.Dialogue.{Dialogue}
 use Rattle.lmtp_talk.specs.Entries.{Entry, with_entries, copy_entries}
-use Rattle.lmtp_talk.specs.Peer.{PeerState}
+use Rattle.lmtp_talk.specs.Parties.{Parties}
 use Rattle.mail_world.specs.Counts.{counted}
 use Rattle.lmtp_talk.specs.Saying.{HasSaid, Says, said}
 use Rattle.lmtp_talk.specs.Delivery.{ended_so, EndsDraft}
@@ -48,13 +48,13 @@ copies_told number size n long id told_id client name rs qs before after en es e
     ∙ ap (λ (l : List Reply). with_entries before (copy_entries n long told_id name l)) er
 
 pub whole_message : {D : Type 0} (HasCome : D → ℕ → List Transaction → Type 0) (IsDrafting : D → ℕ → List Transaction → List ℕ → Type 0)
-    (old new : Dialogue) (mid : View) (before after : PeerState) (delivery later : D) (moment : ℕ) (told : List Outcome) (first second : Act) (number size : ℕ)
+    (old new : Dialogue) (mid : View) (before after : Parties) (delivery later : D) (moment : ℕ) (told : List Outcome) (first second : Act) (number size : ℕ)
     (id : Option (List ℕ))
     → ((n : ℕ) (ts : List Transaction) (message : List ℕ) → IsDrafting delivery n ts message
     → EndsDraft (HasCome later) n ts old.session.session message (ended_so (Ok tt) moment told))
     → length told ≡ length old.session.session.recipients
-    → IsStep old.session (DataEnded Whole) first mid → IsStep mid (Outcomes told) second new.session → new.wire ≡ old.wire → after.stops ≡ before.stops
-    → Says before after old.outbox new.outbox (reply_texts new.session.site (said second new.session.answers))
+    → IsStep old.session (DataEnded Whole) first mid → IsStep mid (Outcomes told) second new.session → new.wire ≡ old.wire → after.peer.stops ≡ before.peer.stops
+    → Says before.peer after.peer old.outbox new.outbox (reply_texts new.session.site (said second new.session.answers))
     → ((n : ℕ) (ts : List Transaction) (message : List ℕ) → IsDrafting delivery n ts message → number ≡ counted n)
     → ((n : ℕ) (ts : List Transaction) (message : List ℕ) → IsDrafting delivery n ts message → size ≡ counted (length message))
     → ((n : ℕ) (ts : List Transaction) (message : List ℕ) → IsDrafting delivery n ts message → id ≡ message_id_of message)
@@ -82,7 +82,7 @@ whole_message {D} HasCome IsDrafting old new mid before after delivery later mom
       takes = record {
         site = two.site ∙ one.site;
         session = session;
-        says = λ start came text h. subst (λ l. HasSaid start after new.outbox came (text ++ l)) texts (says start came text h);
+        says = λ start came text h. subst (λ l. HasSaid start after.peer new.outbox came (text ++ l)) texts (says start came text h);
         wire = wire;
         same = same;
       };
@@ -93,13 +93,13 @@ whole_message {D} HasCome IsDrafting old new mid before after delivery later mom
     }
 
 pub refused_message : {D : Type 0} (HasCome : D → ℕ → List Transaction → Type 0) (IsDrafting : D → ℕ → List Transaction → List ℕ → Type 0)
-    (old new : Dialogue) (before after : PeerState) (delivery later : D) (verdict : Verdict) (moment : ℕ) (told : List Outcome) (act : Act) (number size : ℕ)
+    (old new : Dialogue) (before after : Parties) (delivery later : D) (verdict : Verdict) (moment : ℕ) (told : List Outcome) (act : Act) (number size : ℕ)
     (id : Option (List ℕ))
     → (verdict ≡ Whole → ⊥)
     → ((n : ℕ) (ts : List Transaction) (message : List ℕ) → IsDrafting delivery n ts message
     → EndsDraft (HasCome later) n ts old.session.session message (ended_so (Err verdict) moment told))
-    → IsStep old.session (DataEnded verdict) act new.session → new.wire ≡ old.wire → after.stops ≡ before.stops
-    → Says before after old.outbox new.outbox (reply_texts new.session.site (said act new.session.answers))
+    → IsStep old.session (DataEnded verdict) act new.session → new.wire ≡ old.wire → after.peer.stops ≡ before.peer.stops
+    → Says before.peer after.peer old.outbox new.outbox (reply_texts new.session.site (said act new.session.answers))
     → ((n : ℕ) (ts : List Transaction) (message : List ℕ) → IsDrafting delivery n ts message → number ≡ counted n)
     → ((n : ℕ) (ts : List Transaction) (message : List ℕ) → IsDrafting delivery n ts message → size ≡ counted (length message))
     → ((n : ℕ) (ts : List Transaction) (message : List ℕ) → IsDrafting delivery n ts message → id ≡ message_id_of message)
@@ -113,7 +113,7 @@ refused_message {D} HasCome IsDrafting old new before after delivery later TooLa
       takes = record {
         site = one.site;
         session = one.next;
-        says = λ start came text h. subst (λ l. HasSaid start after new.outbox came (text ++ l))
+        says = λ start came text h. subst (λ l. HasSaid start after.peer new.outbox came (text ++ l))
             (texts_are old.session.site act (step old.session.site old.session.session (DataEnded TooLarge)) old.session new.session one refl
             ∙ ap (λ rs. reply_texts old.session.site rs) (sym (append-nil _)))
             (says start came text h);
@@ -134,7 +134,7 @@ refused_message {D} HasCome IsDrafting old new before after delivery later NoRoo
       takes = record {
         site = one.site;
         session = one.next;
-        says = λ start came text h. subst (λ l. HasSaid start after new.outbox came (text ++ l))
+        says = λ start came text h. subst (λ l. HasSaid start after.peer new.outbox came (text ++ l))
             (texts_are old.session.site act (step old.session.site old.session.session (DataEnded NoRoom)) old.session new.session one refl
             ∙ ap (λ rs. reply_texts old.session.site rs) (sym (append-nil _)))
             (says start came text h);

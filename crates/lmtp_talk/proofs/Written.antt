@@ -52,9 +52,7 @@ given_next s t u text a b x y = record {
   worked = record {
     moved = moved_writing s t u [] x.prefix a x.worked.moved y.moved;
     sound = y.sound ∙ x.worked.sound;
-    same = y.same
-        ∙ x.worked.same;
-    untold = y.untold ∙ x.worked.untold;
+    same = y.same ∙ x.worked.same;
   };
 }
 

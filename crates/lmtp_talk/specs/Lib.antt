@@ -1,5 +1,6 @@
 pub mod Entries
 pub mod Peer
+pub mod Parties
 pub mod Pause
 pub mod AtRest
 pub mod Delivery

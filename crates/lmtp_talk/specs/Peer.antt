@@ -2,13 +2,13 @@
 use Rattle.std.specs.Prelude.{◌≡◌, ◌≤◌, ◌⊎◌, ℕ, ◌+◌, ◌-◌, ◌^◌, List, [], length, take, Option}
 use Rattle.std.specs.Io.KnownBytes.{Appends, Consumes, IsAtEnd}
 use Rattle.mail_world.specs.Failures.{Rises}
-use Rattle.lmtp_talk.specs.Entries.{Entry, with_entries}
+use Rattle.lmtp_talk.specs.declared.tcp.read_buffer.TheConstants.{PIECE_LIMIT}
 use Rattle.lmtp_talk.specs.declared.peer.Came.{Came}
 use Rattle.lmtp_talk.specs.declared.peer.Came.TheVariants.{Bytes, End, Stop}
 
 -- the bytes that were read of it, those that are still to come and those that it was given, each where it tells; how
 -- often it was read, which stays at its largest value; how often it failed; how often it said that the server is to
--- stop; the names of the borrows that it holds; what its log was told of the conversation, where it tells
+-- stop; the names of the borrows that it holds
 pub record PeerState : Type 0 where
   pub read : Option (List ℕ)
   pub unread : Option (List ℕ)
@@ -17,7 +17,6 @@ pub record PeerState : Type 0 where
   pub failures : ℕ
   pub stops : ℕ
   pub holds : List ℕ
-  pub told : Option (List Entry)
 
 -- these bytes were read and those were written
 pub record HasMoved (old new : PeerState) (came said : List ℕ) : Type 0 where
@@ -26,30 +25,23 @@ pub record HasMoved (old new : PeerState) (came said : List ℕ) : Type 0 where
   pub written : Appends old.written new.written said
   pub still : new.holds ≡ old.holds
 
--- the same, and nothing failed, and the log was told nothing
+-- the same, and nothing failed
 pub record HasTransferred (old new : PeerState) (came said : List ℕ) : Type 0 where
   pub moved : HasMoved old new came said
   pub sound : new.failures ≡ old.failures
   pub same : new.stops ≡ old.stops
-  pub untold : new.told ≡ old.told
 
--- nothing was read, written or told, and it failed
+-- nothing was read or written, and it failed
 pub record PeerFailed (old new : PeerState) : Type 0 where
   pub moved : HasMoved old new [] []
   pub failed : Rises old.failures new.failures
   pub same : new.stops ≡ old.stops
-  pub untold : new.told ≡ old.told
 
--- nothing was read, written or told, and it said that the server is to stop
+-- nothing was read or written, and it said that the server is to stop
 pub record HasStopped (old new : PeerState) : Type 0 where
   pub moved : HasMoved old new [] []
   pub sound : new.failures ≡ old.failures
   pub stopped : Rises old.stops new.stops
-  pub untold : new.told ≡ old.told
-
--- the log was told these further entries, and nothing else happened
-abbrev pub with_told : PeerState → List Entry → PeerState
-with_told peer more = record peer { told = with_entries peer.told more }
 
 -- a count that stops at 2^64 - 1 went up that often
 abbrev pub RisesBy : ℕ → ℕ → ℕ → Type 0
@@ -59,11 +51,11 @@ RisesBy times old new = (new ≡ old + times) ⊎ ((2 ^ 64 - 1 ≤ old + times) 
 abbrev pub WasRead : ℕ → PeerState → PeerState → Type 0
 WasRead made old new = RisesBy made old.reads new.reads
 
--- a read has brought what it answered
+-- a read has brought what it answered: bytes are the piece that its buffer lends now
 abbrev pub HasBrought : PeerState → PeerState → List ℕ → Came → Type 0
-HasBrought old new buffer (Bytes n) = (1 ≤ n) × (n ≤ length buffer) × HasTransferred old new (take n buffer) []
-HasBrought old new buffer End = HasTransferred old new [] [] × IsAtEnd new.unread
-HasBrought old new buffer Stop = HasStopped old new
+HasBrought old new piece (Bytes n) = (1 ≤ n) × (n ≤ PIECE_LIMIT) × (n ≡ length piece) × HasTransferred old new piece []
+HasBrought old new piece End = HasTransferred old new [] [] × IsAtEnd new.unread
+HasBrought old new piece Stop = HasStopped old new
 
 -- a prefix of that many bytes was accepted
 abbrev pub HasWritten : PeerState → PeerState → List ℕ → ℕ → Type 0

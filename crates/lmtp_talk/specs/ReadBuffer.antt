@@ -1,21 +1,26 @@
--- What a buffer before a stream has and hands out.
+-- What a buffer before a stream has and lends.
 use Rattle.std.specs.Prelude.{◌≡◌, ◌-◌, ◌++◌, ◌≤◌, ◌<◌, ℕ, List, [], length, take, drop, Result, MatchResult, Option}
 use Rattle.std.specs.Io.KnownBytes.{Consumes, Keeps, IsAtEnd}
 use Rattle.lmtp_talk.specs.declared.tcp.read_buffer.ReadBuffer.{ReadBuffer}
+use Rattle.lmtp_talk.specs.declared.tcp.read_buffer.TheConstants.{PIECE_LIMIT}
 
--- the bytes that were read and are still to be handed out
+-- the bytes that were read and are still to be lent
 abbrev pub waiting : ReadBuffer → List ℕ
 waiting b = take (b.end - b.start) (drop b.start b.bytes.items)
 
--- a read of the stream: that many bytes of it wait now, none only at its end; and where it failed nothing came
-abbrev pub Refills : {E : Type 0} → Option (List ℕ) → Option (List ℕ) → Result ℕ E → List ℕ → Type 0
-Refills old new result waits = MatchResult result
-    (λ n. (n ≡ length waits) × Consumes old new waits × (n ≡ 0 → IsAtEnd new))
-    (λ _. Keeps old new × (waits ≡ []))
+-- those that it lends now
+abbrev pub piece_of : ReadBuffer → List ℕ
+piece_of b = take (b.start - b.lent) (drop b.lent b.bytes.items)
 
--- what waited was n bytes, which stand first in the buffer, and what waits now; none only where none waited or
--- there is no room
-pub record HandsOut (old new buffer : List ℕ) (n : ℕ) : Type 0 where
-  pub handed : old ≡ take n buffer ++ new
-  pub within : n ≤ length buffer
-  pub some : 0 < length buffer → 0 < length old → 0 < n
+-- a read of the stream: that many bytes of it stand here now, none only at its end; and where it failed nothing came
+abbrev pub Refills : {E : Type 0} → Option (List ℕ) → Option (List ℕ) → Result ℕ E → List ℕ → Type 0
+Refills old new result came = MatchResult result
+    (λ n. (n ≡ length came) × Consumes old new came × (n ≡ 0 → IsAtEnd new))
+    (λ _. Keeps old new × (came ≡ []))
+
+-- what waited was the n bytes that are lent now, and what waits now; none only where none waited
+pub record Lends (old lent new : List ℕ) (n : ℕ) : Type 0 where
+  pub lends : old ≡ lent ++ new
+  pub count : n ≡ length lent
+  pub within : n ≤ PIECE_LIMIT
+  pub some : 0 < length old → 0 < n

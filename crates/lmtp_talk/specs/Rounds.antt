@@ -12,6 +12,7 @@ use Rattle.lmtp_talk.specs.declared.ending.EndCause.TheVariants as ends
 use Rattle.mail_world.specs.declared.State.{State}
 use Rattle.mail_world.specs.declared.State.TheVariants.{Waiting, Ended}
 use Rattle.lmtp_talk.specs.Peer.{PeerState}
+use Rattle.lmtp_talk.specs.Parties.{Parties}
 use Rattle.lmtp_talk.specs.Saying.{HasSaid}
 use Rattle.lmtp_talk.specs.Served.{terms, IsServed}
 use Rattle.lmtp_talk.specs.TalkState.{Beginning, beginning, TalkState, IsSoFar}
@@ -23,7 +24,6 @@ pub record Greets (old new : Dialogue) (before after : PeerState) : Type 0 where
   pub session : new.session.session ≡ fresh
   pub wire : IsAfter new.wire []
   pub same : after.stops ≡ before.stops
-  pub untold : after.told ≡ before.told
   pub said : HasSaid before after new.outbox [] (reply_text old.session.site Greeting)
 
 -- a draft is dropped, and where there is none all stays as it was
@@ -41,21 +41,21 @@ pub record IsFurther (first : Beginning) (now : TalkState) (handled : List ℕ) 
 -- a round after which the conversation goes on
 abbrev pub TakesRound : {D : Type 0} → (D → ℕ → List Transaction → Type 0)
     → (D → ℕ → List Transaction → List ℕ → Type 0) → Talk D → Talk D → Type 0
-TakesRound {D} HasCome IsDrafting old new = (site : Site) (start : PeerState) (first : D) (handled : List ℕ)
+TakesRound {D} HasCome IsDrafting old new = (site : Site) (start : Parties) (first : D) (handled : List ℕ)
     → IsSoFar (beginning site start (HasCome first)) (standing_of HasCome IsDrafting old) handled handled
     → IsFurther (beginning site start (HasCome first)) (standing_of HasCome IsDrafting new) handled
 
 -- what holds after the last round of a conversation that may make that many reads
 abbrev pub EndsRound : {D : Type 0} → (D → ℕ → List Transaction → Type 0) → (D → ℕ → List Transaction → List ℕ → Type 0)
     → ℕ → Talk D → Talk D → EndCause → Type 0
-EndsRound {D} HasCome IsDrafting reads old new end = (site : Site) (start : PeerState) (first : D) (handled : List ℕ)
+EndsRound {D} HasCome IsDrafting reads old new end = (site : Site) (start : Parties) (first : D) (handled : List ℕ)
     → IsSoFar (beginning site start (HasCome first)) (standing_of HasCome IsDrafting old) handled handled
-    → IsServed (terms site reads) start new.peer (HasCome first) (HasCome new.delivery) end
+    → IsServed (terms site reads) start new.parties (HasCome first) (HasCome new.delivery) end
 
 -- the bytes that have come are handled, and the conversation goes on, or it has ended with them
 abbrev pub HandlesPiece : {D : Type 0} → (D → ℕ → List Transaction → Type 0)
     → (D → ℕ → List Transaction → List ℕ → Type 0) → Talk D → Talk D → List ℕ → Type 0
-HandlesPiece {D} HasCome IsDrafting old new piece = (site : Site) (start : PeerState) (first : D) (handled : List ℕ)
+HandlesPiece {D} HasCome IsDrafting old new piece = (site : Site) (start : Parties) (first : D) (handled : List ℕ)
     → IsSoFar (beginning site start (HasCome first)) (standing_of HasCome IsDrafting old) handled (handled ++ piece)
     → IsSoFar (beginning site start (HasCome first)) (standing_of HasCome IsDrafting new) (handled ++ piece)
     (handled ++ piece)

@@ -15,7 +15,6 @@ pub record BreaksOff (old new : PeerState) (bytes : List ℕ) : Type 0 where
   pub moved : HasMoved old new [] prefix
   pub failed : Rises old.failures new.failures
   pub same : new.stops ≡ old.stops
-  pub untold : new.told ≡ old.told
 
 -- no write failed: what waits follows what was written
 pub record IsWhole (start now : PeerState) (written pending text : List ℕ) : Type 0 where

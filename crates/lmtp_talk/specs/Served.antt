@@ -12,6 +12,7 @@ use Rattle.lmtp_talk.specs.declared.ending.EndCause.{EndCause}
 use Rattle.lmtp_talk.specs.declared.ending.EndCause.TheVariants as ends
 use Rattle.lmtp_talk.specs.Entries.{entries_in, with_entries}
 use Rattle.lmtp_talk.specs.Peer.{PeerState, HasMoved, WasRead}
+use Rattle.lmtp_talk.specs.Parties.{Parties}
 
 -- QUIT is among the inputs
 abbrev pub is_quit_answer : Answer → Bool
@@ -69,12 +70,12 @@ pub record HasRead (reads : ℕ) (old new : PeerState) (end : EndCause) : Type 0
   pub within : made ≤ reads
   pub read_bound : end ≡ ends.ReadBound → made ≡ reads
 
--- From a peer that stood so to one that stands so, and from what the delivery had come to, to what it has come to.
-pub record IsServed (by : Terms) (old new : PeerState) (Before After : ℕ → List Transaction → Type 0)
+-- From parties that stood so to where they stand now, and from what the delivery had come to, to what it has come to.
+pub record IsServed (by : Terms) (old new : Parties) (Before After : ℕ → List Transaction → Type 0)
     (end : EndCause) : Type 0 where
   pub conversation : Conversation
   pub said : List ℕ
-  pub moved : HasMoved old new conversation.bytes said
+  pub moved : HasMoved old.peer new.peer conversation.bytes said
   -- an entry for each data that ended
   pub accounted : IsAccount by.site conversation
   pub says : IsWritten (replies by.site (inputs by.site conversation)) (end ≡ ends.WriteFault) said
@@ -82,7 +83,7 @@ pub record IsServed (by : Terms) (old new : PeerState) (Before After : ℕ → L
   -- account
   pub delivered : (n : ℕ) (ts : List Transaction) → Before n ts
       → After (accepted_after_conversation by.site n conversation) (ts ++ transactions_in by.site n conversation)
-  -- the log was told an entry for each reply to its lines and its data, in their order
+  -- the observer was told an entry for each reply to its lines and its data, in their order
   pub logged : (n : ℕ) (ts : List Transaction) → Before n ts
       → new.told ≡ with_entries old.told (entries_in by.site n conversation)
-  pub causes : EndsFor by conversation old new end
+  pub causes : EndsFor by conversation old.peer new.peer end

@@ -14,7 +14,7 @@ use Rattle.lmtp_wire.specs.Wire.{IsAfter}
 use Rattle.lmtp_wire.specs.Dot.{HasMade}
 use Rattle.lmtp_talk.specs.declared.dialogue.Dialogue.{Dialogue}
 use Rattle.lmtp_talk.specs.Entries.{entries_of, with_entries}
-use Rattle.lmtp_talk.specs.Peer.{PeerState}
+use Rattle.lmtp_talk.specs.Parties.{Parties}
 use Rattle.lmtp_talk.specs.Saying.{HasSaid}
 use Rattle.lmtp_talk.specs.Served.{has_quit}
 
@@ -54,26 +54,31 @@ IsInside Waiting dialogue rest come drafts = ⊥
 IsInside Ended dialogue rest come drafts = come
 IsInside _ dialogue rest come drafts = InLine dialogue rest come
 
--- where a conversation began: at this site, with a peer that stood so, and with a delivery that had come to this
+-- where a conversation began: at this site, with parties that stood so, and with a delivery that had come to this
 pub record Beginning : Type 1 where
   pub site : Site
-  pub peer : PeerState
+  pub parties : Parties
   pub come : ℕ → List Transaction → Type 0
 
-abbrev pub beginning : Site → PeerState → (ℕ → List Transaction → Type 0) → Beginning
-beginning site peer come = record { site = site; peer = peer; come = come }
+abbrev pub beginning : Site → Parties → (ℕ → List Transaction → Type 0) → Beginning
+beginning site parties come = record { site = site; parties = parties; come = come }
 
 -- where its parts stand now: the delivery has come to this, with this draft in hand where there is one
 pub record TalkState : Type 1 where
   pub dialogue : Dialogue
-  pub peer : PeerState
+  pub parties : Parties
   pub come : ℕ → List Transaction → Type 0
   pub drafting : ℕ → List Transaction → List ℕ → Type 0
 
-abbrev pub talk_state : Dialogue → PeerState → (ℕ → List Transaction → Type 0)
+abbrev pub talk_state : Dialogue → Parties → (ℕ → List Transaction → Type 0)
     → (ℕ → List Transaction → List ℕ → Type 0)
     → TalkState
-talk_state dialogue peer come drafting = record { dialogue = dialogue; peer = peer; come = come; drafting = drafting }
+talk_state dialogue parties come drafting = record {
+  dialogue = dialogue;
+  parties = parties;
+  come = come;
+  drafting = drafting;
+}
 
 -- Of the bytes that came since the beginning of the conversation, these are handled.
 pub record IsSoFar (first : Beginning) (now : TalkState) (handled came : List ℕ) : Type 0 where
@@ -85,10 +90,10 @@ pub record IsSoFar (first : Beginning) (now : TalkState) (handled came : List �
   pub same_site : now.dialogue.session.site ≡ first.site
   pub session : now.dialogue.session.session ≡ session_after_parts first.site fresh done
   pub quits : QuitsWith now.dialogue.session.session.state (flat_map inputs_of done)
-  pub said : HasSaid first.peer now.peer now.dialogue.outbox came
+  pub said : HasSaid first.parties.peer now.parties.peer now.dialogue.outbox came
       (reply_text first.site Greeting ++ reply_texts first.site (replies_to first.site fresh (flat_map inputs_of done)))
-  pub goes : now.peer.stops ≡ first.peer.stops
+  pub goes : now.parties.peer.stops ≡ first.parties.peer.stops
   pub logged : (n : ℕ) (ts : List Transaction) → first.come n ts
-      → now.peer.told ≡ with_entries first.peer.told (entries_of first.site n fresh done)
+      → now.parties.told ≡ with_entries first.parties.told (entries_of first.site n fresh done)
   pub inside : IsInside now.dialogue.session.session.state now.dialogue rest (Comes first.site done first.come now.come)
       (λ made. Comes first.site done first.come (λ n ts. now.drafting n ts made))

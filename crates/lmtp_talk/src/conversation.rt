@@ -1,42 +1,47 @@
 //! One conversation, from its greeting to its end.
 
-ghost use Rattle.std.specs.Prelude.{◌≡◌, ◌≢◌, ◌<◌, ℕ, [], ◌∷◌, length, IfSome, MatchOption};
+ghost use Rattle.std.specs.Prelude.{◌≡◌, ◌≢◌, ℕ, [], ◌∷◌, IfSome, IfOk, OnErr, MatchOption};
 ghost use Rattle.mail_world.specs.Session.{Stop};
 ghost use Rattle.mail_world.specs.Lists.{is_content};
 ghost use Rattle.lmtp_session.specs.Steps.{MayStop};
 ghost use Rattle.lmtp_talk.specs.Steps.{talk, TakesInputs};
 ghost use Rattle.lmtp_talk.specs.Rounds.{Greets, Leaves, TakesRound, EndsRound, HandlesPiece, end_after, stopped_or};
-ghost use Rattle.lmtp_talk.specs.Peer.{WasRead};
+ghost use Rattle.lmtp_talk.specs.ReadBuffer.{piece_of};
+ghost use Rattle.lmtp_talk.specs.Peer.{WasRead, HasBrought, PeerFailed};
+ghost use Rattle.lmtp_talk.specs.Parties.{parties};
 ghost use Rattle.lmtp_talk.specs.Served.{terms, HasRead, IsServed};
 
 use crate::delivery::Delivery;
 use crate::dialogue::Dialogue;
 use crate::ending::EndCause;
 use crate::handling::handle;
-use crate::peer::{Came, Peer};
+use crate::observer::Observer;
+use crate::pause::Pause;
+use crate::peer::{Came, Peer, PeerFault};
+use crate::tcp::ReadBuffer;
 use mail_world::State;
-
-/// The bytes that one read asks for.
-const READ_SIZE: usize = 4_096;
 
 /// Serves one conversation. All that was read is handled, and its replies are written, before the next read; nothing is
 /// read after QUIT, and that many reads are made at most. Where a write fails the conversation ends once the bytes that
-/// were read are handled.
-pub fn serve<P: Peer, D: Delivery>(
+/// were read are handled. What is read is handled where the buffer lends it. The observer isn't told of the end.
+pub fn serve<P: Peer, D: Delivery, O: Observer>(
     dialogue: &mut Dialogue,
+    buffer: &mut ReadBuffer,
     peer: &mut P,
     delivery: &mut D,
+    observer: &mut O,
     reads: u32,
 ) -> EndCause
     requires { D.site delivery.old ≡ dialogue.old.session.site }
-    ensures serves { IsServed (terms dialogue.old.session.site reads) (P.state peer.old) (P.state peer.new)
+    ensures serves { IsServed (terms dialogue.old.session.site reads) (parties (P.state peer.old) (O.told observer.old))
+        (parties (P.state peer.new) (O.told observer.new))
         (D.HasCome delivery.old) (D.HasCome delivery.new) result }
     ensures reads { HasRead reads (P.state peer.old) (P.state peer.new) result }
     ensures site { dialogue.new.session.site ≡ dialogue.old.session.site }
     ensures same { D.site delivery.new ≡ D.site delivery.old }
 {
     greet(dialogue, peer);
-    take_rounds(dialogue, peer, delivery, reads)
+    take_rounds(dialogue, buffer, peer, delivery, observer, reads)
 }
 
 // The first reply (RFC 5321, 4.3.1).
@@ -53,24 +58,26 @@ fn greet<P: Peer>(dialogue: &mut Dialogue, peer: &mut P)
 }
 
 // Takes rounds until the conversation ends.
-fn take_rounds<P: Peer, D: Delivery>(
+fn take_rounds<P: Peer, D: Delivery, O: Observer>(
     dialogue: &mut Dialogue,
+    buffer: &mut ReadBuffer,
     peer: &mut P,
     delivery: &mut D,
+    observer: &mut O,
     reads: u32,
 ) -> EndCause
     requires may { MayStop dialogue.old.session.session.state }
     requires none { dialogue.old.outbox.pending ≡ [] }
     requires here { D.site delivery.old ≡ dialogue.old.session.site }
-    ensures ends { EndsRound D.HasCome D.IsDrafting reads (talk dialogue.old (P.state peer.old) delivery.old)
-        (talk dialogue.new (P.state peer.new) delivery.new) result }
+    ensures ends { EndsRound D.HasCome D.IsDrafting reads
+        (talk dialogue.old (parties (P.state peer.old) (O.told observer.old)) delivery.old)
+        (talk dialogue.new (parties (P.state peer.new) (O.told observer.new)) delivery.new) result }
     ensures reads { HasRead reads (P.state peer.old) (P.state peer.new) result }
     ensures site { dialogue.new.session.site ≡ dialogue.old.session.site }
     ensures same { D.site delivery.new ≡ D.site delivery.old }
 {
-    let mut buffer = [0; READ_SIZE];
     for _made in 0..reads {
-        if let Some(end) = take_round(dialogue, peer, delivery, &mut buffer) {
+        if let Some(end) = take_round(dialogue, buffer, peer, delivery, observer) {
             return end;
         }
     }
@@ -83,26 +90,27 @@ fn take_rounds<P: Peer, D: Delivery>(
 }
 
 // One read and all that it brings; the cause where the conversation ends with it.
-fn take_round<P: Peer, D: Delivery>(
+fn take_round<P: Peer, D: Delivery, O: Observer>(
     dialogue: &mut Dialogue,
+    buffer: &mut ReadBuffer,
     peer: &mut P,
     delivery: &mut D,
-    buffer: &mut [u8],
+    observer: &mut O,
 ) -> Option<EndCause>
-    requires some { 0 < length buffer.old }
     requires may { MayStop dialogue.old.session.session.state }
     requires none { dialogue.old.outbox.pending ≡ [] }
     requires here { D.site delivery.old ≡ dialogue.old.session.site }
     ensures round { MatchOption result
-        (TakesRound D.HasCome D.IsDrafting (talk dialogue.old (P.state peer.old) delivery.old)
-        (talk dialogue.new (P.state peer.new) delivery.new))
+        (TakesRound D.HasCome D.IsDrafting
+        (talk dialogue.old (parties (P.state peer.old) (O.told observer.old)) delivery.old)
+        (talk dialogue.new (parties (P.state peer.new) (O.told observer.new)) delivery.new))
         (λ end. (reads : ℕ) → EndsRound D.HasCome D.IsDrafting reads
-        (talk dialogue.old (P.state peer.old) delivery.old) (talk dialogue.new (P.state peer.new) delivery.new) end) }
+        (talk dialogue.old (parties (P.state peer.old) (O.told observer.old)) delivery.old)
+        (talk dialogue.new (parties (P.state peer.new) (O.told observer.new)) delivery.new) end) }
     ensures reads { MatchOption result (WasRead 1 (P.state peer.old) (P.state peer.new))
         (λ end. (end ≢ EndCause.ReadBound) × HasRead 1 (P.state peer.old) (P.state peer.new) end) }
     ensures may { MatchOption result (MayStop dialogue.new.session.session.state) (λ _. Unit {0}) }
     ensures none { MatchOption result (dialogue.new.outbox.pending ≡ []) (λ _. Unit {0}) }
-    ensures size { length buffer.new ≡ length buffer.old }
     ensures site { dialogue.new.session.site ≡ dialogue.old.session.site }
     ensures same { D.site delivery.new ≡ D.site delivery.old }
 {
@@ -111,9 +119,9 @@ fn take_round<P: Peer, D: Delivery>(
         return Some(EndCause::WriteFault);
     }
     let pause = dialogue.pause();
-    match peer.read(buffer, pause) {
-        Ok(Came::Bytes(size)) => {
-            take_piece(dialogue, peer, delivery, &buffer[..size]);
+    match hear(buffer, peer, observer, pause) {
+        Ok(Came::Bytes(_)) => {
+            take_piece(dialogue, peer, delivery, observer, buffer.piece());
             end_or_go_on(dialogue)
         }
         Ok(Came::End) => {
@@ -132,22 +140,42 @@ fn take_round<P: Peer, D: Delivery>(
     }
 }
 
+// Reads once, when all replies are written.
+fn hear<P: Peer, O: Observer>(
+    buffer: &mut ReadBuffer,
+    peer: &mut P,
+    observer: &mut O,
+    pause: Pause,
+) -> Result<Came, PeerFault>
+    ensures reads { WasRead 1 (P.state peer.old) (P.state peer.new) }
+    ensures ok { IfOk result (λ came. HasBrought (P.state peer.old) (P.state peer.new) (piece_of buffer.new) came) }
+    ensures err { OnErr result (PeerFailed (P.state peer.old) (P.state peer.new)) }
+    ensures untold { O.told observer.new ≡ O.told observer.old }
+{
+    observer.written();
+    let read = peer.read(buffer, pause);
+    observer.came();
+    read
+}
+
 // Handles the bytes, and writes the replies to them.
-fn take_piece<P: Peer, D: Delivery>(
+fn take_piece<P: Peer, D: Delivery, O: Observer>(
     dialogue: &mut Dialogue,
     peer: &mut P,
     delivery: &mut D,
+    observer: &mut O,
     piece: &[u8],
 )
     requires { D.site delivery.old ≡ dialogue.old.session.site }
-    ensures handles { HandlesPiece D.HasCome D.IsDrafting (talk dialogue.old (P.state peer.old) delivery.old)
-        (talk dialogue.new (P.state peer.new) delivery.new) piece.now }
+    ensures handles { HandlesPiece D.HasCome D.IsDrafting
+        (talk dialogue.old (parties (P.state peer.old) (O.told observer.old)) delivery.old)
+        (talk dialogue.new (parties (P.state peer.new) (O.told observer.new)) delivery.new) piece.now }
     ensures reads { (P.state peer.new).reads ≡ (P.state peer.old).reads }
     ensures none { dialogue.new.outbox.pending ≡ [] }
     ensures site { dialogue.new.session.site ≡ dialogue.old.session.site }
     ensures same { D.site delivery.new ≡ D.site delivery.old }
 {
-    handle(dialogue, peer, delivery, piece);
+    handle(dialogue, peer, delivery, observer, piece);
     dialogue.outbox.flush(peer);
 }
 
@@ -191,7 +219,6 @@ fn leave<D: Delivery>(dialogue: &Dialogue, delivery: &mut D)
 fn stop<P: Peer>(dialogue: &mut Dialogue, peer: &mut P)
     requires { MayStop dialogue.old.session.session.state }
     ensures takes { TakesInputs (Stop ∷ []) dialogue.old dialogue.new (P.state peer.old) (P.state peer.new) }
-    ensures untold { (P.state peer.new).told ≡ (P.state peer.old).told }
     ensures reads { (P.state peer.new).reads ≡ (P.state peer.old).reads }
     ensures none { dialogue.new.outbox.pending ≡ [] }
 {

@@ -8,6 +8,7 @@ ghost use Rattle.lmtp_talk.specs.Saying.{Says, SaysNoMore, BreaksOff, said, CanS
 ghost use Rattle.lmtp_talk.specs.Telling.{entries_for};
 ghost use Rattle.lmtp_talk.specs.declared.outbox.TheConstants.{OUTBOX_SIZE};
 
+use crate::observer::Observer;
 use crate::peer::{Peer, PeerFault};
 use crate::telling::{Asked, tell_all};
 use lmtp_session::{Act, Session};
@@ -73,7 +74,6 @@ impl Outbox {
         ensures says { Says (P.state peer.old) (P.state peer.new) self.old self.new
             (reply_texts session.now.site (said act session.now.answers)) }
         ensures goes { (P.state peer.new).stops ≡ (P.state peer.old).stops }
-        ensures untold { (P.state peer.new).told ≡ (P.state peer.old).told }
         ensures reads { (P.state peer.new).reads ≡ (P.state peer.old).reads }
     {
         match act {
@@ -84,18 +84,25 @@ impl Outbox {
         }
     }
 
-    /// Says what an act says, for the session that gave it, and tells the peer's log of it.
-    pub fn answer<P: Peer>(&mut self, peer: &mut P, session: &Session, asked: Asked<'_>, act: Act)
+    /// Says what an act says, for the session that gave it, and tells the observer of it.
+    pub fn answer<P: Peer, O: Observer>(
+        &mut self,
+        peer: &mut P,
+        observer: &mut O,
+        session: &Session,
+        asked: Asked<'_>,
+        act: Act,
+    )
         requires { CanSay act session.now.answers }
         ensures says { Says (P.state peer.old) (P.state peer.new) self.old self.new
             (reply_texts session.now.site (said act session.now.answers)) }
-        ensures told { (P.state peer.new).told ≡ with_entries (P.state peer.old).told
+        ensures told { O.told observer.new ≡ with_entries (O.told observer.old)
             (entries_for asked.entry session.now.session.client (said act session.now.answers)) }
         ensures goes { (P.state peer.new).stops ≡ (P.state peer.old).stops }
         ensures reads { (P.state peer.new).reads ≡ (P.state peer.old).reads }
     {
         self.say_all(peer, session, act);
-        tell_all(peer, session, asked, act);
+        tell_all(observer, session, asked, act);
     }
 
     // The answers to the recipients, in their order (RFC 2033, 4.2).
@@ -104,7 +111,6 @@ impl Outbox {
         ensures says { Says (P.state peer.old) (P.state peer.new) self.old self.new
             (reply_texts session.now.site session.now.answers) }
         ensures goes { (P.state peer.new).stops ≡ (P.state peer.old).stops }
-        ensures untold { (P.state peer.new).told ≡ (P.state peer.old).told }
         ensures reads { (P.state peer.new).reads ≡ (P.state peer.old).reads }
     {
         for i in 0..count {
@@ -116,7 +122,6 @@ impl Outbox {
     pub fn say<P: Peer>(&mut self, peer: &mut P, site: &Site, reply: Reply)
         ensures says { Says (P.state peer.old) (P.state peer.new) self.old self.new (reply_text site.now reply) }
         ensures goes { (P.state peer.new).stops ≡ (P.state peer.old).stops }
-        ensures untold { (P.state peer.new).told ≡ (P.state peer.old).told }
         ensures reads { (P.state peer.new).reads ≡ (P.state peer.old).reads }
     {
         if self.size > OUTBOX_SIZE - REPLY_LIMIT {
@@ -142,7 +147,6 @@ impl Outbox {
         ensures said { SaysNoMore (P.state peer.old) (P.state peer.new) self.old self.new }
         ensures none { self.new.pending ≡ [] }
         ensures goes { (P.state peer.new).stops ≡ (P.state peer.old).stops }
-        ensures untold { (P.state peer.new).told ≡ (P.state peer.old).told }
         ensures reads { (P.state peer.new).reads ≡ (P.state peer.old).reads }
     {
         if self.broken {

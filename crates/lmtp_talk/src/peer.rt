@@ -1,13 +1,12 @@
 //! The other end of a conversation: bytes come from it and go to it, and it may fail.
 
-ghost use Rattle.std.specs.Prelude.{◌≡◌, ◌<◌, [], ◌∷◌, length, take, IfOk, OnErr};
-ghost use Rattle.lmtp_talk.specs.Entries.{OfLine};
-ghost use Rattle.lmtp_talk.specs.Peer.{PeerState, WasRead, HasBrought, HasWritten, PeerFailed, with_told};
-ghost use Rattle.lmtp_talk.specs.Telling.{arrived_entry};
+ghost use Rattle.std.specs.Prelude.{◌≡◌, ◌<◌, length, IfOk, OnErr};
+ghost use Rattle.lmtp_talk.specs.ReadBuffer.{piece_of};
+ghost use Rattle.lmtp_talk.specs.Peer.{PeerState, WasRead, HasBrought, HasWritten, PeerFailed};
 
+use crate::client::Traffic;
 use crate::pause::Pause;
-use crate::telling::Arrived;
-use mail_world::Reply;
+use crate::tcp::ReadBuffer;
 use thiserror::Error;
 
 /// A read or a write failed, for a reason that the peer keeps to itself.
@@ -18,7 +17,7 @@ pub struct PeerFault;
 /// What a read came to.
 #[derive(Clone, Copy, Debug, PartialEq, Eq)]
 pub enum Came {
-    /// That many bytes came, one at least.
+    /// That many bytes came, one at least; the buffer lends them.
     Bytes(usize),
     /// There are no more.
     End,
@@ -28,15 +27,14 @@ pub enum Came {
 
 /// A client, as the server sees it.
 pub trait Peer {
-    // what was read of it, what is still to come, what it was given, how often it was read and failed, and what its log
-    // was told
+    // what was read of it, what is still to come, what it was given, and how often it was read and failed
     ghost state: { Self → PeerState };
 
-    /// Reads bytes into the beginning of the buffer, where the conversation stands so.
-    fn read(&mut self, buffer: &mut [u8], pause: Pause) -> Result<Came, PeerFault>
-        requires { 0 < length buffer.old }
+    /// Lets the buffer lend the bytes that come next, where the conversation stands so. What it lent before is gone.
+    /// A peer is read with the same buffer each time, which nobody else changes meanwhile.
+    fn read(&mut self, buffer: &mut ReadBuffer, pause: Pause) -> Result<Came, PeerFault>
         ensures reads { WasRead 1 (state self.old) (state self.new) }
-        ensures ok { IfOk result (λ came. HasBrought (state self.old) (state self.new) buffer.new came) }
+        ensures ok { IfOk result (λ came. HasBrought (state self.old) (state self.new) (piece_of buffer.new) came) }
         ensures err { OnErr result (PeerFailed (state self.old) (state self.new)) };
 
     /// Writes a prefix of the bytes, one at least, and says how many.
@@ -46,13 +44,6 @@ pub trait Peer {
         ensures ok { IfOk result (λ n. HasWritten (state self.old) (state self.new) bytes.now n) }
         ensures err { OnErr result (PeerFailed (state self.old) (state self.new)) };
 
-    /// Its log is told the reply to a command line, which has no line end, and is empty where it was too long. The
-    /// reply waits to be written.
-    fn tell_command(&mut self, line: &[u8], reply: Reply)
-        ensures { state self.new ≡ with_told (state self.old) (OfLine line.now reply ∷ []) };
-
-    /// Its log is told the reply for a copy of that message, to a client who gave that name. The reply waits to be
-    /// written.
-    fn tell_copy(&mut self, arrived: Arrived, client: &[u8], reply: Reply)
-        ensures { state self.new ≡ with_told (state self.old) (arrived_entry arrived client.now reply ∷ []) };
+    /// Who the client is, and how many bytes came and went.
+    fn traffic(&self) -> Traffic;
 }

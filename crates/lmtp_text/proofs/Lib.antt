@@ -11,3 +11,5 @@ pub mod PathPrefixes
 pub mod CalendarDates
 pub mod CalendarMoments
 mod Encodings
+pub mod PathsBeyond
+pub mod MoreOffered

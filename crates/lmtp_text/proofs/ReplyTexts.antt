@@ -1,6 +1,7 @@
 -- Texts joined from pieces, and what stands after a text that was written.
-use Rattle.std.proofs.Common.{◌≡◌, ◌+◌, ◌-◌, ◌≤◌, ℕ, Bool, true, false, List, [], ◌++◌, drop, refl, ap, sym, ◌∙◌, append_assoc, arith, if◌then◌else◌}
-use Rattle.std.proofs.lemmas.List.{drop-drop}
+use Rattle.std.proofs.Common.{◌≡◌, ◌+◌, ◌-◌, ◌≤◌, ℕ, Bool, true, false, List, [], ◌++◌, length, take, drop, refl, ap, sym, ◌∙◌, append_assoc, arith, if◌then◌else◌}
+use Rattle.std.proofs.lemmas.List.{drop-drop, take-append-le}
+use Rattle.std.proofs.lemmas.List.{length-append}
 use Rattle.std.specs.Prelude.{codes, decimal}
 use Rattle.std.specs.Fmt.{digits}
 use Rattle.mail_world.specs.declared.Reply.{Reply}
@@ -49,3 +50,13 @@ pub drop-later : (i j : ℕ) (xs ys : List ℕ) → i ≤ j → drop i xs ≡ dr
 drop-later i j xs ys h e =
     let far : j ≡ i + (j - i) = omega arith in
     rw (far, ← drop-drop (j - i) i xs, ← drop-drop (j - i) i ys, e) refl
+
+-- the code of a text in three pieces, and of the offer
+pub code_of_pieces : (prefix name back text : List ℕ) → 3 ≤ length prefix → prefix ++ name ++ back ≡ text → take 3 prefix ≡ take 3 text
+code_of_pieces prefix name back text h e =
+    let within : 3 ≤ length (prefix ++ name) = omega (arith, h, length-append prefix name) in
+    sym (take-append-le 3 prefix name h) ∙ sym (take-append-le 3 (prefix ++ name) back within) ∙ ap (take 3) e
+
+pub code_of_offer : (site : Site) (reply : Reply) → reply ≡ replies.Offer → codes "250" ≡ take 3 (reply_text site reply)
+unfolding reply_text
+code_of_offer site reply e = rw e refl

@@ -3,3 +3,5 @@ pub mod Sites
 pub mod Paths
 pub mod Parameters
 pub mod Calendar
+pub mod Offers
+pub mod Readings

@@ -20,6 +20,7 @@ type Pieces<'a> = (&'static [u8], &'a [u8], &'static [u8]);
 fn refusal(why: BadCommand) -> &'static [u8]
     ensures value { result.now ≡ refusal_text why }
     ensures size { length result.now ≤ 64 }
+    ensures code { 3 ≤ length result.now }
 {
     match why {
         BadCommand::Unknown => b"500 5.5.2 Unknown command\r\n",
@@ -37,6 +38,7 @@ fn refusal(why: BadCommand) -> &'static [u8]
 fn outcome_prefix(outcome: Outcome) -> &'static [u8]
     ensures value { (name : List ℕ) → result.now ++ name ++ crlf ≡ outcome_text outcome name }
     ensures size { length result.now ≤ 64 }
+    ensures code { 3 ≤ length result.now }
 {
     match outcome {
         Outcome::Stored => b"250 2.0.0 Stored for ",
@@ -52,6 +54,7 @@ fn outcome_prefix(outcome: Outcome) -> &'static [u8]
 fn pieces<'a>(reply: Reply, site: &'a Site) -> Option<Pieces<'a>>
     ensures text { IfSome result (λ p. p.0.now ++ p.1.now ++ p.2.now ≡ reply_text site.now reply) }
     ensures prefix { IfSome result (λ p. length p.0.now ≤ 64) }
+    ensures code { IfSome result (λ p. 3 ≤ length p.0.now) }
     ensures name { IfSome result (λ p. length p.1.now ≤ NAME_LIMIT) }
     ensures back { IfSome result (λ p. length p.2.now ≤ 128) }
     ensures offer { IfNone result (reply ≡ Reply.Offer) }
@@ -123,4 +126,15 @@ pub fn write_reply(reply: Reply, site: &Site, out: &mut [u8]) -> usize
     let named = put(out, 0, prefix);
     let after = put(out, named, name);
     put(out, after, back)
+}
+
+/// The code of a reply, its first three digits.
+#[tactic(auto, using(crate::proofs::ReplyTexts::code_of_pieces, crate::proofs::ReplyTexts::code_of_offer))]
+pub fn reply_code(reply: Reply, site: &Site) -> &'static [u8]
+    ensures { result.now ≡ take 3 (reply_text site.now reply) }
+{
+    match pieces(reply, site) {
+        Some((prefix, _, _)) => &prefix[..3],
+        None => b"250",
+    }
 }

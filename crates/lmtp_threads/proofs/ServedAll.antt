@@ -17,6 +17,7 @@ use Rattle.mail_post.specs.Channel.{Channel, Sender, Inbox, taken}
 use Rattle.mail_post.proofs.Offered.{none_gone}
 use Rattle.lmtp_lane.specs.LaneExchange.{for_box, lane_sorts}
 use Rattle.mail_world.specs.declared.limits.TheConstants.{READ_LIMIT, RECIPIENT_LIMIT}
+use Rattle.lmtp_talk.specs.Entries.{Entry}
 use Rattle.lmtp_talk.specs.Served.{terms}
 use Rattle.lmtp_lane.specs.LaneRun.{LaneBack, lane_end, HasServed}
 use Rattle.lmtp_lane.specs.Visits.{VisitsTold, conversations_of}
@@ -98,15 +99,22 @@ unfolding due
 due_is site lane b cs = refl
 
 -- what is told of a lane that handed this back
-abbrev told_by : VisitsTold → LaneBack → LaneTold
-told_by before r = record { before = before; after = r.finished; over = r.over; count = r.conversations }
+abbrev told_by : VisitsTold → Option (List Entry) → LaneBack → LaneTold
+told_by before earlier r = record {
+  before = before;
+  after = r.finished;
+  earlier = earlier;
+  later = r.told;
+  over = r.over;
+  count = r.conversations;
+}
 
 module _ {V C : Type 0} (May : C → ℕ → Type 0) (view : VisitsView V) where
   abbrev pub LaneOk : LaneTask V C → LaneBack → Type 0
   LaneOk j r = HasServed (terms j.site READ_LIMIT) (May j.clock) (view.MayGive j.visits) (lane_before view j) (lane_end j.lane r)
 
   abbrev parts : ReportParts LaneBack (Sender Note) (Inbox Slip) V ℕ
-  parts = lane_parts view.finished view.over
+  parts = lane_parts view
 
   abbrev lane_done : (j : LaneTask V C) (r : LaneBack) → LaneOk j r → LaneDone
   lane_done j r h = record { work = record { visits = h.visits; heard = h.heard }; deeds = h.exchanged.done.deeds }
@@ -147,7 +155,7 @@ module _ {V C : Type 0} (May : C → ℕ → Type 0) (view : VisitsView V) where
       row_is : slice_get given.rows k ≡ Some row
       inbox_is : slice_get given.inboxes k ≡ Some inbox
       report_is : slice_get reports k ≡ Some report
-      served : IsServedLane site (May clock) (view.MayGive visit) k (works k) (told_by (view.finished visit) report)
+      served : IsServedLane site (May clock) (view.MayGive visit) k (works k) (told_by (view.finished visit) (view.told visit) report)
       given_out : HasGiven (λ b. due site k b (conversations_of (works k).visits)) row report.senders
       heard : TookSlips (works k).heard inbox report.slips
       in_time : AreInTime lane_sorts (deeds_of k) (record { senders = row; inbox = inbox }) (record { senders = report.senders; inbox = report.slips })
@@ -167,7 +175,7 @@ module _ {V C : Type 0} (May : C → ℕ → Type 0) (view : VisitsView V) where
         let notes_due : flat_map (copies p.left.lane) (transactions p.left.site 0 (conversations_of h.visits)) ≡ x.accepted =
         x.first ∙ (ap (λ l. x.accepted ++ l) (x.all (x.whole no)) ∙ append-nil x.accepted) in
         let Served : LaneTask V C → LaneWork → Type 0 = λ j w.
-        IsServedLane j.site (May j.clock) (view.MayGive j.visits) j.lane w (told_by (view.finished j.visits) p.right) in
+        IsServedLane j.site (May j.clock) (view.MayGive j.visits) j.lane w (told_by (view.finished j.visits) (view.told j.visits) p.right) in
         let Given : LaneTask V C → LaneDone → Type 0 = λ j d. HasGiven (λ b. due j.site j.lane b (conversations_of d.work.visits)) j.senders p.right.senders in
         let Heard : LaneTask V C → LaneDone → Type 0 = λ j d. TookSlips d.work.heard j.slips (p.right.slips) in
         let InTime : LaneTask V C → LaneDone → Type 0 =
@@ -179,6 +187,7 @@ module _ {V C : Type 0} (May : C → ℕ → Type 0) (view : VisitsView V) where
         let came : h.came ≡ h.heard = merged_none h.came h.heard (subst (λ l. IsMerged h.came l h.heard) none_own h.exchanged.merged) in
         let served : Served p.left (lane_done p.left p.right h).work = record {
           visited = h.visited;
+          logged = h.logged;
           ended = h.ended no;
           counts = h.counts;
           verdicts = h.verdicts;
@@ -233,12 +242,20 @@ module _ {V C : Type 0} (May : C → ℕ → Type 0) (view : VisitsView V) where
           let old_is : l.visit ≡ old = same_at given.visits k l.visit old l.visit_is a in
           let count_is : l.report.conversations ≡ count =
           same_at columns.tallies k l.report.conversations count (at_column parts.tally reports columns.tallies of.tallies k l.report l.report_is) c in
-          let Served : V → VisitsTold → Bool → ℕ → Type 0 = λ x after over m.
-          IsServedLane site (May clock) (view.MayGive x) k (works k) (record { before = view.finished x; after = after; over = over; count = m }) in
-          subst (λ x. Served x (view.finished new) (view.over new) count) old_is
-          (subst (λ m. Served l.visit (view.finished new) (view.over new) m) count_is
-          (subst (λ o. Served l.visit (view.finished new) o l.report.conversations) tells.1
-          (subst (λ f. Served l.visit f l.report.over l.report.conversations) tells.0 l.served)));
+          let Served : V → VisitsTold → Option (List Entry) → Bool → ℕ → Type 0 = λ x after later over m.
+          IsServedLane site (May clock) (view.MayGive x) k (works k) (record {
+            before = view.finished x;
+            after = after;
+            earlier = view.told x;
+            later = later;
+            over = over;
+            count = m;
+          }) in
+          subst (λ x. Served x (view.finished new) (view.told new) (view.over new) count) old_is
+          (subst (λ m. Served l.visit (view.finished new) (view.told new) (view.over new) m) count_is
+          (subst (λ t. Served l.visit (view.finished new) t (view.over new) l.report.conversations) tells.2
+          (subst (λ o. Served l.visit (view.finished new) l.report.told o l.report.conversations) tells.1
+          (subst (λ f. Served l.visit f l.report.told l.report.over l.report.conversations) tells.0 l.served))));
       deeds = deeds_of;
       did = λ k below. (lane_is k below).did;
       in_turn = λ k below. (lane_is k below).in_turn;

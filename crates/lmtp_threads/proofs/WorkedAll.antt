@@ -12,9 +12,11 @@ use Rattle.mail_runs.specs.Deeds.{turns_of}
 use Rattle.mail_runs.specs.Timed.{TimedDeed, whats}
 use Rattle.mail_post.specs.InTime.{AreInTime}
 use Rattle.mail_post.specs.Channel.{Channel, Sender, Inbox, taken}
+use Rattle.box_worker.specs.declared.turn.TurnEnd.{TurnEnd}
 use Rattle.box_worker.specs.Told.{worker_of, owed_to}
 use Rattle.box_worker.specs.TurnTimes.{worker_sorts}
-use Rattle.box_worker.specs.Worked.{WorkerBack, idle, HasWorked}
+use Rattle.box_worker.specs.TurnEnds.{TellsTurns}
+use Rattle.box_worker.specs.Worked.{WorkerBack, HasWorked}
 use Rattle.box_worker.proofs.Handling.{was_closed, none_came_back}
 use Rattle.mail_post.proofs.Offered.{none_gone}
 use Rattle.lmtp_threads.specs.declared.tally.Tally.{Tally}
@@ -22,7 +24,7 @@ use Rattle.lmtp_threads.specs.Works.{SpoolsView, WorkerShare, share_of, setting_
 use Rattle.lmtp_threads.specs.Channels.{AreRows, none, lane_at, HasLane, HasGiven}
 use Rattle.lmtp_threads.specs.Columns.{ReportParts, HoldReports}
 use Rattle.lmtp_threads.specs.Reports.{WorkerColumns, worker_parts, tally_of}
-use Rattle.lmtp_threads.specs.Tasks.{BoxTask, box_task, box_tasks, WorkersGiven, HaveWorked, TookAllNotes}
+use Rattle.lmtp_threads.specs.Tasks.{BoxTask, box_task, box_tasks, box_before, WorkersGiven, HaveWorked, TookAllNotes}
 use Rattle.lmtp_threads.proofs.Pairs.{AllZip-length, picks, picked}
 use Rattle.lmtp_threads.proofs.ChannelRows.{at, same_at, at_each, zip_at, rows_given}
 use Rattle.lmtp_threads.proofs.Filling.{each_fails, at_column, column_count}
@@ -80,10 +82,10 @@ none_done = record { work = record { taken = []; turns = [] }; deeds = [] }
 
 module _ {S G : Type 0} (view : SpoolsView S) where
   abbrev pub BoxOk : BoxTask S → WorkerBack G → Type 0
-  BoxOk j r = HasWorked (setting_of j.share (worker_of j.slips)) view.manner j.receiver r.receiver (idle j.slips (view.state j.spool)) r.worker
+  BoxOk j r = HasWorked (setting_of j.share (worker_of j.slips)) view.manner j.receiver r.receiver (box_before view j) r.worker
 
   abbrev parts : ReportParts (WorkerBack G) (Sender Slip) (Inbox Note) S Tally
-  parts = worker_parts view.state
+  parts = worker_parts view
 
   abbrev box_done : (j : BoxTask S) (r : WorkerBack G) → BoxOk j r → BoxDone
   box_done j r h = record { work = record { taken = taken r.receiver; turns = h.handled.turns }; deeds = h.turns.deeds }
@@ -125,6 +127,7 @@ module _ {S G : Type 0} (view : SpoolsView S) where
       spool_is : slice_get given.spools k ≡ Some spool
       report_is : slice_get reports k ≡ Some report
       stored : IsBoxWork (setting_of share k) view.manner (works k) (view.state spool) report.worker.mailbox.state (tally_of report.worker)
+      observed : TellsTurns (works k).turns (view.told spool) report.worker.told
       given_out : HasGiven (λ j. owed_to k (outcomes_in (works k).turns) j (works k).taken) row report.worker.slips
       took : TookAllNotes (works k).taken inbox report.receiver
       did : whats (deeds_of k) ≡ turns_of k (works k).taken (outcomes_in (works k).turns)
@@ -141,6 +144,7 @@ module _ {S G : Type 0} (view : SpoolsView S) where
         let worker_is : worker_of t.row ≡ k = numbered k first.value t.row (are.cells k 0 t.row first.value t.row_is first.is) in
         let Stored : WorkerShare → ℕ → S → BoxWork → Type 0 =
         λ by b spool w. IsBoxWork (setting_of by b) view.manner w (view.state spool) p.right.worker.mailbox.state (tally_of p.right.worker) in
+        let Observed : S → BoxWork → Type 0 = λ spool w. TellsTurns w.turns (view.told spool) p.right.worker.told in
         let Given : ℕ → List (Sender Slip) → BoxWork → Type 0 = λ b row w. HasGiven (λ j. owed_to b (outcomes_in w.turns) j w.taken) row p.right.worker.slips in
         let Took : Inbox Note → BoxWork → Type 0 = λ inbox w. TookAllNotes w.taken inbox p.right.receiver in
         let Did : ℕ → BoxDone → Type 0 = λ b d. whats d.deeds ≡ turns_of b d.work.taken (outcomes_in d.work.turns) in
@@ -186,6 +190,8 @@ module _ {S G : Type 0} (view : SpoolsView S) where
           spool_is = t.spool_is;
           report_is = p.right_is;
           stored = subst (λ b. Stored share b t.spool (works k)) worker_is stored_at;
+          observed = subst (λ (j : BoxTask S). Observed j.spool (works k)) t.is
+              (subst (λ d. Observed p.left.spool d.work) (sym p.picked) handled.observed);
           given_out = subst (λ b. Given b t.row (works k)) worker_is given_at;
           took = subst (λ (j : BoxTask S). Took j.receiver (works k)) t.is (subst (λ d. Took p.left.receiver d.work) (sym p.picked) took);
           did = subst (λ b. Did b (dones k)) worker_is did_at;
@@ -208,8 +214,14 @@ module _ {S G : Type 0} (view : SpoolsView S) where
           same_at columns.tallies k (tally_of l.report.worker) tally (at_column parts.tally reports columns.tallies of.tallies k l.report l.report_is) c in
           let Stored : S → SpoolState → Tally → Type 0 = λ x after n. IsBoxWork (setting_of share k) view.manner (works k) (view.state x) after n in
           subst (λ n. Stored old (view.state new) n) tally_is
-          (subst (λ after. Stored old after (tally_of l.report.worker)) tells
+          (subst (λ after. Stored old after (tally_of l.report.worker)) tells.0
           (subst (λ x. Stored x l.report.worker.mailbox.state (tally_of l.report.worker)) old_is l.stored));
+      observed = λ k old new a b.
+          let l = box_is k (slice_get_within given.spools k old a) in
+          let tells = zip_at parts.TellsOf reports columns.lent of.lent k l.report new l.report_is b in
+          let old_is : l.spool ≡ old = same_at given.spools k l.spool old l.spool_is a in
+          let Observed : S → Option (List TurnEnd) → Type 0 = λ x later. TellsTurns (works k).turns (view.told x) later in
+          subst (λ later. Observed old later) tells.1 (subst (λ x. Observed x l.report.worker.told) old_is l.observed);
       deeds = deeds_of;
       did = λ k below. (box_is k below).did;
       in_time = λ k below.

@@ -17,15 +17,18 @@ use Rattle.mail_post.specs.Channel.{Channel, Sender, Inbox, taken}
 use Rattle.mail_post.specs.Offered.{HaveNumber}
 use Rattle.mail_post.specs.declared.channel.Gone.TheVariants.{Closed}
 use Rattle.box_worker.specs.Told.{worker_of, owed_to}
+use Rattle.box_worker.specs.TurnEnds.{TellsTurns}
 use Rattle.box_worker.specs.TurnTimes.{worker_sorts}
+use Rattle.box_worker.specs.Worked.{WorkerState, idle}
 use Rattle.lmtp_threads.specs.declared.tally.Tally.{Tally}
+use Rattle.lmtp_talk.specs.Entries.{with_entries}
 use Rattle.lmtp_talk.specs.Peer.{PeerState}
 use Rattle.lmtp_talk.specs.Served.{terms}
 use Rattle.mail_world.specs.Counts.{counted}
 use Rattle.lmtp_lane.specs.LaneAccount.{IsAnswered}
 use Rattle.lmtp_lane.specs.LaneExchange.{lane_sorts}
 use Rattle.lmtp_lane.specs.LaneRun.{LaneState}
-use Rattle.lmtp_lane.specs.Visits.{HasVisited, conversations_of}
+use Rattle.lmtp_lane.specs.Visits.{HasVisited, conversations_of, lane_entries}
 use Rattle.lmtp_threads.specs.Channels.{AreRows, none}
 use Rattle.lmtp_threads.specs.Works.{VisitsView, LaneWork, LaneTold, lane_told, WorkerShare, share_of, setting_of}
 use Rattle.lmtp_threads.specs.Works.{SpoolsView, BoxWork, IsBoxWork}
@@ -73,6 +76,7 @@ abbrev pub lane_before : {V C : Type 0} → VisitsView V → LaneTask V C → La
 lane_before view task = record {
   finished = view.finished task.visits;
   over = view.over task.visits;
+  told = view.told task.visits;
   ends = record { lane = task.lane; senders = task.senders; inbox = task.slips; gone = false };
   conversations = 0;
 }
@@ -102,10 +106,15 @@ module _ {S : Type 0} where
     pub lanes : length task.slips ≡ task.receiver.lanes
     pub worker : HaveNumber (worker_of task.slips) task.slips
 
+-- where its worker begins
+abbrev pub box_before : {S : Type 0} → SpoolsView S → BoxTask S → WorkerState
+box_before view task = idle task.slips (view.state task.spool) (view.told task.spool)
+
 -- as IsLaneWork, with the outcomes as they were gathered
 pub record IsServedLane (site : Site) (May : ℕ → Type 0) (MayCome : PeerState → Type 0) (k : ℕ) (work : LaneWork)
     (told : LaneTold) : Type 0 where
   pub visited : HasVisited (terms site READ_LIMIT) MayCome told.before told.after work.visits
+  pub logged : told.later ≡ with_entries told.earlier (lane_entries site 0 work.visits)
   pub ended : told.over ≡ true
   pub counts : told.count ≡ counted (length work.visits)
   pub verdicts : VerdictsFit site (conversations_of work.visits)
@@ -189,6 +198,8 @@ pub record HaveWorked {S : Type 0} (site : Site) (view : SpoolsView S) (channels
       → slice_get new.lent b ≡ Some after → slice_get new.tallies b ≡ Some tally
       → IsBoxWork (setting_of (share_of site old.quota) b) view.manner (works b) (view.state before)
       (view.state after) tally
+  pub observed : (b : ℕ) (before after : S) → slice_get old.spools b ≡ Some before → slice_get new.lent b ≡ Some after
+      → TellsTurns (works b).turns (view.told before) (view.told after)
   pub rows_are : AreRows (length old.spools) channels
       (λ b k. owed_to b (outcomes_in (works b).turns) k (works b).taken) new.rows
   pub took : (b : ℕ) (before after : Inbox Note) → slice_get old.inboxes b ≡ Some before

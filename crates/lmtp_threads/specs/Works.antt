@@ -9,33 +9,53 @@ use Rattle.mail_world.specs.Turns.{Standing, Told}
 use Rattle.mail_runs.specs.Courses.{outcomes_in}
 use Rattle.lmtp_text.specs.Calendar.{civil_at}
 use Rattle.mbox_record.specs.Spool.{SpoolState}
+use Rattle.box_worker.specs.declared.turn.TurnEnd.{TurnEnd}
 use Rattle.box_worker.specs.Limits.{Setting}
 use Rattle.box_worker.specs.Told.{is_stored, says_over_quota}
 use Rattle.box_worker.specs.Turned.{Manner, manner_of, turned, HasTurned}
+use Rattle.lmtp_talk.specs.Entries.{Entry}
 use Rattle.lmtp_talk.specs.Peer.{PeerState}
 use Rattle.lmtp_lane.specs.Visits.{VisitsTold, Visit}
 use Rattle.lmtp_threads.specs.declared.tally.Tally.{Tally}
+use Rattle.lmtp_threads.specs.declared.watched.Watched.{Watched}
 
--- what contracts see of one kind of clients: those that may come, the conversations that have ended, and whether no
--- client is left
+-- what contracts see of one kind of clients: those that may come, the conversations that have ended, whether no client
+-- is left, and what their observer was told
 pub record VisitsView (V : Type 0) : Type 1 where
   pub MayGive : V → PeerState → Type 0
   pub finished : V → VisitsTold
   pub over : V → Bool
+  pub told : V → Option (List Entry)
 
--- the same, part by part
-abbrev pub visits_view : {V : Type 0} → (V → PeerState → Type 0) → (V → VisitsTold) → (V → Bool) → VisitsView V
-visits_view MayGive finished over = record { MayGive = MayGive; finished = finished; over = over }
+-- the same, part by part, of clients and an observer beside them
+abbrev pub visits_view : {V O : Type 0} → (V → PeerState → Type 0) → (V → VisitsTold) → (V → Bool)
+    → (O → Option (List Entry)) → VisitsView (Watched V O)
+visits_view MayGive finished over told = record {
+  MayGive = λ visits. MayGive visits.inner;
+  finished = λ visits. finished visits.inner;
+  over = λ visits. over visits.inner;
+  told = λ visits. told visits.observer;
+}
 
--- what contracts see of one kind of spools: how each stands, and how they change between two turns
+-- a client was handed out, and has not come back
+abbrev pub is_out : {V O : Type 0} → (V → Bool) → Watched V O → Bool
+is_out out visits = out visits.inner
+
+-- what contracts see of one kind of spools: how each stands, how they change between two turns, and what their observer
+-- was told
 pub record SpoolsView (S : Type 0) : Type 1 where
   pub state : S → SpoolState
   pub manner : Manner
+  pub told : S → Option (List TurnEnd)
 
--- the same, part by part
-abbrev pub spools_view : {S : Type 0} → (S → SpoolState) → (Standing → Standing → Type 0) → (Bool → Bool → Type 0)
-    → SpoolsView S
-spools_view state MayFind MayRefuse = record { state = state; manner = manner_of MayFind MayRefuse }
+-- the same, part by part, of spools and an observer beside each
+abbrev pub spools_view : {S T : Type 0} → (S → SpoolState) → (Standing → Standing → Type 0) → (Bool → Bool → Type 0)
+    → (T → Option (List TurnEnd)) → SpoolsView (Watched S T)
+spools_view state MayFind MayRefuse told = record {
+  state = λ spool. state spool.inner;
+  manner = manner_of MayFind MayRefuse;
+  told = λ spool. told spool.observer;
+}
 
 -- what a lane did: the clients that it served, and the slips that it heard
 pub record LaneWork : Type 0 where
@@ -59,11 +79,13 @@ pub record BoxWork : Type 0 where
   pub taken : List Note
   pub turns : List Told
 
--- what is told of a lane's run: the conversations that had ended before it and after it, whether no client was left,
--- and how many it held
+-- what is told of a lane's run: the conversations that had ended before it and after it, what its observer had been
+-- told earlier and later, whether no client was left, and how many it held
 pub record LaneTold : Type 0 where
   pub before : VisitsTold
   pub after : VisitsTold
+  pub earlier : Option (List Entry)
+  pub later : Option (List Entry)
   pub over : Bool
   pub count : ℕ
 
@@ -71,6 +93,8 @@ abbrev pub lane_told : {V : Type 0} → VisitsView V → V → V → ℕ → Lan
 lane_told view before after count = record {
   before = view.finished before;
   after = view.finished after;
+  earlier = view.told before;
+  later = view.told after;
   over = view.over after;
   count = count;
 }

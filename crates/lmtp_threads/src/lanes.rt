@@ -6,7 +6,7 @@ ghost use Rattle.std.specs.Arc.{arc_value};
 ghost use Rattle.lmtp_threads.specs.Grid.{lists};
 ghost use Rattle.lmtp_threads.specs.Columns.{no_columns, TakesReport, HoldReports};
 ghost use Rattle.lmtp_threads.specs.Reports.{lane_parts};
-ghost use Rattle.lmtp_threads.specs.Works.{visits_view};
+ghost use Rattle.lmtp_threads.specs.Works.{visits_view, is_out};
 ghost use Rattle.lmtp_threads.specs.Tasks.{lane_task, lane_tasks, lane_before, IsLaneReady, HaveServedAll};
 ghost use Rattle.mail_world.specs.declared.limits.TheConstants.{LANE_LIMIT};
 ghost use Rattle.mail_world.specs.declared.limits.TheConstants.{READ_LIMIT};
@@ -16,7 +16,9 @@ ghost use Rattle.lmtp_lane.specs.LaneRun.{lane_end, HasServed};
 use crate::columns::Columns;
 use crate::crew::{Crew, Refused, Task};
 use crate::shared::Shared;
+use crate::watched::Watched;
 use lmtp_lane::{Clock, Desk, LaneReport, Visits, lane_run};
+use lmtp_talk::Observer;
 use lmtp_text::Site;
 use mail_post::{Sender, SlipReceiver};
 use msg_depot::{Depot, DepotName};
@@ -52,19 +54,20 @@ impl<N: DepotName, C: Clock> LaneBase<N, C> {
 
 /// What a lane is given.
 #[derive(Drop)]
-pub struct LaneJob<N: DepotName, V: Visits, C: Clock> {
+pub struct LaneJob<N: DepotName, V: Visits, O: Observer, C: Clock> {
     lane: u32,
     base: LaneBase<N, C>,
-    visits: V,
+    visits: Watched<V, O>,
     senders: Vec<Sender<N>>,
     slips: SlipReceiver,
 }
 
-impl<N: DepotName, V: Visits, C: Clock> Model for LaneJob<N, V, C> {
+impl<N: DepotName, V: Visits, O: Observer, C: Clock> Model for LaneJob<N, V, O, C> {
     ghost use Rattle.std.specs.Arc.{arc_value};
     ghost use Rattle.lmtp_threads.specs.Tasks.{LaneTask};
+    ghost use Rattle.lmtp_threads.specs.declared.watched.Watched.{Watched};
 
-    ghost Value = { LaneTask V C };
+    ghost Value = { LaneTask (Watched V O) C };
 
     ghost view = { λ j. record {
       lane = j.lane;
@@ -77,21 +80,22 @@ impl<N: DepotName, V: Visits, C: Clock> Model for LaneJob<N, V, C> {
     } };
 }
 
-impl<N, V, C> Task for LaneJob<N, V, C>
+impl<N, V, O, C> Task for LaneJob<N, V, O, C>
 where
     N: DepotName + Send + Sync + 'static,
     V: Visits + Send + 'static,
     V::P: Send + 'static,
+    O: Observer + Send + 'static,
     C: Clock + Send + Sync + 'static,
 {
-    type Output = LaneReport<N, V>;
+    type Output = LaneReport<N, V, O>;
 
-    ghost ready = { λ job. IsLaneReady V.out job };
+    ghost ready = { λ job. IsLaneReady (is_out V.out) job };
 
-    ghost done = { λ job r. HasServed (terms job.site READ_LIMIT) (C.May job.clock) (V.MayGive job.visits)
-        (lane_before (visits_view V.MayGive V.finished V.over) job) (lane_end job.lane r) };
+    ghost done = { λ job r. HasServed (terms job.site READ_LIMIT) (C.May job.clock) (V.MayGive job.visits.inner)
+        (lane_before (visits_view V.MayGive V.finished V.over O.told) job) (lane_end job.lane r) };
 
-    fn run<R: Wait>(self, rt: &R) -> LaneReport<N, V> {
+    fn run<R: Wait>(self, rt: &R) -> LaneReport<N, V, O> {
         let LaneJob {
             lane,
             base,
@@ -105,18 +109,21 @@ where
             depot,
             clock,
         } = base;
+        let Watched { inner, observer } = visits;
         let clock: &C = &clock;
-        lane_run(rt, lane, &site, desk, visits, &depot, senders, slips, clock)
+        lane_run(
+            rt, lane, &site, desk, inner, &depot, senders, slips, clock, observer,
+        )
     }
 }
 
 // The jobs of all lanes, in their order.
-fn lane_jobs<N: DepotName, V: Visits, C: Clock>(
+fn lane_jobs<N: DepotName, V: Visits, O: Observer, C: Clock>(
     shared: &Shared<N, C>,
-    visits: Vec<V>,
+    visits: Vec<Watched<V, O>>,
     rows: Vec<Vec<Sender<N>>>,
     takers: Vec<SlipReceiver>,
-) -> Result<Vec<LaneJob<N, V, C>>, AllocError>
+) -> Result<Vec<LaneJob<N, V, O, C>>, AllocError>
     requires few { vec_len visits ≤ LANE_LIMIT }
     requires rows { vec_len rows ≡ vec_len visits }
     requires takers { vec_len takers ≡ vec_len visits }
@@ -147,31 +154,41 @@ fn lane_jobs<N: DepotName, V: Visits, C: Clock>(
     Ok(jobs)
 }
 
-/// What the lanes hand back: their ends of the channels, their visits, and how many conversations each held.
-pub type LaneColumns<N, V> = Columns<Sender<N>, SlipReceiver, V, u64>;
+/// What the lanes hand back: their ends of the channels, their visits and observers, and how many conversations each
+/// held.
+pub type LaneColumns<N, V, O> = Columns<Sender<N>, SlipReceiver, Watched<V, O>, u64>;
 
 // One more lane's report.
-fn take_lane<N: DepotName, V: Visits>(columns: &mut LaneColumns<N, V>, report: LaneReport<N, V>)
+fn take_lane<N: DepotName, V: Visits, O: Observer>(
+    columns: &mut LaneColumns<N, V, O>,
+    report: LaneReport<N, V, O>,
+)
     requires { length columns.old.rows < columns.old.room }
-    ensures { TakesReport (lane_parts V.finished V.over) report columns.old columns.new }
+    ensures { TakesReport (lane_parts (visits_view V.MayGive V.finished V.over O.told)) report columns.old
+        columns.new }
 {
     let LaneReport {
         visits,
+        observer,
         senders,
         slips,
         conversations,
         gone,
     } = report;
-    columns.push(senders, slips, visits, conversations, gone);
+    let watched = Watched {
+        inner: visits,
+        observer,
+    };
+    columns.push(senders, slips, watched, conversations, gone);
 }
 
 // Takes the reports apart. There is just enough room.
-fn take_lanes<N: DepotName, V: Visits>(
-    columns: LaneColumns<N, V>,
-    reports: Vec<LaneReport<N, V>>,
-) -> LaneColumns<N, V>
+fn take_lanes<N: DepotName, V: Visits, O: Observer>(
+    columns: LaneColumns<N, V, O>,
+    reports: Vec<LaneReport<N, V, O>>,
+) -> LaneColumns<N, V, O>
     requires { columns ≡ no_columns (vec_len reports) }
-    ensures { HoldReports (lane_parts V.finished V.over) reports.items result }
+    ensures { HoldReports (lane_parts (visits_view V.MayGive V.finished V.over O.told)) reports.items result }
 {
     let mut columns = columns;
     for report in reports {
@@ -182,30 +199,33 @@ fn take_lanes<N: DepotName, V: Visits>(
 
 /// The lanes before they run, with the memory for what they hand back.
 #[derive(Drop)]
-pub struct Lanes<N, V, C>
+pub struct Lanes<N, V, O, C>
 where
     N: DepotName + Send + Sync + 'static,
     V: Visits + Send + 'static,
     V::P: Send + 'static,
+    O: Observer + Send + 'static,
     C: Clock + Send + Sync + 'static,
 {
-    jobs: Vec<LaneJob<N, V, C>>,
-    crew: Crew<LaneJob<N, V, C>>,
-    columns: LaneColumns<N, V>,
+    jobs: Vec<LaneJob<N, V, O, C>>,
+    crew: Crew<LaneJob<N, V, O, C>>,
+    columns: LaneColumns<N, V, O>,
 }
 
-impl<N, V, C> Model for Lanes<N, V, C>
+impl<N, V, O, C> Model for Lanes<N, V, O, C>
 where
     N: DepotName + Send + Sync + 'static,
     V: Visits + Send + 'static,
     V::P: Send + 'static,
+    O: Observer + Send + 'static,
     C: Clock + Send + Sync + 'static,
 {
     ghost use Rattle.std.specs.Prelude.{◌≡◌, [], List, vec_len};
     ghost use Rattle.lmtp_threads.specs.Columns.{no_columns};
     ghost use Rattle.lmtp_threads.specs.Tasks.{LaneTask};
+    ghost use Rattle.lmtp_threads.specs.declared.watched.Watched.{Watched};
 
-    ghost Value = { List (LaneTask V C) };
+    ghost Value = { List (LaneTask (Watched V O) C) };
 
     ghost view = { λ l. l.jobs.items };
 
@@ -213,20 +233,21 @@ where
         × (l.columns ≡ no_columns (vec_len l.jobs)) };
 }
 
-impl<N, V, C> Lanes<N, V, C>
+impl<N, V, O, C> Lanes<N, V, O, C>
 where
     N: DepotName + Send + Sync + 'static,
     V: Visits + Send + 'static,
     V::P: Send + 'static,
+    O: Observer + Send + 'static,
     C: Clock + Send + Sync + 'static,
 {
     /// A lane for each of the visits, in their order, with its row of senders and its receiver of slips.
     pub fn new(
         shared: &Shared<N, C>,
-        visits: Vec<V>,
+        visits: Vec<Watched<V, O>>,
         rows: Vec<Vec<Sender<N>>>,
         takers: Vec<SlipReceiver>,
-    ) -> Result<Lanes<N, V, C>, AllocError>
+    ) -> Result<Lanes<N, V, O, C>, AllocError>
         requires few { vec_len visits ≤ LANE_LIMIT }
         requires rows { vec_len rows ≡ vec_len visits }
         requires takers { vec_len takers ≡ vec_len visits }
@@ -245,10 +266,10 @@ where
     pub fn run<R: Threads + Wait + Copy + Send + 'static>(
         self,
         rt: R,
-    ) -> Result<LaneColumns<N, V>, Refused>
-        requires { AllByRecursion (IsLaneReady V.out) self }
+    ) -> Result<LaneColumns<N, V, O>, Refused>
+        requires { AllByRecursion (IsLaneReady (is_out V.out)) self }
         ensures { IfOk result (λ columns. columns.gone ≡ false → HaveServedAll C.May
-            (visits_view V.MayGive V.finished V.over) self columns) }
+            (visits_view V.MayGive V.finished V.over O.told) self columns) }
     {
         let Lanes {
             jobs,

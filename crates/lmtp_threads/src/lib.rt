@@ -12,6 +12,7 @@ mod grid;
 mod lanes;
 mod shared;
 mod tally;
+mod watched;
 mod workers;
 
 pub use channels::{Closing, open_channels, settle_all};
@@ -20,4 +21,5 @@ pub use crew::{Crew, Refused, Task};
 pub use lanes::{LaneColumns, LaneJob, Lanes};
 pub use shared::Shared;
 pub use tally::Tally;
+pub use watched::Watched;
 pub use workers::{WorkerColumns, WorkerJob, WorkerReports, Workers, Working};

@@ -1,9 +1,10 @@
 -- A server that words ask for: what it comes to, and why it didn't run, cause by cause.
-use Rattle.std.proofs.Common.{◌≡◌, ◌∙◌, ◌⊎◌, inl, inr, ℕ, Bool, false, List, Option, length, map, None, ap, sym, subst}
+use Rattle.std.proofs.Common.{◌≡◌, ◌∙◌, ◌⊎◌, inl, inr, ℕ, Bool, false, List, [], Option, length, map, None, IfSome, ap, sym, subst}
 use Rattle.std.specs.Arc.{arc_value}
 use Rattle.std.specs.declared.alloc.Global.{Global}
 use Rattle.std.specs.declared.sync.Arc.{Arc}
 use Rattle.std.specs.Prelude.{Err, Ok, Result}
+use Rattle.std.specs.List.{AllByRecursion}
 use Rattle.mail_world.specs.Site.{Site}
 use Rattle.lmtp_talk.specs.Entries.{Entry}
 use Rattle.lmtp_threads.specs.Works.{SpoolsView}
@@ -88,9 +89,10 @@ pub served_as_asked : (C : Type 0) {G S : Type 0} (told : G → Option (List Ent
     → IsListenedAt words opened → (site ≡ named_site words.site) × (site_fault words.site ≡ None)
     → serving ≡ serving_asked words opened.socket curfew
     → (length spools ≡ length words.site.boxes.items) × (map held spools ≡ mailboxes_asked words)
+    × AllByRecursion (λ spool. IfSome (view.told spool) (λ ends. ends ≡ [])) spools
     → IsCurfewOf (ends_asked words) (arc_value curfew)
     → (◌≡◌ {A = Result Served HouseFault} (Ok served) (Err house.Size)) ⊎ IsSize site serving.sizes words.lanes (length spools) (length spools)
-    → IsServerRun C site view told shows serving spools before after served
+    → IsServerRun site view told shows serving spools before after served
     → IsServedAsAsked C told shows view held words before after served
 served_as_asked C told shows view held words before after served site serving opened curfew spools serves listens made asked boxes ends good ran = record {
   serves = serves;
@@ -104,8 +106,9 @@ served_as_asked C told shows view held words before after served site serving op
   spools = spools;
   each_box = boxes.0;
   mailboxes = boxes.1;
+  untold = boxes.2;
   ran =
-      let R : Site → Serving ServerSocket (ServerCurfew C) → Type 0 = λ s z. IsServerRun C s view told shows z spools before after served in
+      let R : Site → Serving ServerSocket (ServerCurfew C) → Type 0 = λ s z. IsServerRun s view told shows z spools before after served in
       subst (λ z. R (named_site words.site) z) asked (subst (λ s. R s serving) made.0 ran);
 }
 

@@ -1,8 +1,9 @@
 -- What a run of the program comes to: the words say what is asked for, and then come what was done, the lines on
 -- standard error and the status.
 use Rattle.std.specs.Prelude.{◌≡◌, ◌⊎◌, ◌*◌, ◌-◌, ◌^◌, min, ℕ, Bool, true, false, List, [], ◌++◌, length, map, Option}
-use Rattle.std.specs.Prelude.{Some, None, Contains}
+use Rattle.std.specs.Prelude.{Some, None, IfSome, Contains}
 use Rattle.std.specs.Arc.{arc_value}
+use Rattle.std.specs.List.{AllByRecursion}
 use Rattle.std.specs.declared.sync.Arc.{Arc}
 use Rattle.std.specs.declared.alloc.Global.{Global}
 use Rattle.std.specs.Option.{option_map_or}
@@ -135,8 +136,8 @@ IsSizeAsked words =
 
 -- A server that its words asked for ran: where they say, at the site that they name, with their sizes, for as many
 -- conversations within their bounds, until the end that they say, with addresses in its lines just where they say so,
--- and over a spool for each mailbox, which is had as they say (`held` is how one is). `before` and `after` are what
--- standard output held.
+-- and over a spool for each mailbox, which is had as they say (`held` is how one is), and whose observer was told of no
+-- turn yet. `before` and `after` are what standard output held.
 pub record IsServedAsAsked (C : Type 0) {G S : Type 0} (told : G → Option (List Entry)) (shows : G → Bool)
     (view : SpoolsView S) (held : S → Held) (words : ServeWords) (before after : Option (List ℕ))
     (served : ServedRun) : Type 0 where
@@ -150,7 +151,8 @@ pub record IsServedAsAsked (C : Type 0) {G S : Type 0} (told : G → Option (Lis
   pub spools : List S
   pub each_box : length spools ≡ length words.site.boxes.items
   pub mailboxes : map held spools ≡ mailboxes_asked words
-  pub ran : IsServerRun C (named_site words.site) view told shows (serving_asked words opened.socket curfew) spools
+  pub untold : AllByRecursion (λ spool. IfSome (view.told spool) (λ ends. ends ≡ [])) spools
+  pub ran : IsServerRun (named_site words.site) view told shows (serving_asked words opened.socket curfew) spools
       before after served
 
 -- why none ran though its site is sound: a mailbox's file, or only their folder where it is to start anyway, what it

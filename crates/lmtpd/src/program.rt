@@ -15,12 +15,14 @@ use crate::copy::{Copied, copy_asked, report_copied};
 use crate::lacking::rehearsal_fault;
 use crate::rehearse::rehearse_filled;
 use crate::serve::{ServeDone, report_served, serve_filled};
+use box_worker::TurnObserver;
+use lmtp_house::Observer;
 use lmtpd_check::Checked;
 use lmtpd_copy::{CopyTarget, TargetFile};
-use lmtpd_log::{LaneLog, LineLog, LogSink};
+use lmtpd_log::{LaneLog, LineLog, LogSink, MailboxLog};
 use lmtpd_rehearse::Rehearsed;
 use lmtpd_serve::Served;
-use lmtpd_setup::{Exit, ServedMailbox, ServerLog, Stop, report_fault};
+use lmtpd_setup::{Exit, ServerLog, Stop, WaitingMailbox, report_fault};
 use lmtpd_words::{Words, is_journal, read_words};
 use mbox_rd::{FileLock, MailboxFile, MailboxSource, RangeLock, Spool, StdMailboxFile};
 use std::env::Env;
@@ -77,11 +79,10 @@ where
     W: Write + Drop + Send + 'static,
     E: Write,
     ensures done { IsDoneAsAsked (streams_of R.remaining W.contents) (IsFilled P.File.remaining)
-        (λ asked after. IsServedAsAsked H (⟦<LineLog<LogSink<ServerLog<H>>, H> as LaneLog>⟧.told)
+        (λ asked after. IsServedAsAsked H (⟦<LineLog<LogSink<ServerLog<H>>, H> as Observer>⟧.told)
         (⟦<LineLog<LogSink<ServerLog<H>>, H> as LaneLog>⟧.addresses)
-        (spools_view (⟦<ServedMailbox<H, ServerLog<H>> as Spool>⟧.state)
-        (⟦<ServedMailbox<H, ServerLog<H>> as Spool>⟧.MayFind)
-        (⟦<ServedMailbox<H, ServerLog<H>> as Spool>⟧.MayRefuse))
+        (spools_view (⟦<WaitingMailbox<H> as Spool>⟧.state) (⟦<WaitingMailbox<H> as Spool>⟧.MayFind)
+        (⟦<WaitingMailbox<H> as Spool>⟧.MayRefuse) (⟦<MailboxLog<LogSink<ServerLog<H>>> as TurnObserver>⟧.told))
         held_as asked (W.contents writer) (W.contents after))
         (IsCheckedAsAsked P.File.remaining W.contents (W.contents writer))
         (IsCopiedAsAsked (⟦<StdMailboxFile<H> as MailboxFile>⟧.state) (⟦<StdMailboxFile<H> as MailboxSource>⟧.unread)
@@ -119,11 +120,10 @@ where
     R: Read + Drop + Send + 'static,
     W: Write + Drop + Send + 'static,
     ensures { IsDoneAsAsked (streams_of R.remaining W.contents) (IsFilled P.File.remaining)
-        (λ asked after. IsServedAsAsked H (⟦<LineLog<LogSink<ServerLog<H>>, H> as LaneLog>⟧.told)
+        (λ asked after. IsServedAsAsked H (⟦<LineLog<LogSink<ServerLog<H>>, H> as Observer>⟧.told)
         (⟦<LineLog<LogSink<ServerLog<H>>, H> as LaneLog>⟧.addresses)
-        (spools_view (⟦<ServedMailbox<H, ServerLog<H>> as Spool>⟧.state)
-        (⟦<ServedMailbox<H, ServerLog<H>> as Spool>⟧.MayFind)
-        (⟦<ServedMailbox<H, ServerLog<H>> as Spool>⟧.MayRefuse))
+        (spools_view (⟦<WaitingMailbox<H> as Spool>⟧.state) (⟦<WaitingMailbox<H> as Spool>⟧.MayFind)
+        (⟦<WaitingMailbox<H> as Spool>⟧.MayRefuse) (⟦<MailboxLog<LogSink<ServerLog<H>>> as TurnObserver>⟧.told))
         held_as asked (W.contents writer) (W.contents after))
         (IsCheckedAsAsked P.File.remaining W.contents (W.contents writer))
         (IsCopiedAsAsked (⟦<StdMailboxFile<H> as MailboxFile>⟧.state) (⟦<StdMailboxFile<H> as MailboxSource>⟧.unread)

@@ -1,7 +1,7 @@
 -- What contracts see of what was opened, and of what wasn't.
 use Rattle.std.specs.Prelude.{◌≡◌, ℕ, List, Option, Some, None, bit_and, string_bytes}
-use Rattle.lmtp_lane.specs.declared.tcp.listener.Client.{Client}
-use Rattle.lmtp_lane.specs.declared.tcp.listener.Client.TheVariants as who
+use Rattle.lmtp_talk.specs.declared.client.Client.{Client}
+use Rattle.lmtp_talk.specs.declared.client.Client.TheVariants as who
 use Rattle.lmtp_lane.specs.declared.tcp.listener.Endpoint.{Endpoint}
 use Rattle.lmtp_lane.specs.declared.tcp.listener.Endpoint.TheVariants as endpoint
 use Rattle.lmtpd_listen.specs.declared.client.ClientSocket.{ClientSocket}

@@ -5,7 +5,8 @@ ghost use Rattle.lmtpd_listen.specs.Opened.{IsClient, IsEndpoint, socket_path};
 
 use crate::client::ClientSocket;
 use crate::fault::last_error;
-use lmtp_lane::{Client, Endpoint, Listener, WAIT_MS};
+use lmtp_lane::{Endpoint, Listener, WAIT_MS};
+use lmtp_talk::Client;
 use os::FromRawFd;
 use std::io;
 use std::net::TcpListener;

@@ -1,2 +1,4 @@
 mod LineRows
 mod Owing
+mod TurnRows
+mod Turns

@@ -3,10 +3,12 @@ pub mod History
 pub mod Letters
 pub mod Line
 pub mod Lines
-pub mod Logged
+pub mod MailboxLogs
 pub mod Owed
 pub mod Rules
 pub mod Shown
 pub mod Sink
 pub mod Texts
+pub mod TurnLines
 pub mod Verbs
+pub mod Words

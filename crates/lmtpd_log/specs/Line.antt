@@ -1,11 +1,11 @@
 -- The lines of a lane's log, without what only a clock knows: the seconds of a copy and of a conversation.
 use Rattle.std.specs.Prelude.{ℕ, List, Option, option_map}
 use Rattle.mail_head.specs.Texts.{text_of}
-use Rattle.lmtp_lane.specs.declared.tcp.listener.Client.{Client}
+use Rattle.lmtp_talk.specs.declared.client.Client.{Client}
 use Rattle.lmtpd_log.specs.declared.pairs.Line.{Line as LineOfPairs}
 use Rattle.lmtpd_log.specs.declared.pairs.Line.TheVariants as lines
-use Rattle.lmtpd_log.specs.Logged.{cause_text, outcome_word}
 use Rattle.lmtpd_log.specs.Texts.{envelope_texts}
+use Rattle.lmtpd_log.specs.Words.{cause_text, outcome_word}
 
 -- A command that was refused: the verb, the reply's code, and the address that it named, where lines show addresses.
 -- A copy that was answered: its message's id, which is the server's start, the lane and the number there; the mailbox,

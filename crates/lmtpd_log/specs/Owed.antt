@@ -8,12 +8,12 @@ use Rattle.mail_world.specs.declared.limits.TheConstants.{NAME_LIMIT}
 use Rattle.mail_world.specs.Replies.{reply_text}
 use Rattle.mail_world.specs.Site.{Site, box_name}
 use Rattle.lmtp_talk.specs.Entries.{Entry, OfLine, OfCopy, OfEnd}
+use Rattle.lmtp_talk.specs.declared.client.Traffic.{Traffic}
 use Rattle.lmtp_talk.specs.declared.ending.EndCause.{EndCause}
-use Rattle.lmtpd_log.specs.declared.stream.Traffic.{Traffic}
 use Rattle.lmtpd_log.specs.Letters.{LoggedLetter, address_in, after_entry, first_letter, next_envelope}
 use Rattle.lmtpd_log.specs.Line.{Line, Refused, Answered, Ended}
-use Rattle.lmtpd_log.specs.Logged.{is_refusal, cause_text, outcome_word}
 use Rattle.lmtpd_log.specs.Verbs.{verb_word}
+use Rattle.lmtpd_log.specs.Words.{is_refusal, cause_text, outcome_word}
 
 -- the site whose mailboxes are named, when the server began, the lane's number, whether the lines show addresses, and
 -- whether there are lines at all

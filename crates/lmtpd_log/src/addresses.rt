@@ -6,6 +6,7 @@ ghost use Rattle.mail_world.specs.declared.limits.TheConstants.{RECIPIENT_LIMIT}
 
 use crate::naming::{Address, named_by};
 use crate::pairs::Envelope;
+use lmtp_text::Reading;
 use mail_head::Text;
 use mail_world::Reply;
 use mail_world::limits::RECIPIENT_LIMIT;
@@ -23,6 +24,7 @@ pub(crate) struct Addresses {
 
 impl Addresses {
     ghost use Rattle.std.specs.Prelude.{◌≡◌, [], IfOk, option_map};
+    ghost use Rattle.lmtp_text.specs.Readings.{line_read};
     ghost use Rattle.lmtpd_log.specs.Letters.{after_copy, after_line, next_envelope, no_letter, with_recipient};
     ghost use Rattle.lmtpd_log.specs.Texts.{envelope_texts, logged_letter};
     ghost use Rattle.mail_head.specs.Texts.{text_of};
@@ -38,12 +40,12 @@ impl Addresses {
     }
 
     /// Takes note of the reply to a line.
-    pub(crate) fn line(&mut self, line: &[u8], reply: Reply)
-        ensures { logged_letter self.new ≡ after_line (logged_letter self.old) line.now reply }
+    pub(crate) fn line(&mut self, said: Reading<'_>, reply: Reply)
+        ensures { logged_letter self.new ≡ after_line (logged_letter self.old) (line_read said.entry) reply }
     {
         match reply {
-            Reply::SenderOk => self.begin(named_by(line)),
-            Reply::RecipientOk => self.add(named_by(line)),
+            Reply::SenderOk => self.begin(named_by(said)),
+            Reply::RecipientOk => self.add(named_by(said)),
             _ => {}
         }
     }

@@ -3,19 +3,23 @@ ghost use Rattle.std.specs.Prelude.{◌≡◌};
 ghost use Rattle.std.specs.Borrow.{ftrue};
 ghost use Rattle.lmtpd_log.specs.History.{LogHistory};
 
+use crate::mailbox_line::MailboxLine;
 use crate::pairs::Line;
-use crate::stream::Traffic;
-use lmtp_talk::{Arrived, EndCause};
+use box_worker::TurnEnd;
+use lmtp_talk::{Arrived, EndCause, Traffic};
+use lmtp_text::Reading;
 use mail_world::Reply;
 use std::marker::{Brand, Model, PhantomData};
 
-/// What a log is told, or shows.
+/// What the log of a lane or of a mailbox is told, or shows.
 #[derive(Clone, Copy)]
 pub(crate) enum Event<'a> {
-    Line(&'a [u8], Reply),
+    Line(Reading<'a>, Reply),
     Copy(Arrived, &'a [u8], Reply),
     End(EndCause, Traffic),
     Shown(Line),
+    Turn(TurnEnd),
+    Named(&'a str, MailboxLine),
 }
 
 // What is listed. A caller that passes `Brand` picks it.

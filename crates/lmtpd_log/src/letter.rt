@@ -2,6 +2,7 @@
 
 use crate::addresses::Addresses;
 use crate::pairs::Envelope;
+use lmtp_text::Reading;
 use mail_world::Reply;
 use std::alloc::{AllocError, Global};
 
@@ -14,6 +15,7 @@ pub(crate) struct Letter {
 impl Letter {
     ghost use Rattle.std.specs.Prelude.{◌≡◌, IfOk, option_map};
     ghost use Rattle.std.specs.Option.{option_and_then};
+    ghost use Rattle.lmtp_text.specs.Readings.{line_read};
     ghost use Rattle.lmtpd_log.specs.Letters.{after_copy, after_line, first_letter, next_envelope};
     ghost use Rattle.lmtpd_log.specs.Texts.{envelope_texts, letter_of};
 
@@ -30,11 +32,12 @@ impl Letter {
     }
 
     /// Takes note of the reply to a line.
-    pub(crate) fn line(&mut self, line: &[u8], reply: Reply)
-        ensures { letter_of self.new ≡ option_map (λ l. after_line l line.now reply) (letter_of self.old) }
+    pub(crate) fn line(&mut self, said: Reading<'_>, reply: Reply)
+        ensures { letter_of self.new
+            ≡ option_map (λ l. after_line l (line_read said.entry) reply) (letter_of self.old) }
     {
         match &mut self.addresses {
-            Some(addresses) => addresses.line(line, reply),
+            Some(addresses) => addresses.line(said, reply),
             None => {}
         }
     }

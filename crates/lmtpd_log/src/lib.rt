@@ -1,13 +1,13 @@
-//! What is logged of a server: each conversation that ended, each mailbox that failed or is in use.
+//! What is logged of a server: each copy that was answered, each command that was refused, each conversation that ended,
+//! each mailbox that failed or is in use.
 //!
-//! The server's run uses that clients, mailboxes and files are as those within say, which are wrapped from outside: the
-//! layers below know of a log only that a peer is told of each reply that is said. It never knows of workers, or of the
-//! program's words.
+//! Its logs are observers: a `LineLog` sees the conversations of a lane, a `MailboxLog` the turns at a mailbox, and both
+//! show lines, as the crate `log` does. They know of clients and files what they are told, and nothing of the program's
+//! words.
 #![tactic(auto)]
 
 mod addresses;
-mod all_visits;
-mod file;
+mod condition;
 mod history;
 mod keeping;
 mod lane_log;
@@ -15,26 +15,22 @@ mod letter;
 mod line_log;
 mod line_setting;
 mod line_sink;
-mod listener;
-mod logged_peer;
-mod mailbox;
+mod log_sink;
+mod mailbox_line;
+mod mailbox_log;
+mod mailbox_sink;
 mod naming;
 mod pairs;
 mod setting;
-mod stream;
 mod verb;
-mod visits;
 mod words;
 
-pub use all_visits::logged_visits;
-pub use file::LoggedFile;
 pub use lane_log::{LaneLog, LaneLogs, lane_logs};
 pub use line_log::LineLog;
 pub use line_setting::LineSetting;
-pub use line_sink::{LineSink, LogSink};
-pub use listener::CountedListener;
-pub use logged_peer::LoggedPeer;
-pub use mailbox::LoggedMailbox;
+pub use line_sink::LineSink;
+pub use log_sink::LogSink;
+pub use mailbox_line::MailboxLine;
+pub use mailbox_log::MailboxLog;
+pub use mailbox_sink::MailboxSink;
 pub use pairs::Line;
-pub use stream::{CountedStream, Traffic};
-pub use visits::LoggedVisits;

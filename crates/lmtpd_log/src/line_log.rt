@@ -15,8 +15,8 @@ use crate::letter::Letter;
 use crate::line_sink::LineSink;
 use crate::pairs::{Line, Seconds};
 use crate::setting::LaneSetting;
-use crate::stream::Traffic;
-use lmtp_talk::{Arrived, EndCause};
+use lmtp_talk::{Arrived, EndCause, Observer, Traffic};
+use lmtp_text::Reading;
 use mail_world::Reply;
 use std::alloc::{AllocError, Global};
 use std::time::{Clock, Duration};
@@ -35,8 +35,8 @@ pub struct LineLog<E: LineSink, C: Drop> {
     waiting: Vec<Line>,
     ghost room: { vec_capacity waiting ≡ WAITING_LIMIT },
     letter: Letter,
-    // when bytes came last
-    came: Option<Duration>,
+    // when bytes came last, or the largest moment that there is
+    came: Duration,
     history: History,
     // what was shown and what waits is what is owed for what it was told
     ghost owes: { E.shown sink ++ lines_of waiting.items ≡ lines_owed (rules_of setting) history.list.heard },
@@ -67,7 +67,7 @@ impl<E: LineSink, C: Clock + Drop> LineLog<E, C> {
             waiting: Vec::with_capacity(alloc, WAITING_LIMIT)?,
             letter: Letter::new(alloc, setting.addresses)?,
             setting,
-            came: None,
+            came: Duration::MAX,
             history: History::new(),
         })
     }
@@ -101,11 +101,8 @@ impl<E: LineSink, C: Clock + Drop> LineLog<E, C> {
         }
     }
 
-    // The time since that moment; 0 where there is none, or the clock couldn't be asked.
-    fn since(&self, moment: Option<Duration>) -> Seconds {
-        let Some(moment) = moment else {
-            return Seconds(Duration::ZERO);
-        };
+    // The time since that moment; 0 where it is the largest that there is, or the clock couldn't be asked.
+    fn since(&self, moment: Duration) -> Seconds {
         match self.clock.monotonic() {
             Ok(now) => Seconds(now.saturating_sub(moment)),
             Err(_) => Seconds(Duration::ZERO),
@@ -114,27 +111,33 @@ impl<E: LineSink, C: Clock + Drop> LineLog<E, C> {
 }
 
 impl<E: LineSink, C: Clock + Drop> LaneLog for LineLog<E, C> {
+    ghost use Rattle.lmtpd_log.specs.Lines.{shows_addresses};
+
+    ghost addresses = { λ log. shows_addresses log };
+}
+
+impl<E: LineSink, C: Clock + Drop> Observer for LineLog<E, C> {
     ghost use Rattle.std.specs.Prelude.{◌∷◌, Some};
+    ghost use Rattle.lmtp_text.specs.Readings.{line_read};
     ghost use Rattle.lmtp_talk.specs.Entries.{OfLine, OfEnd, with_entries};
     ghost use Rattle.lmtp_talk.specs.Telling.{arrived_entry};
-    ghost use Rattle.lmtpd_log.specs.Lines.{ShowsForRoom, has_room, heard_by, rules_in, shows_addresses, told_to, waits};
+    ghost use Rattle.lmtpd_log.specs.Lines.{ShowsForRoom, has_room, heard_by, rules_in, told_to, waits};
 
     ghost told = { λ log. Some (told_to log) };
 
-    ghost addresses = { λ log. shows_addresses log };
-
     /// A line for a command that was refused.
-    fn command(&mut self, line: &[u8], reply: Reply)
-        ensures told { Some (told_to self.new) ≡ with_entries (Some (told_to self.old)) (OfLine line.now reply ∷ []) }
+    fn command(&mut self, said: Reading<'_>, reply: Reply)
+        ensures told { Some (told_to self.new)
+            ≡ with_entries (Some (told_to self.old)) (OfLine (line_read said.entry) reply ∷ []) }
         ensures waits { ShowsForRoom (has_room self.old) (waits self.old)
             (E.shown self.old.sink) (E.shown self.new.sink) }
         ensures rules { rules_in self.new ≡ rules_in self.old }
     {
         self.make_room();
-        let made = self.setting.refused(line, reply);
-        keep(&mut self.waiting, made);
-        self.letter.line(line, reply);
-        self.history.add(Event::Line(line, reply));
+        let refused = self.setting.refused(said, reply);
+        keep(&mut self.waiting, refused);
+        self.letter.line(said, reply);
+        self.history.add(Event::Line(said, reply));
     }
 
     /// A line for each copy.
@@ -164,7 +167,7 @@ impl<E: LineSink, C: Clock + Drop> LaneLog for LineLog<E, C> {
         ensures rules { rules_in self.new ≡ rules_in self.old }
     {
         self.show_waiting();
-        let seconds = self.since(traffic.accepted);
+        let seconds = self.since(traffic.began);
         let made = self.setting.ended(cause, traffic, seconds);
         show_one(&mut self.sink, made);
         self.history.add(Event::End(cause, traffic));
@@ -185,7 +188,7 @@ impl<E: LineSink, C: Clock + Drop> LaneLog for LineLog<E, C> {
         ensures rules { rules_in self.new ≡ rules_in self.old }
     {
         if self.setting.is_on {
-            self.came = self.clock.monotonic().ok();
+            self.came = self.clock.monotonic().unwrap_or(Duration::MAX);
         }
     }
 }

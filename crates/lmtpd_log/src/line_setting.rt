@@ -7,7 +7,7 @@ ghost use Rattle.lmtpd_log.specs.Lines.{heard_by, rules_in, shows_addresses};
 
 use crate::lane_log::LaneLogs;
 use crate::line_log::LineLog;
-use crate::line_sink::LogSink;
+use crate::log_sink::LogSink;
 use crate::setting::LaneSetting;
 use lmtp_text::Site;
 use log::{Level, Log, log_enabled};

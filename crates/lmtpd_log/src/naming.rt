@@ -3,12 +3,13 @@
 ghost use Rattle.std.specs.Prelude.{◌≡◌, take, option_map};
 ghost use Rattle.mail_world.specs.Grammar.{local_text, mailbox_text};
 ghost use Rattle.mail_world.specs.declared.limits.TheConstants.{PATH_LIMIT};
+ghost use Rattle.lmtp_text.specs.Readings.{line_read};
 ghost use Rattle.lmtp_text.specs.Seen.{seen_target};
 ghost use Rattle.mail_head.specs.Texts.{text_of};
 ghost use Rattle.lmtpd_log.specs.Letters.{address_in, named_by};
 ghost use Rattle.lmtpd_log.specs.Shown.{escaped, shown_address};
 
-use lmtp_text::{Command, Extensions, Target, read_command_at};
+use lmtp_text::{Command, Extensions, Reading, Target};
 use mail_head::Text;
 use mail_world::limits::PATH_LIMIT;
 use percent_encoding::{AsciiSet, CONTROLS, ascii_set, percent_encode};
@@ -23,14 +24,14 @@ pub const ESCAPED: AsciiSet = ascii_set!(CONTROLS.add(b' '));
 
 /// The address that a command line names, where it is one of MAIL or RCPT that can be read. A size that MAIL says is
 /// not looked at. `utf8`: the address may be in UTF-8.
-pub(crate) fn address_in(line: &[u8], utf8: bool) -> Option<Address>
-    ensures { option_map text_of result ≡ address_in utf8 line.now }
+pub(crate) fn address_in(said: Reading<'_>, utf8: bool) -> Option<Address>
+    ensures { option_map text_of result ≡ address_in utf8 (line_read said.entry) }
 {
     let offered = Extensions {
         message_limit: u32::MAX,
         utf8,
     };
-    match read_command_at(line, offered) {
+    match said.command_at(offered) {
         Ok(Command::Mail { sender, .. }) => Some(sender_address(sender)),
         Ok(Command::Rcpt(target)) => Some(recipient_address(target)),
         _ => None,
@@ -38,10 +39,10 @@ pub(crate) fn address_in(line: &[u8], utf8: bool) -> Option<Address>
 }
 
 /// The same of a line that was accepted, and the null reverse path where it names none.
-pub(crate) fn named_by(line: &[u8]) -> Address
-    ensures { text_of result ≡ named_by line.now }
+pub(crate) fn named_by(said: Reading<'_>) -> Address
+    ensures { text_of result ≡ named_by (line_read said.entry) }
 {
-    address_in(line, true).unwrap_or(Text::empty())
+    address_in(said, true).unwrap_or(Text::empty())
 }
 
 fn sender_address(sender: &[u8]) -> Address

@@ -2,8 +2,7 @@
 
 use crate::naming::{Address, Escaped, Shown};
 use crate::words::{cause_text, outcome_word};
-use lmtp_lane::Client;
-use lmtp_talk::EndCause;
+use lmtp_talk::{Client, EndCause};
 use log::kv::{Error, Source, ToValue, Value, VisitSource};
 use mail_head::{MessageId, Text};
 use mail_world::Outcome;

@@ -2,11 +2,10 @@
 
 use crate::naming::{Address, address_in};
 use crate::pairs::{CopyLine, EndLine, Envelope, Id, Line, RefusedLine, Seconds};
-use crate::stream::Traffic;
 use crate::verb::verb_of;
 use crate::words::is_refusal;
-use lmtp_talk::{Arrived, EndCause};
-use lmtp_text::{REPLY_LIMIT, Site, write_reply};
+use lmtp_talk::{Arrived, EndCause, Traffic};
+use lmtp_text::{Reading, Site, reply_code};
 use mail_head::Text;
 use mail_world::Reply;
 use std::sync::Arc;
@@ -28,6 +27,7 @@ pub(crate) struct LaneSetting {
 
 impl LaneSetting {
     ghost use Rattle.std.specs.Prelude.{◌≡◌, [], if◌then◌else◌, None, option_map};
+    ghost use Rattle.lmtp_text.specs.Readings.{line_read};
     ghost use Rattle.lmtpd_log.specs.Letters.{address_in};
     ghost use Rattle.lmtpd_log.specs.Owed.{code_of, copy_lines, end_lines, refused_lines};
     ghost use Rattle.lmtpd_log.specs.Rules.{lines_in, rules_of};
@@ -35,8 +35,9 @@ impl LaneSetting {
     ghost use Rattle.mail_head.specs.Texts.{text_of};
 
     /// The line for a reply to a command line, where it refuses one.
-    pub(crate) fn refused(&self, line: &[u8], reply: Reply) -> Option<Line>
-        ensures { lines_in result ≡ (if self.now.is_on then refused_lines (rules_of self.now) line.now reply else []) }
+    pub(crate) fn refused(&self, said: Reading<'_>, reply: Reply) -> Option<Line>
+        ensures { lines_in result
+            ≡ (if self.now.is_on then refused_lines (rules_of self.now) (line_read said.entry) reply else []) }
     {
         if !self.is_on {
             return None;
@@ -44,10 +45,10 @@ impl LaneSetting {
         if !is_refusal(reply) {
             return None;
         }
-        let address = self.address(line);
+        let address = self.address(said);
         Some(Line::Refused(RefusedLine {
             lane: self.lane,
-            verb: Text::of(verb_of(line).as_bytes()),
+            verb: Text::of(verb_of(said.line()).as_bytes()),
             code: self.code(reply),
             address,
         }))
@@ -107,23 +108,21 @@ impl LaneSetting {
     }
 
     // The address that a command line names, where lines show it.
-    fn address(&self, line: &[u8]) -> Option<Address>
+    fn address(&self, said: Reading<'_>) -> Option<Address>
         ensures { let rules = rules_of self.now in
             option_map (λ a. text_of a) result
-            ≡ (if rules.addresses then address_in rules.site.utf8 line.now else None) }
+            ≡ (if rules.addresses then address_in rules.site.utf8 (line_read said.entry) else None) }
     {
         if !self.addresses {
             return None;
         }
-        address_in(line, self.site.utf8())
+        address_in(said, self.site.utf8())
     }
 
     // The code of a reply.
     fn code(&self, reply: Reply) -> Text<3>
         ensures { text_of result ≡ code_of (rules_of self.now).site reply }
     {
-        let mut text = [0; REPLY_LIMIT];
-        let size = write_reply(reply, &self.site, &mut text);
-        Text::of(&text[..size])
+        Text::of(reply_code(reply, &self.site))
     }
 }

@@ -1,7 +1,7 @@
 //! What the log calls things.
 
 ghost use Rattle.std.specs.Prelude.{◌≡◌};
-ghost use Rattle.lmtpd_log.specs.Logged.{cause_text, outcome_word, is_refusal};
+ghost use Rattle.lmtpd_log.specs.Words.{cause_text, outcome_word, is_refusal};
 
 use lmtp_talk::EndCause;
 use mail_world::{Outcome, Reply};

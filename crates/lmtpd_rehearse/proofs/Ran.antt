@@ -1,5 +1,5 @@
 -- A rehearsal from its parts: the run of the server, and how the mailboxes were written.
-use Rattle.std.proofs.Common.{◌≡◌, ℕ, zero, suc, cond, get_or, ◌<◌, ◌+◌, ◌-◌, List, [], ◌∷◌, length, map, replicate, Bool, true, false, Option, Some, inl}
+use Rattle.std.proofs.Common.{◌≡◌, ℕ, zero, suc, cond, get_or, ◌<◌, ◌+◌, ◌-◌, List, [], ◌∷◌, length, map, replicate, Bool, true, false, Option, Some, None, inl}
 use Rattle.std.proofs.Common.{inr, refl, ap, sym, ◌∙◌, subst, append-nil, zero-add, arith}
 use Rattle.std.specs.Prelude.{◌==◌, ◌^◌, slice_get}
 use Rattle.std.specs.List.{AllByRecursion, list_any}
@@ -23,11 +23,13 @@ use Rattle.mail_runs.specs.Courses.{Course, outcomes_in}
 use Rattle.mail_runs.proofs.OneLane.{many}
 use Rattle.box_worker.specs.Told.{owed_to}
 use Rattle.lmtp_text.specs.Calendar.{civil_at}
-use Rattle.mbox_record.specs.MemorySpool.{MemorySpool, state_of}
+use Rattle.mbox_record.specs.MemorySpool.{state_of}
+use Rattle.mbox_record.specs.Spool.{SpoolState}
 use Rattle.lmtp_talk.specs.declared.ending.EndCause.{EndCause}
 use Rattle.lmtp_talk.specs.declared.ending.EndCause.TheVariants.{WriteFault}
 use Rattle.lmtp_threads.specs.declared.tally.Tally.{Tally}
-use Rattle.lmtp_threads.specs.Works.{share_of, setting_of, IsBoxWork, LaneWork, BoxWork, SpoolsView, spools_view}
+use Rattle.lmtp_threads.specs.Works.{share_of, setting_of, IsBoxWork, LaneWork, BoxWork, SpoolsView, spools_view, visits_view}
+use Rattle.lmtp_threads.specs.declared.watched.Watched.{Watched}
 use Rattle.lmtp_threads.proofs.ChannelRows.{at as element}
 use Rattle.lmtp_house.specs.Handed.{HandedIn, HandedBack}
 use Rattle.lmtp_house.specs.House.{HasRun}
@@ -41,8 +43,8 @@ use Rattle.lmtpd_rehearse.specs.declared.client.OnlyClient.{OnlyClient}
 use Rattle.lmtpd_rehearse.specs.declared.client.OnlyClient.TheVariants.{Waiting, Over}
 use Rattle.lmtpd_rehearse.specs.Account.{IsSettledOutcome, IsAllSettled}
 use Rattle.lmtpd_rehearse.specs.Copies.{HoldsCopies}
-use Rattle.lmtpd_rehearse.specs.Client.{MayGive, told as told_by, is_last_told, IsOnlyOver}
-use Rattle.lmtpd_rehearse.specs.Mailboxes.{MailboxContent, kept_all, kept_at, bytes_of_all, empty_spool, mailbox_room, texts_of_mailboxes, IsCalm}
+use Rattle.lmtpd_rehearse.specs.Client.{MayGive, told as told_by, is_last_told, unseen, IsOnlyOver}
+use Rattle.lmtpd_rehearse.specs.Mailboxes.{Mailbox, MailboxContent, kept_all, kept_at, bytes_of_all, empty_mailbox, mailbox_room, texts_of_mailboxes, IsCalm}
 use Rattle.lmtpd_rehearse.specs.Rehearsal.{AreMailboxes, copies_due, told_of_box, model_of, IsRunOfRehearsal, RehearsalEndsFor, HeldState, IsHeld, IsRehearsed}
 use Rattle.lmtpd_words.specs.Output.{IsListed}
 use Rattle.lmtpd_rehearse.specs.Rehearsal.{Streams}
@@ -160,17 +162,21 @@ held_by site moment old new v never still at h =
       unstopped = is;
     }
 
--- spools in memory as contracts see all spools
-abbrev in_memory_view : SpoolsView MemorySpool
-in_memory_view = spools_view state_of (λ last now. now ≡ last) RefusesAfterFault
+-- mailboxes in memory as contracts see all spools
+abbrev in_memory_view : SpoolsView Mailbox
+in_memory_view = spools_view state_of (λ last now. now ≡ last) RefusesAfterFault (λ (observer : Unit). None)
+
+-- how a mailbox stands
+abbrev state_in : Mailbox → SpoolState
+state_in mailbox = state_of mailbox.inner
 
 -- what a mailbox's worker did
-record BoxAt (site : Site) (quota : Option ℕ) (work : BoxWork) (spools : List MemorySpool) (tallies : List Tally) (b : ℕ) : Type 0 where
-  spool : MemorySpool
+record BoxAt (site : Site) (quota : Option ℕ) (work : BoxWork) (spools : List Mailbox) (tallies : List Tally) (b : ℕ) : Type 0 where
+  spool : Mailbox
   tally : Tally
-  is : kept_at (kept_all spools tallies) b ≡ record { bytes = spool.bytes; failed = tally.faulty }
-  did : IsBoxWork (setting_of (share_of site quota) b) in_memory_view.manner work (state_of (empty_spool site)) (state_of spool) tally
-  alone : IsLeftAlone work.turns [] spool.bytes
+  is : kept_at (kept_all spools tallies) b ≡ record { bytes = spool.inner.bytes; failed = tally.faulty }
+  did : IsBoxWork (setting_of (share_of site quota) b) in_memory_view.manner work (state_in (empty_mailbox site)) (state_in spool) tally
+  alone : IsLeftAlone work.turns [] spool.inner.bytes
 
 -- what the lane heard, and what each of that many workers did
 record AllWork : Type 0 where
@@ -182,7 +188,7 @@ abbrev all_work : List Slip → (ℕ → BoxWork) → ℕ → AllWork
 all_work heard boxes count = record { heard = heard; boxes = boxes; count = count }
 
 -- what lane and workers did for these transactions
-record HaveWorked (site : Site) (quota : Option ℕ) (ts : List Transaction) (work : AllWork) (spools : List MemorySpool) (tallies : List Tally) : Type 0 where
+record HaveWorked (site : Site) (quota : Option ℕ) (ts : List Transaction) (work : AllWork) (spools : List Mailbox) (tallies : List Tally) : Type 0 where
   answered : AllByRecursion (λ t. OutcomesIn 0 work.heard t t.disposition.verdict) ts
   known : AllByRecursion (λ slip. slip.worker < work.count) work.heard
   begun : (b : ℕ) → b < work.count → IsPrefixOfOwed (λ k. outcomes_in (work.boxes k).turns) work.heard ts b
@@ -191,31 +197,31 @@ record HaveWorked (site : Site) (quota : Option ℕ) (ts : List Transaction) (wo
   as_many : (length spools ≡ work.count) × (length tallies ≡ work.count)
 
 -- what a worker made of its mailbox, and what it told of its copies
-module _ (site : Site) (quota : Option ℕ) (b : ℕ) (work : BoxWork) (spool : MemorySpool) (tally : Tally)
-    (did : IsBoxWork (setting_of (share_of site quota) b) in_memory_view.manner work (state_of (empty_spool site)) (state_of spool) tally)
-    (alone : IsLeftAlone work.turns [] spool.bytes) where
+module _ (site : Site) (quota : Option ℕ) (b : ℕ) (work : BoxWork) (spool : Mailbox) (tally : Tally)
+    (did : IsBoxWork (setting_of (share_of site quota) b) in_memory_view.manner work (state_in (empty_mailbox site)) (state_in spool) tally)
+    (alone : IsLeftAlone work.turns [] spool.inner.bytes) where
   abbrev HoldsSo : List ℕ → Bool → Type 0
   HoldsSo bytes broke = HoldsCopies civil_at site quota work.taken (outcomes_in work.turns) bytes broke
       × (broke ≡ true → length bytes ≡ 0 + mailbox_room site.message_limit)
 
-  holds_so : HoldsSo spool.bytes tally.faulty
+  holds_so : HoldsSo spool.inner.bytes tally.faulty
   holds_so =
-      let came = in_memory civil_at site quota (state_of (empty_spool site)).limit work.taken work.turns did.turned.are alone.between (did.turned.refused refl)
+      let came = in_memory civil_at site quota (state_in (empty_mailbox site)).limit work.taken work.turns did.turned.are alone.between (did.turned.refused refl)
       did.turned.full in
-      subst (HoldsSo spool.bytes) (sym did.turned.broke) (subst (λ b. HoldsSo b (last_broke false work.turns)) (sym alone.left) came)
+      subst (HoldsSo spool.inner.bytes) (sym did.turned.broke) (subst (λ b. HoldsSo b (last_broke false work.turns)) (sym alone.left) came)
 
   as_many : length (outcomes_in work.turns) ≡ length work.taken
   as_many = many (model_of site quota) work.taken work.turns did.turned.are
 
   tells_settled : tally.faulty ≡ false → AllByRecursion (IsSettledOutcome quota) (outcomes_in work.turns)
   tells_settled sound =
-      let P : Bool → Type 0 = λ broke. HoldsCopies civil_at site quota work.taken (outcomes_in work.turns) spool.bytes broke in
-      let all = holds_all civil_at site quota work.taken (outcomes_in work.turns) spool.bytes (subst P sound holds_so.0) in
+      let P : Bool → Type 0 = λ broke. HoldsCopies civil_at site quota work.taken (outcomes_in work.turns) spool.inner.bytes broke in
+      let all = holds_all civil_at site quota work.taken (outcomes_in work.turns) spool.inner.bytes (subst P sound holds_so.0) in
       let S : List Outcome → Type 0 = λ os. AllByRecursion (IsSettledOutcome quota) os in
       subst S (sym all.told) (all_settled civil_at site quota work.taken)
 
 -- what was told of a mailbox's copies is what its worker said
-said_of_box : (site : Site) (quota : Option ℕ) (c : Conversation) (work : AllWork) (spools : List MemorySpool) (tallies : List Tally)
+said_of_box : (site : Site) (quota : Option ℕ) (c : Conversation) (work : AllWork) (spools : List Mailbox) (tallies : List Tally)
     → HaveWorked site quota (transactions_in site 0 c) work spools tallies
     → (b : ℕ) → b < work.count → told_all b (transactions_in site 0 c) ≡ outcomes_in (work.boxes b).turns
 said_of_box site quota c work spools tallies h b low =
@@ -226,7 +232,7 @@ said_of_box site quota c work spools tallies h b low =
     let at = h.each k below in as_many site quota k (work.boxes k) at.spool at.tally at.did at.alone ∙ ap length (h.taken k below) in
     told_as_said work.heard told work.count 1 ts some (rising site c) h.answered h.known h.begun sized b low
 
-delivered : (site : Site) (quota : Option ℕ) (c : Conversation) (work : AllWork) (spools : List MemorySpool) (tallies : List Tally) (faulty : Bool)
+delivered : (site : Site) (quota : Option ℕ) (c : Conversation) (work : AllWork) (spools : List Mailbox) (tallies : List Tally) (faulty : Bool)
     → c ≡ conversation c.bytes c.dispositions → IsAccount site c → HaveWorked site quota (transactions_in site 0 c) work spools tallies
     → work.count ≡ length site.boxes
     → faulty ≡ list_any (λ t. t.faulty) tallies
@@ -244,10 +250,10 @@ delivered site quota c work spools tallies faulty is accounted h size faulty_is 
     let each : (box : ℕ) → box < length site.boxes → H (conversation c.bytes c.dispositions) box (kept_at ks box).bytes (kept_at ks box).failed = λ box within.
     let low : box < work.count = omega (arith, size, within) in
     let at = h.each box low in
-    let P : List Note → Type 0 = λ notes. HoldsCopies civil_at site quota notes (told box) at.spool.bytes at.tally.faulty in
-    let Q : List Outcome → Type 0 = λ os. HoldsCopies civil_at site quota (copies_owed 0 box ts) os at.spool.bytes at.tally.faulty in
-    let D : List Note → Type 0 = λ notes. HoldsCopies civil_at site quota notes (told_all box ts) at.spool.bytes at.tally.faulty in
-    let T : List Outcome → Type 0 = λ os. HoldsCopies civil_at site quota (due site 0 box (c ∷ [])) os at.spool.bytes at.tally.faulty in
+    let P : List Note → Type 0 = λ notes. HoldsCopies civil_at site quota notes (told box) at.spool.inner.bytes at.tally.faulty in
+    let Q : List Outcome → Type 0 = λ os. HoldsCopies civil_at site quota (copies_owed 0 box ts) os at.spool.inner.bytes at.tally.faulty in
+    let D : List Note → Type 0 = λ notes. HoldsCopies civil_at site quota notes (told_all box ts) at.spool.inner.bytes at.tally.faulty in
+    let T : List Outcome → Type 0 = λ os. HoldsCopies civil_at site quota (due site 0 box (c ∷ [])) os at.spool.inner.bytes at.tally.faulty in
     let K : MailboxContent → Type 0 = λ k. H c box k.bytes k.failed in
     let C : Conversation → Type 0 = λ x. H x box (kept_at ks box).bytes (kept_at ks box).failed in
     let first : P (copies_owed 0 box ts) = subst P (h.taken box low) (holds_so site quota box (work.boxes box) at.spool at.tally at.did at.alone).0 in
@@ -280,29 +286,29 @@ delivered site quota c work spools tallies faulty is accounted h size faulty_is 
     }
 
 -- a new spool holds nothing
-nothing_at : (count b : ℕ) (spool : MemorySpool) → spool.bytes ≡ [] → get_or (map (λ (s : MemorySpool). (state_of s).bytes) (replicate count spool)) b [] ≡ []
+nothing_at : (count b : ℕ) (spool : Mailbox) → spool.inner.bytes ≡ [] → get_or (map (λ (s : Mailbox). (state_in s).bytes) (replicate count spool)) b [] ≡ []
 nothing_at zero b spool empty = refl
 nothing_at (suc count) zero spool empty = empty
 nothing_at (suc count) (suc b) spool empty = nothing_at count b spool empty
 
 -- the run of a server whose only lane has one client, and whose spools are new
 abbrev pub HasRunAlone : (site : Site) (quota : Option ℕ) (moment : ℕ) {P : Type 0} (state : P → PeerState) (peer : P) (count : ℕ)
-    (back : HandedBack (OnlyClient P) MemorySpool) → Type 0
+    (back : HandedBack (Watched (OnlyClient P) Unit) Mailbox) → Type 0
 HasRunAlone site quota moment state peer count back =
-    HasRun site (λ m. m ≡ moment) (record { MayGive = λ c p. MayGive state c p; finished = λ c. told_by state c; over = λ c. is_last_told c }) in_memory_view
-    (record { visits = Waiting peer ∷ []; spools = replicate count (empty_spool site); capacity = DEFAULT_CAPACITY; quota = quota }) back
+    HasRun site (λ m. m ≡ moment) (visits_view (λ c p. MayGive state c p) (λ c. told_by state c) (λ c. is_last_told c) (λ (observer : Unit). None)) in_memory_view
+    (record { visits = unseen (Waiting peer) ∷ []; spools = replicate count (empty_mailbox site); capacity = DEFAULT_CAPACITY; quota = quota }) back
 
 module _ (site : Site) (quota : Option ℕ) (moment : ℕ) {P : Type 0} (state : P → PeerState) (peer : P) (count : ℕ)
-    (back : HandedBack (OnlyClient P) MemorySpool) where
-  abbrev handed : HandedIn (OnlyClient P) MemorySpool
-  handed = record { visits = Waiting peer ∷ []; spools = replicate count (empty_spool site); capacity = DEFAULT_CAPACITY; quota = quota }
+    (back : HandedBack (Watched (OnlyClient P) Unit) Mailbox) where
+  abbrev handed : HandedIn (Watched (OnlyClient P) Unit) Mailbox
+  handed = record { visits = unseen (Waiting peer) ∷ []; spools = replicate count (empty_mailbox site); capacity = DEFAULT_CAPACITY; quota = quota }
 
   -- the client has left
   pub only_over : HasRunAlone site quota moment state peer count back → IsOnlyOver back.visits
   only_over h =
       let client = one_alone back.visits h.as_many_lanes.0 in
       let number = one_alone back.conversations h.as_many_lanes.1 in
-      let work = h.served 0 number.0 (Waiting peer) client.0 refl (ap (λ l. slice_get l 0) client.1) (ap (λ l. slice_get l 0) number.1) in
+      let work = h.served 0 number.0 (unseen (Waiting peer)) client.0 refl (ap (λ l. slice_get l 0) client.1) (ap (λ l. slice_get l 0) number.1) in
       (client.0, client.1, work.ended)
 
   have_worked : (h : HasRunAlone site quota moment state peer count back) (c : Conversation)
@@ -311,9 +317,9 @@ module _ (site : Site) (quota : Option ℕ) (moment : ℕ) {P : Type 0} (state :
   have_worked h c is answered =
       let ts : List Transaction = transactions_in site 0 c in
       let heard : List Slip = (h.lanes 0).heard in
-      let many : length (replicate count (empty_spool site)) ≡ count = length-replicate count (empty_spool site) in
+      let many : length (replicate count (empty_mailbox site)) ≡ count = length-replicate count (empty_mailbox site) in
       let one : 0 < 1 = omega arith in
-      let low_in : (b : ℕ) → b < count → b < length (replicate count (empty_spool site)) = λ b low. omega (arith, many, low) in
+      let low_in : (b : ℕ) → b < count → b < length (replicate count (empty_mailbox site)) = λ b low. omega (arith, many, low) in
       let taken : (b : ℕ) → b < count → (h.boxes b).taken ≡ copies_owed 0 b ts = λ b low.
       sym (all_of_lane (h.boxes b).taken (h.owed_only b (low_in b low))) ∙ h.owed 0 b one (low_in b low) ∙ ap (λ l. due site 0 b l) is ∙ due_is site b c in
       let K : ℕ → Type 0 = λ n. AllByRecursion (λ slip. slip.worker < n) heard in
@@ -331,8 +337,8 @@ module _ (site : Site) (quota : Option ℕ) (moment : ℕ) {P : Type 0} (state :
               spool = spool.value;
               tally = tally.value;
               is = kept_is back.spools back.tallies b spool.value tally.value spool.is tally.is;
-              did = h.stored b (empty_spool site) spool.value tally.value (get_same count b (empty_spool site) low) spool.is tally.is;
-              alone = h.alone b (empty_spool site) spool.value (get_same count b (empty_spool site) low) spool.is
+              did = h.stored b (empty_mailbox site) spool.value tally.value (get_same count b (empty_mailbox site) low) spool.is tally.is;
+              alone = h.alone b (empty_mailbox site) spool.value (get_same count b (empty_mailbox site) low) spool.is
                   (record { free = refl; same = λ last now e. ap (λ (s : Standing). s.bytes) e });
             };
         as_many = (h.as_many_boxes.0 ∙ many, h.as_many_boxes.1 ∙ many);
@@ -343,10 +349,10 @@ module _ (site : Site) (quota : Option ℕ) (moment : ℕ) {P : Type 0} (state :
       → c ≡ conversation c.bytes c.dispositions → count ≡ length site.boxes
       → IsRunOfRehearsal site quota c.bytes c.dispositions (kept_all back.spools back.tallies)
   run_of h c are worked is size =
-      let m : IsRunOfModel site state_of h.lanes h.boxes handed = h.is_run in
+      let m : IsRunOfModel site state_in h.lanes h.boxes handed = h.is_run in
       let one : 0 < 1 = omega arith in
-      let many : length handed.spools ≡ length site.boxes = length-replicate count (empty_spool site) ∙ size in
-      let courses : ℕ → Course = courses_of state_of h.boxes handed in
+      let many : length handed.spools ≡ length site.boxes = length-replicate count (empty_mailbox site) ∙ size in
+      let courses : ℕ → Course = courses_of state_in h.boxes handed in
       let threads : Threads = threads_of site h.lanes courses in
       let copies : ℕ → Conversation → List Note = λ b x. due site 0 b (x ∷ []) in
       let R : ℕ → Type 0 = λ n.
@@ -362,7 +368,7 @@ module _ (site : Site) (quota : Option ℕ) (moment : ℕ) {P : Type 0} (state :
         each = λ b within.
             let low : b < count = omega (arith, within, size) in
             let at = worked.each b low in
-            let old : (courses b).old ≡ [] = nothing_at count b (empty_spool site) refl in
+            let old : (courses b).old ≡ [] = nothing_at count b (empty_mailbox site) refl in
             let said = said_of_box site quota c (all_work (h.lanes 0).heard h.boxes count) back.spools back.tallies worked b low in
             record {
               old = old;
@@ -374,14 +380,14 @@ module _ (site : Site) (quota : Option ℕ) (moment : ℕ) {P : Type 0} (state :
             };
       }
 
-  pub held : (last : P) (end : EndCause) (faulty : Bool) → HasRunAlone site quota moment state peer count back → back.visits ≡ Over last end ∷ []
+  pub held : (last : P) (end : EndCause) (faulty : Bool) → HasRunAlone site quota moment state peer count back → back.visits ≡ unseen (Over last end) ∷ []
       → ((p : P) → (state p).stops ≡ 0)
       → count ≡ length site.boxes → faulty ≡ list_any (λ t. t.faulty) back.tallies
-      → IsHeld site quota moment (streams_of (state peer)) (streams_of (state last)) (record { spools = back.spools; faulty = faulty; end = end })
+      → IsHeld site quota moment (streams_of (state peer)) (streams_of (state last)) (record { mailboxes = back.spools; faulty = faulty; end = end })
   held last end faulty h after never size faulty_is =
       let lane : LaneWork = h.lanes 0 in
       let number = one_alone back.conversations h.as_many_lanes.1 in
-      let work = h.served 0 number.0 (Waiting peer) (Over last end) refl (ap (λ l. slice_get l 0) after) (ap (λ l. slice_get l 0) number.1) in
+      let work = h.served 0 number.0 (unseen (Waiting peer)) (unseen (Over last end)) refl (ap (λ l. slice_get l 0) after) (ap (λ l. slice_get l 0) number.1) in
       let one = one_visit lane.visits (record { peer = state last; cause = end }) work.visited.told in
       let v : Visit = one.visit in
       let c : Conversation = v.conversation in
@@ -421,7 +427,7 @@ module _ (site : Site) (quota : Option ℕ) (moment : ℕ) {P : Type 0} (state :
 
 -- the mailboxes after the replies
 pub rehearsed : (site : Site) (quota : Option ℕ) (moment : ℕ) (old between : Streams) (left : HeldState) (after : Option (List ℕ)) (cut : Bool)
-    → IsHeld site quota moment old between left → IsListed (texts_of_mailboxes site.boxes (bytes_of_all left.spools)) between.written after cut
+    → IsHeld site quota moment old between left → IsListed (texts_of_mailboxes site.boxes (bytes_of_all left.mailboxes)) between.written after cut
     → IsRehearsed site quota moment old (record { unread = between.unread; written = after }) (record { end = left.end; faulty = left.faulty; cut = cut })
 rehearsed site quota moment old between left after cut h w =
     let L : List (List ℕ) → Type 0 = λ texts. IsWritten (texts_of_mailboxes site.boxes texts) (cut ≡ true) w.listed in
@@ -441,9 +447,9 @@ rehearsed site quota moment old between left after cut h w =
       ends = h.ends;
     }
 
--- there is a spool for each mailbox
-pub as_many_spools : (site : Site) (quota : Option ℕ) (moment : ℕ) (old new : Streams) (left : HeldState) → IsHeld site quota moment old new left
-    → length left.spools ≡ length site.boxes
-as_many_spools site quota moment old new left h =
-    sym (length-map left.spools (λ (x : MemorySpool). x.bytes)) ∙ ap length (sym h.holds) ∙ length-map h.mailboxes (λ (k : MailboxContent). k.bytes)
+-- there is one for each mailbox of the site
+pub as_many_mailboxes : (site : Site) (quota : Option ℕ) (moment : ℕ) (old new : Streams) (left : HeldState) → IsHeld site quota moment old new left
+    → length left.mailboxes ≡ length site.boxes
+as_many_mailboxes site quota moment old new left h =
+    sym (length-map left.mailboxes (λ (x : Mailbox). x.inner.bytes)) ∙ ap length (sym h.holds) ∙ length-map h.mailboxes (λ (k : MailboxContent). k.bytes)
     ∙ h.delivered.count

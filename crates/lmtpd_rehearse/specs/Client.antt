@@ -1,8 +1,8 @@
 -- What a lane sees of its only client.
-use Rattle.std.specs.Prelude.{◌≡◌, Bool, true, false, List, [], ◌∷◌, Some, None}
-use Rattle.lmtp_talk.specs.Entries.{OfEnd, with_entries}
+use Rattle.std.specs.Prelude.{◌≡◌, Bool, true, false, List, [], ◌∷◌, Some}
 use Rattle.lmtp_talk.specs.Peer.{PeerState}
 use Rattle.lmtp_lane.specs.Visits.{VisitsTold}
+use Rattle.lmtp_threads.specs.declared.watched.Watched.{Watched}
 use Rattle.lmtpd_rehearse.specs.declared.client.OnlyClient.{OnlyClient}
 use Rattle.lmtpd_rehearse.specs.declared.client.OnlyClient.TheVariants.{Waiting, Out, Back, Over}
 
@@ -12,20 +12,12 @@ module _ {P : Type 0} where
   MayGive state (Waiting client) peer = peer ≡ state client
   MayGive state _ peer = ⊥
 
-  -- the conversation that has ended, how many have, and what the client's log was told of it
+  -- the conversation that has ended, and how many have
   abbrev pub told : (P → PeerState) → OnlyClient P → VisitsTold
-  told state (Waiting client) = record { each = Some []; count = 0; log = (state client).told }
-  told state Out = record { each = Some []; count = 0; log = None }
-  told state (Back client end) = record {
-    each = Some (record { peer = state client; cause = end } ∷ []);
-    count = 1;
-    log = with_entries (state client).told (OfEnd end ∷ []);
-  }
-  told state (Over client end) = record {
-    each = Some (record { peer = state client; cause = end } ∷ []);
-    count = 1;
-    log = with_entries (state client).told (OfEnd end ∷ []);
-  }
+  told state (Waiting client) = record { each = Some []; count = 0 }
+  told state Out = record { each = Some []; count = 0 }
+  told state (Back client end) = record { each = Some (record { peer = state client; cause = end } ∷ []); count = 1 }
+  told state (Over client end) = record { each = Some (record { peer = state client; cause = end } ∷ []); count = 1 }
 
   -- the client is being served
   abbrev pub is_being_served : OnlyClient P → Bool
@@ -37,6 +29,11 @@ module _ {P : Type 0} where
   is_last_told (Over client end) = true
   is_last_told _ = false
 
+  -- the client with nobody who sees its conversation
+  abbrev pub unseen : OnlyClient P → Watched (OnlyClient P) Unit
+  unseen client = record { inner = client; observer = tt }
+
   -- there is one client alone, who has left
-  abbrev pub IsOnlyOver : List (OnlyClient P) → Type 0
-  IsOnlyOver clients = (client : OnlyClient P) × (clients ≡ client ∷ []) × (is_last_told client ≡ true)
+  abbrev pub IsOnlyOver : List (Watched (OnlyClient P) Unit) → Type 0
+  IsOnlyOver clients = (client : Watched (OnlyClient P) Unit) × (clients ≡ client ∷ [])
+      × (is_last_told client.inner ≡ true)

@@ -5,26 +5,31 @@ use Rattle.mail_world.specs.Text.{lf}
 use Rattle.mail_world.specs.Site.{Site}
 use Rattle.mbox_record.specs.MemorySpool.{MemorySpool, unused}
 use Rattle.lmtp_threads.specs.declared.tally.Tally.{Tally}
+use Rattle.lmtp_threads.specs.declared.watched.Watched.{Watched}
 use Rattle.lmtpd_words.specs.Output.{pair_texts}
 use Rattle.lmtpd_rehearse.specs.declared.parts.TheConstants.{MAILBOX_ROOM}
+
+-- a mailbox in memory, whose turns nobody sees
+abbrev pub Mailbox : Type 0
+Mailbox = Watched MemorySpool Unit
 
 -- what a mailbox holds, and whether it failed
 pub record MailboxContent : Type 0 where
   pub bytes : List ℕ
   pub failed : Bool
 
--- a mailbox's spool, and what its worker says of it
-abbrev pub kept_all : List MemorySpool → List Tally → List MailboxContent
-kept_all (spool ∷ spools) (tally ∷ tallies) =
-    record { bytes = spool.bytes; failed = tally.faulty } ∷ kept_all spools tallies
+-- a mailbox, and what its worker says of it
+abbrev pub kept_all : List Mailbox → List Tally → List MailboxContent
+kept_all (mailbox ∷ mailboxes) (tally ∷ tallies) =
+    record { bytes = mailbox.inner.bytes; failed = tally.faulty } ∷ kept_all mailboxes tallies
 kept_all _ _ = []
 
 -- the line before a mailbox's bytes, and the bytes
 abbrev pub mailbox_line : List ℕ → ℕ → List ℕ
 mailbox_line name size = codes "mailbox " ++ name ++ codes " " ++ decimal size ++ (lf ∷ [])
 
-abbrev pub bytes_of_all : List MemorySpool → List (List ℕ)
-bytes_of_all spools = map (λ spool. spool.bytes) spools
+abbrev pub bytes_of_all : List Mailbox → List (List ℕ)
+bytes_of_all mailboxes = map (λ (m : Mailbox). m.inner.bytes) mailboxes
 
 abbrev pub mailbox_output : List ℕ → List ℕ → List ℕ
 mailbox_output name bytes = mailbox_line name (length bytes) ++ bytes
@@ -52,3 +57,7 @@ mailbox_room limit = max MAILBOX_ROOM (2 * limit)
 -- a spool that holds nothing, with room for a mailbox of the site
 abbrev pub empty_spool : Site → MemorySpool
 empty_spool site = unused [] (mailbox_room site.message_limit)
+
+-- the mailbox that has it
+abbrev pub empty_mailbox : Site → Mailbox
+empty_mailbox site = record { inner = empty_spool site; observer = tt }

@@ -6,7 +6,6 @@ use Rattle.mail_world.specs.declared.limits.TheConstants.{READ_LIMIT, BLOCK_LIMI
 use Rattle.mail_world.specs.declared.Note.{Note}
 use Rattle.mail_world.specs.declared.Outcome.{Outcome}
 use Rattle.mail_world.specs.Site.{Site}
-use Rattle.mbox_record.specs.MemorySpool.{MemorySpool}
 use Rattle.mail_world.specs.Conversation.{Disposition, IsAccount, conversation, inputs, replies}
 use Rattle.mail_world.specs.Lists.{VerdictFits, transactions, due}
 use Rattle.mail_world.specs.Records.{mailbox}
@@ -24,7 +23,8 @@ use Rattle.lmtp_talk.specs.declared.ending.EndCause.TheVariants.{Quit, EndOfInpu
 use Rattle.lmtp_talk.specs.Served.{IsWritten, has_quit}
 use Rattle.lmtpd_words.specs.declared.words.TheConstants.{DEFAULT_CAPACITY}
 use Rattle.lmtpd_rehearse.specs.declared.ending.Ending.{Ending}
-use Rattle.lmtpd_rehearse.specs.Mailboxes.{MailboxContent, kept_at, mailbox_room, mailboxes_text, bytes_of_all, IsCalm}
+use Rattle.lmtpd_rehearse.specs.Mailboxes.{Mailbox, MailboxContent, kept_at, mailbox_room, mailboxes_text}
+use Rattle.lmtpd_rehearse.specs.Mailboxes.{bytes_of_all, IsCalm}
 use Rattle.lmtpd_rehearse.specs.Account.{IsAllSettled}
 use Rattle.lmtpd_rehearse.specs.Copies.{HoldsCopies}
 
@@ -135,9 +135,9 @@ pub record IsRehearsed (site : Site) (quota : Option ℕ) (moment : ℕ) (old ne
   pub lists : IsWritten (mailboxes_text site.boxes mailboxes) (ending.cut ≡ true) listed
   pub ends : RehearsalEndsFor site read account new.unread ending.end
 
--- what a conversation leaves: the spools, whether one failed, and why it ended
+-- what a conversation leaves: the mailboxes, whether one failed, and why it ended
 pub record HeldState : Type 0 where
-  pub spools : List MemorySpool
+  pub mailboxes : List Mailbox
   pub faulty : Bool
   pub end : EndCause
 
@@ -150,7 +150,7 @@ pub record IsHeld (site : Site) (quota : Option ℕ) (moment : ℕ) (old new : S
   pub mailboxes : List MailboxContent
   pub delivered : AreMailboxes site quota read account mailboxes held.faulty
   pub run : IsRunOfRehearsal site quota read account mailboxes
-  pub holds : map (λ k. k.bytes) mailboxes ≡ bytes_of_all held.spools
+  pub holds : map (λ k. k.bytes) mailboxes ≡ bytes_of_all held.mailboxes
   pub said : List ℕ
   pub output : Appends old.written new.written said
   pub says : IsWritten (replies site (inputs site (conversation read account))) (held.end ≡ WriteFault) said

@@ -5,10 +5,10 @@ ghost use Rattle.std.specs.Io.KnownBytes.{Appends};
 ghost use Rattle.lmtpd_words.specs.Output.{IsCutOff};
 ghost use Rattle.lmtpd_rehearse.specs.Mailboxes.{bytes_of_all, mailbox_line, texts_of_mailboxes};
 
+use super::parts::Mailbox;
 use itoa::Buffer;
 use lmtp_text::Site;
 use lmtpd_words::{WriteFault, write_each};
-use mbox_record::MemorySpool;
 use std::io::Write;
 
 // Writes the line of a mailbox, and what it holds.
@@ -30,17 +30,17 @@ fn write_mailbox<W: Write>(writer: &mut W, name: &[u8], bytes: &[u8]) -> Result<
 pub fn write_mailboxes<W: Write>(
     writer: &mut W,
     site: &Site,
-    spools: &[MemorySpool],
+    mailboxes: &[Mailbox],
 ) -> Result<(), WriteFault>
-    requires { length spools.now ≡ length site.now.boxes }
+    requires { length mailboxes.now ≡ length site.now.boxes }
     ensures ok { OnOk result (Appends (W.contents writer.old) (W.contents writer.new)
-        (texts_of_mailboxes site.now.boxes (bytes_of_all spools.now))) }
+        (texts_of_mailboxes site.now.boxes (bytes_of_all mailboxes.now))) }
     ensures err { OnErr result (IsCutOff (W.contents writer.old) (W.contents writer.new)
-        (texts_of_mailboxes site.now.boxes (bytes_of_all spools.now))) }
+        (texts_of_mailboxes site.now.boxes (bytes_of_all mailboxes.now))) }
 {
     for number in 0..site.box_count() {
-        let spool = &spools[number as usize];
-        write_mailbox(writer, site.box_name(number), spool.bytes())?;
+        let mailbox = &mailboxes[number as usize];
+        write_mailbox(writer, site.box_name(number), mailbox.inner.bytes())?;
     }
     Ok(())
 }

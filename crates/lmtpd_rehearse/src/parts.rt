@@ -1,10 +1,10 @@
 //! What a rehearsal hands to the server that it runs.
 
 ghost use Rattle.std.specs.Prelude.{◌≡◌, length, replicate, IfOk};
-ghost use Rattle.lmtpd_rehearse.specs.Mailboxes.{empty_spool, mailbox_room};
+ghost use Rattle.lmtpd_rehearse.specs.Mailboxes.{empty_mailbox, mailbox_room};
 
 use box_worker::OpenGate;
-use lmtp_house::Sizes;
+use lmtp_house::{Sizes, Watched};
 use lmtp_text::Site;
 use lmtpd_words::DEFAULT_CAPACITY;
 use mbox_record::MemorySpool;
@@ -15,6 +15,9 @@ pub const MAILBOX_ROOM: usize = 2_097_152;
 
 /// A rehearsal has one client, and so one lane.
 const LANES: u32 = 1;
+
+/// A mailbox in memory, whose turns nobody sees.
+pub type Mailbox = Watched<MemorySpool, ()>;
 
 /// The sizes of a rehearsal's server: a slot for each lane, and the usual number of copies that may wait.
 pub fn sizes(blocks: u32, quota: Option<u64>) -> Sizes
@@ -35,16 +38,19 @@ fn mailbox_room(limit: u32) -> usize
     MAILBOX_ROOM.max(2 * limit as usize)
 }
 
-/// As many empty spools, each with room for a mailbox of the site.
-pub fn empty_spools(alloc: Global, site: &Site, count: u32) -> Result<Vec<MemorySpool>, AllocError>
-    ensures { IfOk result (λ spools. spools.items ≡ replicate count (empty_spool site.now)) }
+/// As many empty mailboxes of the site.
+pub fn empty_mailboxes(alloc: Global, site: &Site, count: u32) -> Result<Vec<Mailbox>, AllocError>
+    ensures { IfOk result (λ mailboxes. mailboxes.items ≡ replicate count (empty_mailbox site.now)) }
 {
     let room = mailbox_room(site.message_limit());
-    let mut spools = Vec::with_capacity(alloc, count as usize)?;
+    let mut mailboxes = Vec::with_capacity(alloc, count as usize)?;
     for _made in 0..count {
-        spools.push(MemorySpool::new(alloc, b"", room)?)?;
+        mailboxes.push(Watched {
+            inner: MemorySpool::new(alloc, b"", room)?,
+            observer: (),
+        })?;
     }
-    Ok(spools)
+    Ok(mailboxes)
 }
 
 /// That many open gates.

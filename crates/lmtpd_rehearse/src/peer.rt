@@ -2,9 +2,9 @@
 
 ghost use Rattle.std.specs.Prelude.{[], None};
 
-use lmtp_house::{Arrived, Came, Pause, Peer, PeerFault};
-use mail_world::Reply;
+use lmtp_house::{Came, Client, Pause, Peer, PeerFault, ReadBuffer, Traffic};
 use std::io::{Read, Write};
+use std::time::Duration;
 
 /// A client whose bytes come from a reader, and whose replies go to a writer. It never says that the server is to stop.
 #[derive(Drop)]
@@ -15,6 +15,9 @@ pub struct StreamPeer<R, W> {
     pub reads: u64,
     /// How many reads and writes failed; it stays at its largest value.
     pub failures: u64,
+    /// How many bytes the reader brought, and how many the writer took; each count stays at its largest value.
+    pub bytes_read: u64,
+    pub bytes_written: u64,
 }
 
 impl<R: Read, W: Write> Peer for StreamPeer<R, W> {
@@ -26,14 +29,16 @@ impl<R: Read, W: Write> Peer for StreamPeer<R, W> {
       failures = p.failures;
       stops = 0;
       holds = [];
-      told = None;
     } };
 
-    fn read(&mut self, buffer: &mut [u8], _pause: Pause) -> Result<Came, PeerFault> {
+    fn read(&mut self, buffer: &mut ReadBuffer, _pause: Pause) -> Result<Came, PeerFault> {
         self.reads = self.reads.saturating_add(1);
-        match self.reader.read(buffer) {
+        match buffer.take_piece(&mut self.reader) {
             Ok(0) => Ok(Came::End),
-            Ok(size) => Ok(Came::Bytes(size)),
+            Ok(size) => {
+                self.bytes_read = self.bytes_read.saturating_add(size as u64);
+                Ok(Came::Bytes(size))
+            }
             Err(_) => {
                 self.failures = self.failures.saturating_add(1);
                 Err(PeerFault)
@@ -48,13 +53,20 @@ impl<R: Read, W: Write> Peer for StreamPeer<R, W> {
                 self.failures = self.failures.saturating_add(1);
                 Err(PeerFault)
             }
-            Ok(size) => Ok(size),
+            Ok(size) => {
+                self.bytes_written = self.bytes_written.saturating_add(size as u64);
+                Ok(size)
+            }
         }
     }
 
-    /// It has no log.
-    fn tell_command(&mut self, _line: &[u8], _reply: Reply) {}
-
-    /// It has no log.
-    fn tell_copy(&mut self, _arrived: Arrived, _client: &[u8], _reply: Reply) {}
+    /// It has no address, as a client of a Unix socket, and no clock.
+    fn traffic(&self) -> Traffic {
+        Traffic {
+            client: Client::Unix,
+            began: Duration::MAX,
+            read: self.bytes_read,
+            written: self.bytes_written,
+        }
+    }
 }

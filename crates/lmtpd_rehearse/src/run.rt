@@ -3,7 +3,7 @@
 ghost use Rattle.std.specs.Prelude.{◌≡◌, ◌⊎◌, [], ◌∷◌, length, IfOk, Err};
 ghost use Rattle.std.specs.Arc.{arc_value};
 ghost use Rattle.lmtpd_rehearse.specs.Mailboxes.{bytes_of_all, texts_of_mailboxes};
-ghost use Rattle.lmtpd_rehearse.specs.Client.{IsOnlyOver};
+ghost use Rattle.lmtpd_rehearse.specs.Client.{IsOnlyOver, unseen};
 ghost use Rattle.lmtpd_rehearse.specs.declared.client.OnlyClient.TheVariants as OnlyClient;
 ghost use Rattle.lmtpd_words.specs.Output.{IsListed};
 ghost use Rattle.lmtpd_rehearse.specs.Rehearsal.{IsRehearsed, IsBlockCount, IsHeld};
@@ -12,11 +12,10 @@ use super::client::OnlyClient;
 use super::clock::FixedClock;
 use super::ending::{Ending, Rehearsed};
 use super::output::write_mailboxes;
-use super::parts::{empty_spools, open_gates, sizes};
+use super::parts::{Mailbox, empty_mailboxes, open_gates, sizes};
 use super::peer::StreamPeer;
-use lmtp_house::{EndCause, HouseFault, has_failed, run_house};
+use lmtp_house::{EndCause, HouseFault, Watched, has_failed, run_house};
 use lmtp_text::Site;
-use mbox_record::MemorySpool;
 use std::alloc::Global;
 use std::io::{Read, Write};
 use std::sync::{Arc, Wait};
@@ -51,6 +50,8 @@ where
         writer,
         reads: 0,
         failures: 0,
+        bytes_read: 0,
+        bytes_written: 0,
     };
     let conditions = Conditions {
         blocks,
@@ -63,7 +64,7 @@ where
         mut writer,
         ..
     } = held.peer;
-    let cut = is_cut(&site, &held.spools, &mut writer);
+    let cut = is_cut(&site, &held.mailboxes, &mut writer);
     let ending = Ending {
         end: held.end,
         faulty: held.faulty,
@@ -91,7 +92,7 @@ struct Conditions {
 struct Held<P> {
     peer: P,
     end: EndCause,
-    spools: Vec<MemorySpool>,
+    mailboxes: Vec<Mailbox>,
     /// Whether one of them failed.
     faulty: bool,
 }
@@ -111,16 +112,19 @@ where
     ensures held { IfOk result (λ held. IsHeld (arc_value site) conditions.quota conditions.moment
         (record { unread = R.remaining peer.reader; written = W.contents peer.writer })
         (record { unread = R.remaining held.peer.reader; written = W.contents held.peer.writer })
-        (record { spools = held.spools.items; faulty = held.faulty; end = held.end })) }
+        (record { mailboxes = held.mailboxes.items; faulty = held.faulty; end = held.end })) }
     ensures only_size { result ≡ Err HouseFault.Size → ¬ IsBlockCount conditions.blocks }
     ensures size { ¬ IsBlockCount conditions.blocks
         → (result ≡ Err HouseFault.Size) ⊎ (result ≡ Err HouseFault.Memory) }
 {
     let count = site.box_count();
-    let spools = empty_spools(alloc, &site, count)?;
+    let mailboxes = empty_mailboxes(alloc, &site, count)?;
     let gates = open_gates(alloc, count)?;
     let mut visits = Vec::with_capacity(alloc, 1)?;
-    visits.push_reserved(OnlyClient::Waiting(peer));
+    visits.push_reserved(Watched {
+        inner: OnlyClient::Waiting(peer),
+        observer: (),
+    });
     let Conditions {
         blocks,
         quota,
@@ -133,7 +137,7 @@ where
         site,
         sizes(blocks, quota),
         visits,
-        spools,
+        mailboxes,
         gates,
         clock,
     )?;
@@ -142,27 +146,32 @@ where
     Ok(Held {
         peer,
         end,
-        spools: report.spools,
+        mailboxes: report.spools,
         faulty,
     })
 }
 
 // Takes the client out of the list where it is the only one, and has left.
-fn only_client<P: Drop>(mut clients: Vec<OnlyClient<P>>) -> (P, EndCause)
+fn only_client<P: Drop>(mut clients: Vec<Watched<OnlyClient<P>, ()>>) -> (P, EndCause)
     requires { IsOnlyOver clients.items }
-    ensures { clients.items ≡ OnlyClient.Over result.0 result.1 ∷ [] }
+    ensures { clients.items ≡ unseen (OnlyClient.Over result.0 result.1) ∷ [] }
 {
     match clients.pop() {
-        Some(OnlyClient::Over(peer, end)) => (peer, end),
+        Some(
+            Watched {
+                inner: OnlyClient::Over(peer, end),
+                ..
+            },
+        ) => (peer, end),
         _ => unreachable!(),
     }
 }
 
 // Writes the mailboxes, also where a write of the replies has failed, and says whether a write fails.
-fn is_cut<W: Write>(site: &Site, spools: &[MemorySpool], writer: &mut W) -> bool
-    requires { length spools.now ≡ length site.now.boxes }
-    ensures { IsListed (texts_of_mailboxes site.now.boxes (bytes_of_all spools.now))
+fn is_cut<W: Write>(site: &Site, mailboxes: &[Mailbox], writer: &mut W) -> bool
+    requires { length mailboxes.now ≡ length site.now.boxes }
+    ensures { IsListed (texts_of_mailboxes site.now.boxes (bytes_of_all mailboxes.now))
         (W.contents writer.old) (W.contents writer.new) result }
 {
-    write_mailboxes(writer, site, spools).is_err()
+    write_mailboxes(writer, site, mailboxes).is_err()
 }

@@ -1,3 +1,4 @@
 mod TroubleLines
 mod Unmapped
+mod WithLogs
 pub mod Said

@@ -1,6 +1,6 @@
 -- What a server says on standard output and on standard error, and what its run comes to.
 use Rattle.std.specs.Prelude.{◌≡◌, ◌==◌, ◌||◌, ◌<◌, ◌^◌, ℕ, List, [], ◌∷◌, ◌++◌, length, codes, decimal, map}
-use Rattle.std.specs.Prelude.{if◌then◌else◌, Bool, true, false, IfSome, Option, Some}
+use Rattle.std.specs.Prelude.{if◌then◌else◌, Bool, true, false, IfSome, Option}
 use Rattle.std.specs.Io.KnownBytes.{Keeps}
 use Rattle.std.specs.Arc.{arc_value}
 use Rattle.std.specs.List.{AllByRecursion, list_any}
@@ -9,17 +9,16 @@ use Rattle.lmtp_lane.specs.declared.tcp.listener.Endpoint.{Endpoint}
 use Rattle.lmtp_lane.specs.declared.tcp.listener.Endpoint.TheVariants.{Ip, Unix}
 use Rattle.mail_world.specs.Text.{lf}
 use Rattle.mail_world.specs.Site.{Site}
-use Rattle.lmtp_threads.specs.Works.{SpoolsView}
+use Rattle.lmtp_threads.specs.Works.{SpoolsView, visits_view}
+use Rattle.lmtp_threads.specs.declared.watched.Watched.{Watched}
 use Rattle.lmtp_threads.specs.declared.tally.Tally.{Tally}
 use Rattle.lmtp_house.specs.Handed.{HandedBack}
 use Rattle.lmtp_house.specs.House.{HasRun}
 use Rattle.lmtp_house.specs.declared.house.sizes.Sizes.{Sizes}
 use Rattle.lmtp_lane.specs.TcpVisits.{IsLaneOf, IsNewcomer, connections_left, conversations_ended, has_failed}
-use Rattle.lmtp_lane.specs.TcpVisits.{is_over, shares, was_stopped}
+use Rattle.lmtp_lane.specs.TcpVisits.{is_over, shares, told_by, was_stopped}
+use Rattle.lmtp_lane.specs.declared.tcp.visits.TcpVisits.{TcpVisits}
 use Rattle.lmtp_talk.specs.Entries.{Entry}
-use Rattle.lmtpd_log.specs.Logged.{listener_in, visits_in, log_in, told_with_log}
-use Rattle.lmtpd_log.specs.declared.listener.CountedListener.{CountedListener}
-use Rattle.lmtpd_log.specs.declared.visits.LoggedVisits.{LoggedVisits}
 use Rattle.lmtpd_words.specs.Output.{IsListed, pair_texts}
 use Rattle.lmtpd_serve.specs.declared.conversations.Conversations.{Conversations}
 use Rattle.lmtpd_serve.specs.declared.lines.Trouble.{Trouble}
@@ -87,46 +86,42 @@ pub record Serving (L E : Type 0) : Type 0 where
   pub listener : L
   pub addresses : Bool
 
--- Each of these visits has a log, which was told nothing yet, and whose lines show addresses just where that is asked
--- for.
-pub record HaveLogs {L G C E : Type 0} (told : G → Option (List Entry)) (shows : G → Bool) (addresses : Bool)
-    (visits : List (LoggedVisits L G C E)) : Type 0 where
-  pub logs : List G
-  pub each : map log_in visits ≡ map (λ log. Some log) logs
-  pub shown : AllByRecursion (λ log. shows log ≡ addresses) logs
-  pub untold : AllByRecursion (λ log. IfSome (told log) (λ entries. entries ≡ [])) logs
+-- The clients of a lane, and its log beside them.
+abbrev pub LoggedVisits : Type 0 → Type 0 → Type 0 → Type 0
+LoggedVisits L E G = Watched (TcpVisits L E) G
+
+-- The log of each of these lanes was told nothing yet, and its lines show addresses just where that is asked for.
+pub record HaveLogs {L E G : Type 0} (told : G → Option (List Entry)) (shows : G → Bool) (addresses : Bool)
+    (visits : List (LoggedVisits L E G)) : Type 0 where
+  pub shown : AllByRecursion (λ v. shows v.observer ≡ addresses) visits
+  pub untold : AllByRecursion (λ v. IfSome (told v.observer) (λ entries. entries ≡ [])) visits
 
 -- The clients of the lanes are those of this listener, within the bounds and until the curfew of the conversations,
 -- whose count the lanes share; of none has anything failed or was stopped yet.
-pub record AreLanesFor {L G C E : Type 0} (listener : L) (conversations : Conversations E)
-    (visits : List (LoggedVisits L G C E)) : Type 0 where
-  pub counted : CountedListener L C
-  pub over : listener_in counted ≡ listener
+pub record AreLanesFor {L E G : Type 0} (listener : L) (conversations : Conversations E)
+    (visits : List (LoggedVisits L E G)) : Type 0 where
   pub each : AllByRecursion
-      (λ v. IsLaneOf counted conversations.bounds (arc_value conversations.curfew) (visits_in v)) visits
+      (λ v. IsLaneOf listener conversations.bounds (arc_value conversations.curfew) v.inner) visits
   pub count : length visits ≡ conversations.lanes
-  pub share : map (λ v. connections_left (visits_in v)) visits ≡ shares conversations.count conversations.lanes
+  pub share : map (λ v. connections_left v.inner) visits ≡ shares conversations.count conversations.lanes
 
 -- A server ran for the site with what it was to be run with, over clients of its listener, of whom it is told how many
 -- were handed back, and these spools; each lane has a log, `told` says what one was told and `shows` whether its lines
--- show addresses, and a lane's log was told the entries of its conversations; what is told of each mailbox is what its
--- worker counted, and the server is faulty exactly where a worker is, whose last turn broke; it failed exactly where
--- its listener can't tell where it listens or a lane's accept failed, and was stopped exactly where a lane was; and
--- where it listens and what was stored was said, up to a write that failed.
-pub record IsServerRun (C : Type 0) {L E S G : Type 0} (site : Site) (view : SpoolsView S)
+-- show addresses, and a lane's log was told the entries of its conversations, as the observer of each spool was of its
+-- turns; what is told of each mailbox is what its worker counted, and the server is faulty exactly where a worker is,
+-- whose last turn broke; it failed exactly where its listener can't tell where it listens or a lane's accept failed,
+-- and was stopped exactly where a lane was; and where it listens and what was stored was said, up to a write that
+-- failed.
+pub record IsServerRun {L E S G : Type 0} (site : Site) (view : SpoolsView S)
     (told : G → Option (List Entry)) (shows : G → Bool) (serving : Serving L E) (spools : List S)
     (before after : Option (List ℕ)) (served : Served) : Type 0 where
-  pub visits : List (LoggedVisits L G C E)
-  pub back : HandedBack (LoggedVisits L G C E) S
+  pub visits : List (LoggedVisits L E G)
+  pub back : HandedBack (LoggedVisits L E G) S
   pub lanes : AreLanesFor serving.listener serving.conversations visits
   pub logs : HaveLogs told shows serving.addresses visits
-  pub none_ended : AllByRecursion (λ v. conversations_ended (visits_in v) ≡ 0) visits
+  pub none_ended : AllByRecursion (λ v. conversations_ended v.inner ≡ 0) visits
   pub ran : HasRun site (λ moment. moment < 2 ^ 32)
-      (record {
-        MayGive = λ _ peer. IsNewcomer peer;
-        finished = λ v. told_with_log told v;
-        over = λ v. is_over (visits_in v);
-      })
+      (visits_view (λ _ peer. IsNewcomer peer) told_by is_over told)
       view
       (record {
         visits = visits;
@@ -140,8 +135,8 @@ pub record IsServerRun (C : Type 0) {L E S G : Type 0} (site : Site) (view : Spo
   pub tallies : served.tallies.items ≡ back.tallies
   pub faulty : served.ending.faulty ≡ list_any (λ tally. tally.faulty) back.tallies
   pub unknown : Bool
-  pub failed : served.ending.failed ≡ unknown || list_any (λ v. has_failed (visits_in v)) back.visits
-  pub stopped : served.ending.stopped ≡ list_any (λ v. was_stopped (visits_in v)) back.visits
+  pub failed : served.ending.failed ≡ unknown || list_any (λ v. has_failed v.inner) back.visits
+  pub stopped : served.ending.stopped ≡ list_any (λ v. was_stopped v.inner) back.visits
   pub announcement : List ℕ
   pub announces : IsAnnouncement unknown announcement
   pub said : IsListed (announcement ++ counts_text site.boxes back.tallies) before after served.ending.cut

@@ -10,9 +10,12 @@ mod lines;
 mod run;
 mod saying;
 mod served;
+mod watching;
 
 pub use conversations::Conversations;
 pub use lines::{Trouble, write_trouble_lines};
-pub use lmtp_house::{Bounds, ClientStream, Curfew, Endpoint, Listener, Sizes, Tally, WAIT_MS};
+pub use lmtp_house::{
+    Bounds, ClientStream, Curfew, Endpoint, Listener, Sizes, Tally, WAIT_MS, Watched,
+};
 pub use run::serve_run;
 pub use served::{Served, ServerEnding};

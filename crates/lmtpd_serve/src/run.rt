@@ -6,19 +6,20 @@ ghost use Rattle.std.specs.Arc.{arc_value};
 ghost use Rattle.lmtp_lane.specs.TcpVisits.{conversations_ended, has_failed, is_out, was_stopped};
 ghost use Rattle.lmtp_threads.specs.Works.{spools_view};
 ghost use Rattle.lmtp_house.specs.House.{IsSize};
-ghost use Rattle.lmtpd_log.specs.Logged.{visits_in};
 ghost use Rattle.lmtpd_serve.specs.Served.{AreLanesFor, HaveLogs, IsAnnounced, IsServerRun, ListsOn, counts_text};
 
 use super::busy::RestGate;
 use super::conversations::Conversations;
 use super::saying::{Announced, announce, is_cut};
 use super::served::{Served, ServerEnding};
+use super::watching::watched;
+use box_worker::TurnObserver;
 use lmtp_house::{
-    ClientStream, Curfew, HouseFault, HouseReport, Listener, Sizes, SystemClock, has_failed,
-    is_size, run_house, tcp_visits,
+    ClientStream, Curfew, HouseFault, HouseReport, Listener, Sizes, SystemClock, TcpVisits,
+    Watched, has_failed, is_size, run_house, tcp_visits,
 };
 use lmtp_text::Site;
-use lmtpd_log::{CountedListener, LaneLogs, LoggedVisits, lane_logs, logged_visits};
+use lmtpd_log::{LaneLogs, lane_logs};
 use mbox_record::Spool;
 use std::alloc::{AllocError, Global};
 use std::io::{Read, Write};
@@ -27,17 +28,17 @@ use std::thread::Threads;
 use std::time::Clock;
 
 /// Says where the server listens, runs it for that many conversations, which the lanes share, and says for each mailbox
-/// how many copies it stored. Each lane's log is told of its conversations. Nothing more is said once a write
-/// failed; the server runs all the same, as it does where the listener can't tell its address. What each mailbox's
-/// worker did is handed back.
-pub fn serve_run<L, E, S, G, W, H>(
+/// how many copies it stored. Each lane's log is told of its conversations, and each mailbox's observer of its turns.
+/// Nothing more is said once a write failed; the server runs all the same, as it does where the listener can't tell its
+/// address. What each mailbox's worker did is handed back.
+pub fn serve_run<L, E, S, T, G, W, H>(
     rt: H,
     alloc: Global,
     site: Arc<Site>,
     sizes: Sizes,
     conversations: Conversations<E>,
     listener: L,
-    spools: Vec<S>,
+    spools: Vec<Watched<S, T>>,
     logs: G,
     writer: &mut W,
 ) -> Result<Served, HouseFault>
@@ -46,6 +47,7 @@ where
     L::Stream: Read + Write + ClientStream + Drop + Send + 'static,
     E: Curfew + Send + Sync + 'static,
     S: Spool + Drop + Send + 'static,
+    T: TurnObserver + Send + 'static,
     G: LaneLogs + Drop,
     G::Log: Send + 'static,
     W: Write,
@@ -54,7 +56,7 @@ where
         result ≡ Err HouseFault.Size ↔ ¬ IsSize (arc_value site) sizes conversations.lanes count count }
     ensures sized { let count = length spools.items in
         (result ≡ Err HouseFault.Size) ⊎ IsSize (arc_value site) sizes conversations.lanes count count }
-    ensures ran { IfOk result (IsServerRun H (arc_value site) (spools_view S.state S.MayFind S.MayRefuse)
+    ensures ran { IfOk result (IsServerRun (arc_value site) (spools_view S.state S.MayFind S.MayRefuse T.told)
         G.Log.told G.Log.addresses
         (record {
           sizes = sizes;
@@ -80,12 +82,12 @@ where
     run_sized(rt, alloc, house, clients, &logs, writer)
 }
 
-/// The site that is served, its sizes, and the spool of each mailbox.
+/// The site that is served, its sizes, and the spool of each mailbox with its observer.
 #[derive(Drop)]
-struct ServedHouse<S: Drop> {
+struct ServedHouse<S: Drop, T: Drop> {
     site: Arc<Site>,
     sizes: Sizes,
-    spools: Vec<S>,
+    spools: Vec<Watched<S, T>>,
 }
 
 /// The conversations to be held, and where their clients come from.
@@ -94,6 +96,9 @@ struct Clients<L: Drop, E: Drop> {
     conversations: Conversations<E>,
     listener: L,
 }
+
+/// A lane's clients, and its log beside them.
+type LoggedVisits<L, E, O> = Watched<TcpVisits<L, E>, O>;
 
 /// A gate for each mailbox, what came of saying where the server listens, and the clients of each lane.
 #[derive(Drop)]
@@ -104,10 +109,10 @@ struct Prepared<V: Drop, H: Drop> {
 }
 
 // The run of a server, once its sizes were looked at.
-fn run_sized<L, E, S, G, W, H>(
+fn run_sized<L, E, S, T, G, W, H>(
     rt: H,
     alloc: Global,
-    house: ServedHouse<S>,
+    house: ServedHouse<S, T>,
     clients: Clients<L, E>,
     logs: &G,
     writer: &mut W,
@@ -117,6 +122,7 @@ where
     L::Stream: Read + Write + ClientStream + Drop + Send + 'static,
     E: Curfew + Send + Sync + 'static,
     S: Spool + Drop + Send + 'static,
+    T: TurnObserver + Send + 'static,
     G: LaneLogs,
     G::Log: Send + 'static,
     W: Write,
@@ -124,8 +130,8 @@ where
     requires { let count = length house.spools.items in
         IsSize (arc_value house.site) house.sizes clients.conversations.lanes count count }
     ensures sized { result ≡ Err HouseFault.Size → ⊥ }
-    ensures ran { IfOk result (IsServerRun H (arc_value house.site) (spools_view S.state S.MayFind S.MayRefuse)
-        G.Log.told G.Log.addresses
+    ensures ran { IfOk result (IsServerRun (arc_value house.site)
+        (spools_view S.state S.MayFind S.MayRefuse T.told) G.Log.told G.Log.addresses
         (record {
           sizes = house.sizes;
           conversations = clients.conversations;
@@ -161,7 +167,7 @@ fn prepare<L, E, G, W, H>(
     clients: Clients<L, E>,
     logs: &G,
     writer: &mut W,
-) -> Result<Prepared<LoggedVisits<L, G::Log, H, E>, H>, AllocError>
+) -> Result<Prepared<LoggedVisits<L, E, G::Log>, H>, AllocError>
 where
     L: Listener + Drop,
     E: Drop,
@@ -172,9 +178,9 @@ where
     ensures lanes { IfOk result
         (λ prepared. AreLanesFor clients.listener clients.conversations prepared.visits.items) }
     ensures none_ended { IfOk result
-        (λ prepared. AllByRecursion (λ v. conversations_ended (visits_in v) ≡ 0) prepared.visits.items) }
+        (λ prepared. AllByRecursion (λ v. conversations_ended v.inner ≡ 0) prepared.visits.items) }
     ensures none_out { IfOk result
-        (λ prepared. AllByRecursion (λ v. is_out (visits_in v) ≡ false) prepared.visits.items) }
+        (λ prepared. AllByRecursion (λ v. is_out v.inner ≡ false) prepared.visits.items) }
     ensures logs { IfOk result
         (λ prepared. HaveLogs G.Log.told G.Log.addresses (G.addresses logs.now) prepared.visits.items) }
     ensures announced { IfOk result
@@ -187,7 +193,7 @@ where
         conversations,
         listener,
     } = clients;
-    let visits = visits_of(rt, alloc, conversations, listener, logs)?;
+    let visits = visits_of(alloc, conversations, listener, logs)?;
     Ok(Prepared {
         gates,
         announced,
@@ -196,10 +202,10 @@ where
 }
 
 // What the run of the house comes to, once it is said what was stored.
-fn served_by<L: Drop, G: Drop, H: Drop, E: Drop, S: Drop, W: Write>(
+fn served_by<L: Drop, E: Drop, O: Drop, S: Drop, T: Drop, H: Drop, W: Write>(
     site: Arc<Site>,
     announced: Announced,
-    report: HouseReport<LoggedVisits<L, G, H, E>, S, RestGate<H>>,
+    report: HouseReport<TcpVisits<L, E>, O, S, T, RestGate<H>>,
     writer: &mut W,
 ) -> Served
     requires { length report.tallies ≡ length (arc_value site).boxes }
@@ -207,8 +213,8 @@ fn served_by<L: Drop, G: Drop, H: Drop, E: Drop, S: Drop, W: Write>(
     ensures tallies { result.tallies.items ≡ report.tallies }
     ensures faulty { result.ending.faulty ≡ list_any (λ tally. tally.faulty) report.tallies }
     ensures failed { result.ending.failed
-        ≡ announced.is_unknown || list_any (λ v. has_failed (visits_in v)) report.visits }
-    ensures stopped { result.ending.stopped ≡ list_any (λ v. was_stopped (visits_in v)) report.visits }
+        ≡ announced.is_unknown || list_any (λ v. has_failed v.inner) report.visits }
+    ensures stopped { result.ending.stopped ≡ list_any (λ v. was_stopped v.inner) report.visits }
     ensures said { ListsOn announced.is_cut (counts_text (arc_value site).boxes report.tallies)
         (W.contents writer.old) (W.contents writer.new) result.ending.cut }
 {
@@ -226,31 +232,30 @@ fn served_by<L: Drop, G: Drop, H: Drop, E: Drop, S: Drop, W: Write>(
 }
 
 // Whether a lane's accept failed.
-fn has_one_failed<L: Drop, G: Drop, H: Drop, E: Drop>(visits: &[LoggedVisits<L, G, H, E>]) -> bool
-    ensures { result ≡ list_any (λ v. has_failed (visits_in v)) visits.now }
+fn has_one_failed<L: Drop, E: Drop, O: Drop>(visits: &[LoggedVisits<L, E, O>]) -> bool
+    ensures { result ≡ list_any (λ v. has_failed v.inner) visits.now }
 {
-    visits.iter().any(|visits| visits.failed())
+    visits.iter().any(|visits| visits.inner.failed())
 }
 
 // Whether a lane found that the server's end was asked for.
-fn is_one_stopped<L: Drop, G: Drop, H: Drop, E: Drop>(visits: &[LoggedVisits<L, G, H, E>]) -> bool
-    ensures { result ≡ list_any (λ v. was_stopped (visits_in v)) visits.now }
+fn is_one_stopped<L: Drop, E: Drop, O: Drop>(visits: &[LoggedVisits<L, E, O>]) -> bool
+    ensures { result ≡ list_any (λ v. was_stopped v.inner) visits.now }
 {
-    visits.iter().any(|visits| visits.stopped())
+    visits.iter().any(|visits| visits.inner.stopped())
 }
 
-// The clients of all lanes.
-fn visits_of<L: Drop, E: Drop, G: LaneLogs, H: Copy + Drop>(
-    rt: H,
+// The clients of all lanes, each with its log.
+fn visits_of<L: Drop, E: Drop, G: LaneLogs>(
     alloc: Global,
     conversations: Conversations<E>,
     listener: L,
     logs: &G,
-) -> Result<Vec<LoggedVisits<L, G::Log, H, E>>, AllocError>
+) -> Result<Vec<LoggedVisits<L, E, G::Log>>, AllocError>
     ensures lanes { IfOk result (λ visits. AreLanesFor listener conversations visits.items) }
     ensures none_ended { IfOk result
-        (λ visits. AllByRecursion (λ v. conversations_ended (visits_in v) ≡ 0) visits.items) }
-    ensures none_out { IfOk result (λ visits. AllByRecursion (λ v. is_out (visits_in v) ≡ false) visits.items) }
+        (λ visits. AllByRecursion (λ v. conversations_ended v.inner ≡ 0) visits.items) }
+    ensures none_out { IfOk result (λ visits. AllByRecursion (λ v. is_out v.inner ≡ false) visits.items) }
     ensures logs { IfOk result (λ visits. HaveLogs G.Log.told G.Log.addresses (G.addresses logs.now) visits.items) }
 {
     let Conversations {
@@ -259,9 +264,8 @@ fn visits_of<L: Drop, E: Drop, G: LaneLogs, H: Copy + Drop>(
         bounds,
         curfew,
     } = conversations;
-    let listener = CountedListener::new(listener, rt);
     let visits = tcp_visits(alloc, listener, lanes, count, bounds, curfew)?;
     let logs = lane_logs(alloc, logs, lanes)?;
-    let logged = logged_visits(alloc, visits, logs)?;
+    let logged = watched(alloc, visits, logs)?;
     Ok(logged)
 }

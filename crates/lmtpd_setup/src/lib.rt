@@ -3,7 +3,7 @@
 //! fails.
 //!
 //! The program uses that each is what its words ask for, and why it stops where one can't be had. It never knows of a
-//! server's run, of workers, or of a rehearsal.
+//! server's run or of a rehearsal.
 #![tactic(auto)]
 
 mod boxes;
@@ -24,7 +24,7 @@ pub use ends::{Ends, ServerCurfew};
 pub use fault::Fault;
 pub use hurried::HurriedClock;
 pub use logger::ServerLog;
-pub use mailboxes::ServedMailbox;
+pub use mailboxes::{ServedMailbox, WaitingMailbox};
 pub use names::SHOWN_LIMIT;
 pub use opening::open_address;
 pub use setup::{ServerSetup, set_up};

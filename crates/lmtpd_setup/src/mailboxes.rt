@@ -1,16 +1,19 @@
-//! The files of a server's mailboxes.
+//! The files of a server's mailboxes, and a log beside each.
 
 ghost use Rattle.std.specs.Prelude.{◌≡◌, [], Some, length, map, string_bytes, vec_len, IfOk, IfErr};
+ghost use Rattle.std.specs.List.{AllByRecursion};
 ghost use Rattle.mbox_file.specs.StdFile.{file_mode, file_path};
-ghost use Rattle.lmtpd_log.specs.Logged.{file_in, spool_in};
-ghost use Rattle.lmtpd_setup.specs.Mailboxes.{held_as, held_at, held_in, path_at};
+ghost use Rattle.lmtpd_log.specs.MailboxLogs.{name_in, turns_told};
+ghost use Rattle.lmtpd_words.specs.Printable.{printable_text};
+ghost use Rattle.lmtpd_setup.specs.Mailboxes.{IsUntold, held_as, held_at, path_at};
 ghost use Rattle.lmtpd_setup.specs.Unopened.{AreNotOpen, IsNotOpen};
 
 use crate::ends::ServerCurfew;
 use crate::fault::Fault;
 use crate::hurried::HurriedClock;
 use crate::stop::Stop;
-use lmtpd_log::{LoggedFile, LoggedMailbox};
+use lmtp_threads::Watched;
+use lmtpd_log::{LogSink, MailboxLog};
 use lmtpd_words::printable;
 use log::{Log, error};
 use mbox_rd::{FileSpool, MailboxFile, RangeLock, StdMailboxFile};
@@ -21,11 +24,11 @@ use std::io::ErrorKind;
 use std::sync::Arc;
 use std::time::Clock;
 
-/// A mailbox of whose file it is logged that it fails, and that waits for other programs until the server is to end.
-type WaitingMailbox<R, G> = FileSpool<LoggedFile<StdMailboxFile<R>, G>, HurriedClock<R>>;
+/// A mailbox that waits for other programs until the server is to end.
+pub type WaitingMailbox<R> = FileSpool<StdMailboxFile<R>, HurriedClock<R>>;
 
-/// One of which it is logged that it is in use.
-pub type ServedMailbox<R, G> = LoggedMailbox<WaitingMailbox<R, G>, G>;
+/// One whose turns are logged.
+pub type ServedMailbox<R, G> = Watched<WaitingMailbox<R>, MailboxLog<LogSink<G>>>;
 
 /// Where mailboxes are, what their files have after their names, how many seconds a turn at one is waited for, the
 /// permission bits of a file that is made, and whether a mailbox is had though its file can't be opened.
@@ -40,7 +43,7 @@ pub struct Access<'a> {
 
 /// Opens the file of each mailbox, `FOLDER/NAME` and the suffix, in their order, up to the first that can't be opened,
 /// of which the log says why. With `anyway` it goes on after such a one, whose turns are missed until its file is in
-/// order; only a folder that can't be read ends it. A mailbox that fails is logged, and one that is in use.
+/// order; only a folder that can't be read ends it. Each has a log of its own, which was told of no turn yet.
 pub fn open_mailboxes<'a, R, G>(
     rt: R,
     alloc: Global,
@@ -55,6 +58,7 @@ where
     G: Log + Copy + Drop,
     ensures count { IfOk result (λ spools. vec_len spools ≡ length names.now) }
     ensures held { IfOk result (λ spools. map held_as spools.items ≡ map (held_at access.entry) names.now) }
+    ensures untold { IfOk result (λ spools. AllByRecursion (λ mailbox. IsUntold mailbox) spools.items) }
     ensures refused { IfErr result (AreNotOpen access.entry names.now) }
 {
     let mut spools = match Vec::with_capacity(alloc, names.len()) {
@@ -62,26 +66,9 @@ where
         Err(_) => return Err(Stop::Fault(Fault::Memory)),
     };
     for name in names {
-        let spool = open_mailbox(rt, alloc, access, name, curfew, log)?;
-        spools.push_reserved(logged_mailbox(alloc, spool, name, log)?);
+        spools.push_reserved(open_mailbox(rt, alloc, access, name, curfew, log)?);
     }
     Ok(spools)
-}
-
-fn logged_mailbox<'a, S: Drop, G: Drop>(
-    alloc: Global,
-    spool: S,
-    name: &'a [u8],
-    log: G,
-) -> Result<LoggedMailbox<S, G>, Stop<'a>>
-    ensures ok { IfOk result (λ mailbox. spool_in mailbox ≡ spool) }
-    ensures err { IfErr result (λ stop. stop ≡ Stop.Fault Fault.Memory) }
-{
-    let name = printable(name);
-    match format!(in alloc; "{name}") {
-        Ok(name) => Ok(LoggedMailbox::new(spool, name, log)),
-        Err(_) => Err(Stop::Fault(Fault::Memory)),
-    }
 }
 
 fn open_mailbox<'a, R, G>(
@@ -91,21 +78,23 @@ fn open_mailbox<'a, R, G>(
     name: &'a [u8],
     curfew: &Arc<ServerCurfew<R>>,
     log: G,
-) -> Result<WaitingMailbox<R, G>, Stop<'a>>
+) -> Result<ServedMailbox<R, G>, Stop<'a>>
 where
     R: Files + Clock + Copy + Drop,
     R::File: RangeLock,
     G: Log + Drop,
-    ensures ok { IfOk result (λ spool. held_in spool ≡ held_at access.entry name.entry) }
+    ensures ok { IfOk result (λ mailbox. held_as mailbox ≡ held_at access.entry name.entry) }
+    ensures untold { IfOk result (λ mailbox. IsUntold mailbox) }
     ensures err { IfErr result (IsNotOpen access.entry name.entry) }
 {
     let file = open_file(rt, alloc, access, name, &log)?;
-    let file = logged_file(alloc, file, name, log)?;
     let clock = HurriedClock::new(rt, shared(curfew)?);
-    match FileSpool::new(alloc, file, clock, access.wait) {
-        Ok(spool) => Ok(spool),
-        Err(_) => Err(Stop::Fault(Fault::Memory)),
-    }
+    let inner = match FileSpool::new(alloc, file, clock, access.wait) {
+        Ok(spool) => spool,
+        Err(_) => return Err(Stop::Fault(Fault::Memory)),
+    };
+    let observer = mailbox_log(alloc, name, log)?;
+    Ok(Watched { inner, observer })
 }
 
 // What can't be opened, and is had all the same, is opened by the first turn that can.
@@ -170,18 +159,19 @@ fn allow_unopened<'a, R: Files, G: Log>(
     Ok(())
 }
 
-fn logged_file<'a, F: Drop, G: Drop>(
+// The log of the mailbox of that name.
+fn mailbox_log<'a, G: Log + Drop>(
     alloc: Global,
-    file: F,
-    name: &'a [u8],
+    name: &[u8],
     log: G,
-) -> Result<LoggedFile<F, G>, Stop<'a>>
-    ensures ok { IfOk result (λ logged. file_in logged ≡ file) }
+) -> Result<MailboxLog<LogSink<G>>, Stop<'a>>
+    ensures name { IfOk result (λ made. name_in made ≡ printable_text name.now) }
+    ensures untold { IfOk result (λ made. turns_told made ≡ []) }
     ensures err { IfErr result (λ stop. stop ≡ Stop.Fault Fault.Memory) }
 {
-    let name = printable(name);
-    match format!(in alloc; "{name}") {
-        Ok(name) => Ok(LoggedFile::new(file, name, log)),
+    let shown = printable(name);
+    match format!(in alloc; "{shown}") {
+        Ok(name) => Ok(MailboxLog::new(LogSink::new(log), name)),
         Err(_) => Err(Stop::Fault(Fault::Memory)),
     }
 }

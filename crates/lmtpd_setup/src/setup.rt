@@ -2,11 +2,12 @@
 
 ghost use Rattle.std.specs.Prelude.{◌≡◌, length, map, None, IfOk, IfErr};
 ghost use Rattle.std.specs.Arc.{arc_value};
+ghost use Rattle.std.specs.List.{AllByRecursion};
 ghost use Rattle.log.specs.Handle.{max_level};
 ghost use Rattle.lmtpd_words.specs.Words.{named_site};
 ghost use Rattle.lmtpd_setup.specs.Curfew.{IsCurfewOf};
 ghost use Rattle.lmtpd_setup.specs.Faults.{site_fault};
-ghost use Rattle.lmtpd_setup.specs.Mailboxes.{held_as};
+ghost use Rattle.lmtpd_setup.specs.Mailboxes.{IsUntold, held_as};
 ghost use Rattle.lmtpd_setup.specs.Setup.{IsNotSetUp, access_asked, ends_asked, mailboxes_asked};
 
 use crate::ends::{Ends, ServerCurfew};
@@ -17,7 +18,7 @@ use crate::room::tell_of_room;
 use crate::site::served_site;
 use crate::stop::Stop;
 use lmtp_text::Site;
-use lmtpd_log::LineSetting;
+use lmtpd_log::{LineSetting, LogSink, MailboxSink};
 use lmtpd_words::ServeWords;
 use mbox_rd::RangeLock;
 use std::alloc::Global;
@@ -32,13 +33,14 @@ pub struct ServerSetup<H>
 where
     H: Files + Clock + Eprint + Copy + Drop,
     H::File: RangeLock,
+    LogSink<ServerLog<H>>: MailboxSink,
 {
     pub site: Arc<Site>,
     /// By it the program says what it can't open.
     pub log: ServerLog<H>,
     /// Of the server, its conversations and its mailboxes.
     pub curfew: Arc<ServerCurfew<H>>,
-    /// One for each mailbox of the site, in its order.
+    /// One for each mailbox of the site, in its order, with its log beside it.
     pub spools: Vec<ServedMailbox<H, ServerLog<H>>>,
     /// What the lanes' logs have in common.
     pub logs: LineSetting<ServerLog<H>, H>,
@@ -60,6 +62,7 @@ where
     ensures sound { IfOk result (λ setup. site_fault words.now.site ≡ None) }
     ensures count { IfOk result (λ setup. length setup.spools.items ≡ length words.now.site.boxes.items) }
     ensures mailboxes { IfOk result (λ setup. map held_as setup.spools.items ≡ mailboxes_asked words.now) }
+    ensures untold { IfOk result (λ setup. AllByRecursion (λ mailbox. IsUntold mailbox) setup.spools.items) }
     ensures ends { IfOk result (λ setup. IsCurfewOf (ends_asked words.now) (arc_value setup.curfew)) }
     ensures level { IfOk result (λ setup. max_level setup.log ≡ words.now.log) }
     ensures lines { IfOk result (λ setup. setup.logs.log ≡ setup.log) }

@@ -1,6 +1,5 @@
 -- How a file ends once more stands after what it had.
-use Rattle.std.proofs.Common.{◌≡◌, ℕ, List, ◌++◌, false, Result, Ok, Err, OnOk, sym, ap, ◌∙◌}
-use Rattle.std.specs.Result.{is_err}
+use Rattle.std.proofs.Common.{◌≡◌, ℕ, List, ◌++◌, sym, ap, ◌∙◌}
 use Rattle.mail_world.specs.Endings.{Ending, Empty, ending, ending_from}
 use Rattle.mail_world.proofs.Endings.{ending-append}
 
@@ -8,8 +7,3 @@ pub goes_on : (tail new : Ending) (bytes taken more : List ℕ) → new ≡ endi
     → tail ≡ ending bytes → new ≡ ending more
 goes_on tail new bytes taken more is grown ends =
     is ∙ ap (λ e. ending_from e taken) ends ∙ sym (ending-append Empty bytes taken) ∙ sym (ap ending grown)
-
--- what a call that didn't fail says
-pub passed : {T E Q : Type 0} (r : Result T E) → is_err r ≡ false → OnOk r Q → Q
-passed (Ok value) is_good says = says
-passed (Err cause) is_good says = cc

@@ -1,7 +1,7 @@
 //! A mailbox in a file, which other programs read and empty too: it takes bytes in turns, and what stands there is
 //! looked at again in each. Nothing of it lasts from one turn to the next but its file and whether the last turn broke.
-ghost use Rattle.std.specs.Prelude.{◌≡◌, ◌<◌, ◌≤◌, ℕ, List, [], ◌∷◌, ◌++◌, true, false, length, take, ⊤};
-ghost use Rattle.std.specs.Prelude.{Err, IsErr, IfOk, OnOk, OnErr};
+ghost use Rattle.std.specs.Prelude.{◌≡◌, ◌≢◌, ◌<◌, ◌≤◌, ℕ, List, [], ◌∷◌, ◌++◌, true, false, length, take, ⊤};
+ghost use Rattle.std.specs.Prelude.{Err, IsErr, IfOk, IfErr, OnOk, OnErr};
 ghost use Rattle.mail_world.specs.Endings.{ending, ending_from};
 ghost use Rattle.mail_world.specs.Failures.{Rises};
 ghost use Rattle.mail_world.specs.Prefixes.{IsPrefix};
@@ -45,6 +45,8 @@ pub struct FileSpool<F: MailboxFile + Drop, C: Clock + Drop> {
     has_failed: bool,
     is_unsynced: bool,
     is_unsettled: bool,
+    // why what was cut off couldn't be kept so at this turn's lock
+    unkept: SpoolFault,
     turns: Turns,
 }
 
@@ -112,6 +114,7 @@ impl<F: MailboxFile + Drop, C: Clock + Drop> FileSpool<F, C> {
             has_failed: false,
             is_unsynced: false,
             is_unsettled: true,
+            unkept: SpoolFault::NoTurn,
             turns: Turns::none(),
         })
     }
@@ -121,20 +124,34 @@ impl<F: MailboxFile + Drop, C: Clock + Drop> FileSpool<F, C> {
     ghost use Rattle.mbox_file.specs.MailboxFile.{HasAppended, HasNotAppended};
     ghost use Rattle.mbox_rd.specs.FileSpool.{HasWritten, HasNotWritten, KeepsAll, HasLost, contents_of, failed_again};
 
-    // Counts a failure, and throws away what waits.
-    fn fail(&mut self) -> SpoolFault
+    // Why a call is refused that the file isn't asked for: it is in no turn in which none failed, or else what was cut
+    // off couldn't be kept so as this turn began.
+    fn refusal(&self) -> SpoolFault
+        ensures outside { self.now.in_turn ≡ false → result ≡ SpoolFault.NoTurn }
+        ensures broken { self.now.has_failed ≡ true → result ≡ SpoolFault.NoTurn }
+    {
+        if self.in_turn && !self.has_failed {
+            self.unkept
+        } else {
+            SpoolFault::NoTurn
+        }
+    }
+
+    // Counts a failure, which has that reason, and throws away what waits.
+    fn fail(&mut self, fault: SpoolFault) -> SpoolFault
+        ensures fault { result ≡ fault }
         ensures new { self.new ≡ failed_again self.old }
         ensures counted { Rises self.old.failures self.new.failures }
     {
         self.waiting.clear();
         self.failures = self.failures.saturating_add(1);
         self.has_failed = self.has_failed || self.in_turn;
-        SpoolFault
+        fault
     }
 
     // Writes what waits. How the file ends is known again after each write, and not after each piece; nobody knows it
     // where one failed.
-    fn write_waiting(&mut self) -> io::Result<()>
+    fn write_waiting(&mut self) -> Result<(), SpoolFault>
         requires turn { self.old.in_turn ≡ true }
         requires settled { self.old.is_unsettled ≡ false }
         ensures ok { OnOk result (HasWritten self.old self.new) }
@@ -142,6 +159,7 @@ impl<F: MailboxFile + Drop, C: Clock + Drop> FileSpool<F, C> {
         ensures err { OnErr result (HasNotWritten self.old self.new) }
         ensures failed { OnErr result
             (HasNotAppended (F.state self.old.file) (F.state self.new.file) self.old.waiting) }
+        ensures reason { IfErr result (λ fault. fault ≢ SpoolFault.NoTurn) }
         ensures moments { LeavesInTurn self.old.began (contents_of F.state self.old)
             (F.state self.old.file) (F.state self.new.file) }
     {
@@ -152,21 +170,22 @@ impl<F: MailboxFile + Drop, C: Clock + Drop> FileSpool<F, C> {
                 self.tail = tail;
                 Ok(())
             }
-            Err(fault) => {
+            Err(unwritten) => {
                 self.has_failed = true;
-                Err(fault)
+                Err(SpoolFault::of(&unwritten))
             }
         }
     }
 
     // The same, and has all of the file kept.
-    fn keep_waiting(&mut self) -> io::Result<()>
+    fn keep_waiting(&mut self) -> Result<(), SpoolFault>
         requires turn { self.old.in_turn ≡ true }
         requires settled { self.old.is_unsettled ≡ false }
         ensures ok { OnOk result (HasWritten self.old self.new) }
         ensures kept { OnOk result (KeepsAll F.state self.old self.new) }
         ensures err { OnErr result (HasNotWritten self.old self.new) }
         ensures failed { OnErr result (HasLost F.state self.old self.new) }
+        ensures reason { IfErr result (λ fault. fault ≢ SpoolFault.NoTurn) }
         ensures moments { LeavesInTurn self.old.began (contents_of F.state self.old)
             (F.state self.old.file) (F.state self.new.file) }
     {
@@ -177,9 +196,9 @@ impl<F: MailboxFile + Drop, C: Clock + Drop> FileSpool<F, C> {
                 self.tail = end;
                 Ok(())
             }
-            Err(fault) => {
+            Err(unkept) => {
                 self.has_failed = true;
-                Err(fault)
+                Err(SpoolFault::of(&unkept))
             }
         }
     }
@@ -227,8 +246,12 @@ impl<F: MailboxFile + Drop, C: Clock + Drop> FileSpool<F, C> {
             (F.state self.old.file) (F.state self.new.file) }
         ensures settled { self.new.is_unsettled ≡ false → (F.state self.new.file).cut_off ≡ [] }
     {
-        if self.is_unsettled {
-            self.is_unsettled = self.file.keep().is_err();
+        if !self.is_unsettled {
+            return;
+        }
+        match self.file.keep() {
+            Ok(()) => self.is_unsettled = false,
+            Err(error) => self.unkept = SpoolFault::of(&error),
         }
     }
 
@@ -370,11 +393,13 @@ impl<F: MailboxFile + Drop, C: Clock + Drop> Spool for FileSpool<F, C> {
         self.turns = ended;
     }
 
-    /// Fills the buffer, and writes it where it is full.
+    /// Fills the buffer, and writes it where it is full. The first fault of a turn says why the file's call failed.
     fn append(&mut self, piece: &[u8]) -> Result<usize, SpoolFault>
         requires { 0 < length piece.now }
-        ensures outside_turn { self.old.in_turn ≡ false → IsErr result × (self.new ≡ failed_again self.old) }
-        ensures stays_broken { self.old.has_failed ≡ true → IsErr result × (self.new ≡ failed_again self.old) }
+        ensures outside_turn { self.old.in_turn ≡ false
+            → (result ≡ Err SpoolFault.NoTurn) × (self.new ≡ failed_again self.old) }
+        ensures stays_broken { self.old.has_failed ≡ true
+            → (result ≡ Err SpoolFault.NoTurn) × (self.new ≡ failed_again self.old) }
         ensures unsettled { self.old.is_unsettled ≡ true → IsErr result × (self.new ≡ failed_again self.old) }
         ensures sound { OnOk result (StaysSound self.old self.new) }
         ensures taken { IfOk result (λ n. HasTaken F.state self.old self.new (take n piece.now)) }
@@ -384,6 +409,8 @@ impl<F: MailboxFile + Drop, C: Clock + Drop> Spool for FileSpool<F, C> {
         ensures breaks { OnErr result (Breaks self.old self.new) }
         ensures lost { self.old.in_turn ≡ true → self.old.has_failed ≡ false → self.old.is_unsettled ≡ false
             → OnErr result (HasLost F.state self.old self.new) }
+        ensures reason { self.old.in_turn ≡ true → self.old.has_failed ≡ false → self.old.is_unsettled ≡ false
+            → IfErr result (λ fault. fault ≢ SpoolFault.NoTurn) }
         ensures any_moment { AnyMoment F.state self.old self.new (contents_of F.state self.old ++ piece.now) }
 
         // what every spool ensures
@@ -398,18 +425,25 @@ impl<F: MailboxFile + Drop, C: Clock + Drop> Spool for FileSpool<F, C> {
             ≡ (⟦<FileSpool<F, C> as Spool>⟧.state self.old).bytes) }
     {
         if self.has_failed || !self.in_turn || self.is_unsettled {
-            return Err(self.fail());
+            let fault = self.refusal();
+            return Err(self.fail(fault));
         }
-        if self.waiting.len() == BUFFER_SIZE && self.write_waiting().is_err() {
-            return Err(self.fail());
+        if self.waiting.len() < BUFFER_SIZE {
+            return Ok(self.take(piece));
         }
-        Ok(self.take(piece))
+        match self.write_waiting() {
+            Ok(()) => Ok(self.take(piece)),
+            Err(unwritten) => Err(self.fail(unwritten)),
+        }
     }
 
-    /// Writes what waits, and has the file's bytes kept by the system.
+    /// Writes what waits, and has the file's bytes kept by the system. The first fault of a turn says why the file's
+    /// call failed.
     fn sync(&mut self) -> Result<(), SpoolFault>
-        ensures outside_turn { self.old.in_turn ≡ false → IsErr result × (self.new ≡ failed_again self.old) }
-        ensures stays_broken { self.old.has_failed ≡ true → IsErr result × (self.new ≡ failed_again self.old) }
+        ensures outside_turn { self.old.in_turn ≡ false
+            → (result ≡ Err SpoolFault.NoTurn) × (self.new ≡ failed_again self.old) }
+        ensures stays_broken { self.old.has_failed ≡ true
+            → (result ≡ Err SpoolFault.NoTurn) × (self.new ≡ failed_again self.old) }
         ensures unsettled { self.old.is_unsettled ≡ true → IsErr result × (self.new ≡ failed_again self.old) }
         ensures sound { OnOk result (StaysSound self.old self.new) }
         ensures written { self.new.waiting ≡ [] }
@@ -418,6 +452,8 @@ impl<F: MailboxFile + Drop, C: Clock + Drop> Spool for FileSpool<F, C> {
         ensures breaks { OnErr result (Breaks self.old self.new) }
         ensures lost { self.old.in_turn ≡ true → self.old.has_failed ≡ false → self.old.is_unsettled ≡ false
             → OnErr result (HasLost F.state self.old self.new) }
+        ensures reason { self.old.in_turn ≡ true → self.old.has_failed ≡ false → self.old.is_unsettled ≡ false
+            → IfErr result (λ fault. fault ≢ SpoolFault.NoTurn) }
         ensures any_moment { AnyMoment F.state self.old self.new (contents_of F.state self.old) }
         ensures stored { OnOk result (Stores F.state self.old (F.state self.new.file)) }
 
@@ -429,13 +465,16 @@ impl<F: MailboxFile + Drop, C: Clock + Drop> Spool for FileSpool<F, C> {
         ensures outside { (⟦<FileSpool<F, C> as Spool>⟧.state self.old).turn.in_turn ≡ false → IsErr result }
     {
         if !self.in_turn || self.has_failed || self.is_unsettled {
-            return Err(self.fail());
+            let fault = self.refusal();
+            return Err(self.fail(fault));
         }
-        if self.keep_waiting().is_err() {
-            return Err(self.fail());
+        match self.keep_waiting() {
+            Ok(()) => {
+                self.is_unsynced = false;
+                Ok(())
+            }
+            Err(unkept) => Err(self.fail(unkept)),
         }
-        self.is_unsynced = false;
-        Ok(())
     }
 
     /// How the file ends, with the bytes that wait.

@@ -10,3 +10,5 @@ pub mod Pieces
 pub mod Onward
 pub mod Written
 pub mod Wholes
+pub mod Counted
+pub mod Lengthened

@@ -8,7 +8,8 @@ use Rattle.std.proofs.lemmas.List.{take-append-drop, take_rest, length-append}
 use Rattle.std.proofs.Math.Seq.{take-add, drop-length, take-append_seam}
 use Rattle.mail_world.specs.Text.{cr, lf, has_byte, begins, begins_with, unix}
 use Rattle.mail_world.specs.Records.{is_from_line, quoted_text}
-use Rattle.mbox_record.specs.Quoted.{line_rest}
+use Rattle.mbox_record.specs.declared.pending.Pending.TheVariants.{Word}
+use Rattle.mbox_record.specs.Quoted.{Pending, IsPending, line_rest, quoted_owed}
 use Rattle.mbox_record.proofs.Rests.{first_line, plain_line, from_line}
 
 abbrev pub word : List ℕ
@@ -142,3 +143,12 @@ word_end (suc (suc zero)) g h = refl
 word_end (suc (suc (suc zero))) g h = refl
 word_end (suc (suc (suc (suc zero)))) g h = refl
 word_end (suc (suc (suc (suc (suc n))))) g h = absurd (omega arith)
+
+-- the same of a text that holds n bytes of the word back
+pub last_word : (p q : Pending) (n : ℕ) → q ≡ Word n → q ≡ p → IsPending q → quoted_owed p [] ++ lf ∷ [] ≡ take n word ++ lf ∷ lf ∷ []
+last_word p q n e view is =
+    let P : Pending → Type 0 = λ x. IsPending x → quoted_owed x [] ++ lf ∷ [] ≡ take n word ++ lf ∷ lf ∷ [] in
+    subst P (sym e ∙ view) (λ h. word_end n h.0 h.1) (subst IsPending view is)
+
+pub word_within : (p : Pending) (n : ℕ) → p ≡ Word n → IsPending p → n ≤ 4
+word_within p n e is = (subst IsPending e is).1

@@ -1,10 +1,9 @@
 -- A piece of the message, mark by mark.
-use Rattle.std.proofs.Common.{◌≡◌, ℕ, ◌-◌, ◌<◌, ◌≤◌, arith, true, false, cond, List, [], ◌∷◌, ◌++◌, length, take, drop, sym, ap, ◌∙◌, refl, append_assoc, append-nil, slice_index_or}
+use Rattle.std.proofs.Common.{◌≡◌, ℕ, ◌-◌, ◌<◌, ◌≤◌, arith, Bool, true, false, cond, List, [], ◌∷◌, ◌++◌, length, take, drop, sym, ap, ◌∙◌, refl, append_assoc, append-nil, slice_index_or}
 use Rattle.std.proofs.lemmas.List.{take_rest}
 use Rattle.mail_world.specs.Text.{lf, unix}
-use Rattle.mail_world.specs.Site.{Site}
-use Rattle.mail_world.specs.Records.{quoted_text, stored_text}
-use Rattle.mail_world.specs.Marks.{was}
+use Rattle.mail_world.specs.Records.{quoted_text}
+use Rattle.mail_world.specs.Marks.{was, marked}
 use Rattle.mbox_record.specs.Spool.{SpoolState, SpoolTook, SpoolFailed}
 use Rattle.mbox_marks.specs.declared.marking.Place.TheVariants.{Line, Inside, Body}
 use Rattle.mbox_marks.specs.declared.marking.Found.{Found}
@@ -171,7 +170,7 @@ module _ (writer view : Writer) (is : writer ≡ view) (h : IsWriter writer) (s 
       ap (λ (w : Writer). bytes_owed w []) (sym is)
       ∙ ap (quoted_owed writer.quoted) (ap (marks_owed writer.place) (append-nil writer.held) ∙ h.whole ∙ sym (append-nil writer.held))
 
-  owed_parts : (next : Pending) (x : Writes s t (λ more. quoted_owed writer.quoted (writer.held ++ more)) (quoted_owed next))
+  pub owed_parts : (next : Pending) (x : Writes s t (λ more. quoted_owed writer.quoted (writer.held ++ more)) (quoted_owed next))
       → bytes_owed view [] ++ lf ∷ [] ≡ x.text ++ (quoted_owed next [] ++ lf ∷ [])
   owed_parts next x =
       ap (λ (l : List ℕ). l ++ lf ∷ []) (owed_last ∙ sym (x.goes []))
@@ -190,12 +189,12 @@ module _ (writer view : Writer) (is : writer ≡ view) (h : IsWriter writer) (s 
       SpoolFailed-as s t _ _ whole (SpoolFailed-first s t x.text (prefix.rest ++ lf ∷ []) x.failed)
 
 -- a writer that begins
-pub begins_record : (quoted : Pending) (place : Place) (held : List ℕ) (site : Site)
+pub begins_record : (quoted : Pending) (place : Place) (held : List ℕ) (renames : Bool)
     → ((text : List ℕ) → quoted_owed quoted text ≡ quoted_text (unix text))
-    → place ≡ cond site.renames_marks Line Body → held ≡ []
-    → (text : List ℕ) → quoted_owed quoted (marks_owed place (held ++ text)) ≡ quoted_text (stored_text site text)
-begins_record quoted place held site new is none text =
+    → place ≡ cond renames Line Body → held ≡ []
+    → (text : List ℕ) → quoted_owed quoted (marks_owed place (held ++ text)) ≡ quoted_text (cond renames (marked (unix text)) (unix text))
+begins_record quoted place held renames new is none text =
     ap (λ (h : List ℕ). quoted_owed quoted (marks_owed place (h ++ text))) none
     ∙ ap (λ (p : Place). quoted_owed quoted (marks_owed p text)) is
-    ∙ new (marks_owed (cond site.renames_marks Line Body) text)
-    ∙ ap quoted_text (stored_by site.renames_marks text)
+    ∙ new (marks_owed (cond renames Line Body) text)
+    ∙ ap quoted_text (stored_by renames text)

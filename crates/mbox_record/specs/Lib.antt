@@ -1,4 +1,5 @@
 pub mod Envelope
+pub mod Fault
 pub mod TurnState
 pub mod TurnLog
 pub mod Spool
@@ -9,3 +10,4 @@ pub mod Parts
 pub mod Quoted
 pub mod Writing
 pub mod Steps
+pub mod Lengths

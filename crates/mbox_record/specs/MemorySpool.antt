@@ -3,7 +3,10 @@ use Rattle.std.specs.Prelude.{◌≡◌, ℕ, ◌+◌, ◌≤◌, Bool, true, fa
 use Rattle.mail_world.specs.Prefixes.{IsPrefix}
 use Rattle.mail_world.specs.Turns.{Standing}
 use Rattle.mbox_record.specs.Spool.{SpoolState}
+use Rattle.std.specs.declared.io.ErrorKind.TheVariants.{StorageFull}
 use Rattle.mbox_record.specs.TurnLog.{TurnLog, no_turns}
+use Rattle.mbox_record.specs.declared.spool.SpoolFault.{SpoolFault}
+use Rattle.mbox_record.specs.declared.spool.SpoolFault.TheVariants.{NoTurn, Other}
 
 pub record MemorySpool : Type 0 where
   pub bytes : List ℕ
@@ -40,6 +43,12 @@ state_of spool = record {
     turns = spool.log.turns;
   };
 }
+
+-- why an append fails, by whether it is in a turn and whether a call failed in that: it is full
+abbrev pub fault_in : Bool → Bool → SpoolFault
+fault_in true false = Other StorageFull
+fault_in true true = NoTurn
+fault_in false has_failed = NoTurn
 
 -- what stood at the lock is still there, and as much of it is kept
 pub record StandsOn (lock : Standing) (bytes : List ℕ) (synced : ℕ) : Type 0 where

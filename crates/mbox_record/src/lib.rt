@@ -1,7 +1,8 @@
 //! The record of a delivered message in the mboxrd format (RFC 4155), and the spool that takes it.
 //!
-//! A `RecordWriter` writes a record to any `Spool` while its message comes, `mend` writes what an old mailbox lacks at
-//! its end. The layer above stores by these, or is a spool itself.
+//! A `RecordWriter` writes a record to any `Spool` while its message comes, a `LengthCounter` counts how long its text
+//! will be there, `mend` writes what an old mailbox lacks at its end. The layer above stores by these, or is a spool
+//! itself.
 //! What a spool is made of is never asked here: the one that stands here is in memory, and nobody else changes it.
 #![tactic(auto)]
 
@@ -9,6 +10,7 @@ mod append;
 mod envelope;
 mod from_line;
 mod head;
+mod lengths;
 mod memory;
 mod mending;
 mod pending;
@@ -19,6 +21,7 @@ mod tail;
 mod turns;
 
 pub use envelope::Envelope;
+pub use lengths::{LengthCounter, Lengths};
 pub use mbox_letters::{BadMailbox, Letter, read_mailbox};
 pub use memory::MemorySpool;
 pub use mending::mend;

@@ -1,9 +1,9 @@
 //! A spool in memory, with a bound on what it takes.
 ghost use Rattle.std.specs.Prelude.{◌≡◌, ◌↔◌, ◌||◌, ◌+◌, ◌-◌, ◌^◌, ◌<◌, ◌≤◌, ◌++◌, length, take, min, is_err};
-ghost use Rattle.std.specs.Prelude.{IsErr, IfOk, OnOk, OnErr, Ok, Err, true, false};
+ghost use Rattle.std.specs.Prelude.{IsErr, IfOk, IfErr, OnOk, OnErr, Ok, Err, true, false};
 ghost use Rattle.mail_world.specs.Counts.{counted};
 ghost use Rattle.mail_world.specs.Endings.{ending};
-ghost use Rattle.mbox_record.specs.MemorySpool.{unused, standing_of, state_of};
+ghost use Rattle.mbox_record.specs.MemorySpool.{unused, standing_of, state_of, fault_in};
 ghost use Rattle.mbox_record.specs.Spool.{SpoolTook, SpoolFailed, HasSynced, HasNotSynced, standing, AsksForTurn, EndsTurn};
 ghost use Rattle.mbox_record.specs.Tail.{ending_of};
 ghost use Rattle.mbox_record.specs.TurnLog.{begun_at, ended_at, missed};
@@ -13,6 +13,7 @@ use crate::spool::{InUse, Spool, SpoolFault};
 use crate::tail::{Tail, tail_of};
 use crate::turns::Turns;
 use std::alloc::{AllocError, Global};
+use std::io::ErrorKind;
 use std::marker::{Brand, Model};
 
 /// A spool that holds its bytes in memory, and fails once its room is used up. Nobody else changes it, and after the
@@ -118,17 +119,30 @@ impl MemorySpool {
         Err(in_use)
     }
 
+    // Why an append fails. In a turn there is no room.
+    fn reason(&self) -> SpoolFault
+        ensures { result ≡ fault_in self.now.in_turn self.now.has_failed }
+    {
+        if self.in_turn && !self.has_failed {
+            SpoolFault::Other(ErrorKind::StorageFull)
+        } else {
+            SpoolFault::NoTurn
+        }
+    }
+
     // Counts a failure.
     fn fail(&mut self) -> SpoolFault
         requires full { self.old.in_turn ≡ true → self.old.room ≡ 0 }
-        ensures { self.new ≡ record self.old {
+        ensures reason { result ≡ fault_in self.old.in_turn self.old.has_failed }
+        ensures new { self.new ≡ record self.old {
           failures = min (self.old.failures + 1) (2 ^ 64 - 1);
           has_failed = self.old.has_failed || self.old.in_turn;
         } }
     {
+        let fault = self.reason();
         self.failures = self.failures.saturating_add(1);
         self.has_failed = self.has_failed || self.in_turn;
-        SpoolFault
+        fault
     }
 }
 
@@ -187,6 +201,7 @@ impl Spool for MemorySpool {
     fn append(&mut self, piece: &[u8]) -> Result<usize, SpoolFault>
         requires { 0 < length piece.now }
         ensures full { self.old.in_turn ≡ true → IsErr result ↔ (self.old.room ≡ 0) }
+        ensures reason { IfErr result (λ fault. fault ≡ fault_in self.old.in_turn self.old.has_failed) }
         ensures size { IfOk result (λ n. n ≡ min (length piece.now) self.old.room) }
         ensures new { IfOk result (λ n. self.new ≡ record self.old {
           bytes = self.old.bytes ++ take n piece.now;
@@ -225,6 +240,7 @@ impl Spool for MemorySpool {
     /// Covers all that it holds, in a turn.
     fn sync(&mut self) -> Result<(), SpoolFault>
         ensures sound { self.old.in_turn ≡ true → result ≡ Ok (record {}) }
+        ensures no_turn { self.old.in_turn ≡ false → result ≡ Err SpoolFault.NoTurn }
         ensures new { OnOk result (self.new
             ≡ record self.old { synced = length self.old.bytes; is_unsynced = false }) }
 

@@ -1,7 +1,8 @@
 //! How far a piece of the message is sure to be written: CRLF becomes LF, and a From line gets one more `>`.
-ghost use Rattle.std.specs.Prelude.{◌≡◌, ◌≢◌, ◌<◌, ◌≤◌, [], length, true, false};
+ghost use Rattle.std.specs.Prelude.{◌≡◌, ◌≢◌, ◌<◌, ◌≤◌, ◌+◌, [], length, true, false};
 ghost use Rattle.std.specs.Option.{IfSome};
 ghost use Rattle.std.specs.Str.{byte};
+ghost use Rattle.mail_world.specs.Counts.{counted};
 ghost use Rattle.mail_world.specs.Text.{begins};
 ghost use Rattle.mbox_record.specs.Quoted.{IsPending};
 ghost use Rattle.mbox_record.specs.Steps.{IsWriterRun, IsWriterStep};
@@ -12,7 +13,7 @@ use memchr::memchr;
 pub(crate) const FROM: &[u8] = b"From ";
 
 // Where in a line of the message a writer stands, and what it holds back.
-#[derive(Clone, Copy, Debug)]
+#[derive(Clone, Copy, Debug, PartialEq, Eq)]
 pub(crate) enum Pending {
     // At a line's start.
     Start,
@@ -50,6 +51,13 @@ impl Step {
             extra: b"",
             next,
         }
+    }
+
+    // How many bytes are written.
+    pub(crate) fn size(&self) -> u64
+        ensures { result ≡ counted (self.now.len + length self.now.extra.now) }
+    {
+        (self.len as u64).saturating_add(self.extra.len() as u64)
     }
 
     // All that it takes is written as it is.

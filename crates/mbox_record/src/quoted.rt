@@ -1,7 +1,9 @@
 //! A text whose lines end with LF and whose From lines are quoted while it comes.
-ghost use Rattle.std.specs.Prelude.{◌≡◌, ◌≤◌, ℕ, List, [], ◌∷◌, ◌++◌, length, IfOk, OnOk, OnErr};
+ghost use Rattle.std.specs.Prelude.{◌≡◌, ◌≤◌, ℕ, List, [], ◌∷◌, ◌++◌, length, true, IfOk, OnOk, OnErr};
+ghost use Rattle.mail_world.specs.Counts.{counted};
 ghost use Rattle.mail_world.specs.Records.{quoted_text};
 ghost use Rattle.mail_world.specs.Text.{unix, lf};
+ghost use Rattle.mbox_record.specs.Lengths.{Counts};
 ghost use Rattle.mbox_record.specs.Quoted.{quoted_owed};
 ghost use Rattle.mbox_record.specs.Spool.{SpoolTook, SpoolFailed};
 ghost use Rattle.mbox_record.specs.Steps.{step_text};
@@ -68,6 +70,35 @@ impl QuotedText {
         Ok(QuotedText { pending })
     }
 
+    // Counts what `piece` writes.
+    pub(crate) fn count(self, piece: &[u8]) -> (u64, QuotedText)
+        ensures { Counts result.0 (λ rest. quoted_owed self (piece.now ++ rest)) (quoted_owed result.1) }
+    {
+        let mut count = 0u64;
+        let mut pending = self.pending;
+        let mut rest = piece;
+        while !rest.is_empty() {
+            if let Some(run) = plain_line(pending, rest) {
+                count = count.saturating_add(run.len as u64);
+                pending = Pending::Inside;
+                rest = &rest[run.taken..];
+            } else {
+                let step = long_step(pending, rest);
+                count = count.saturating_add(step.size());
+                pending = step.next;
+                rest = &rest[step.taken..];
+            }
+        }
+        (count, QuotedText { pending })
+    }
+
+    // Whether it stands where that one does.
+    pub(crate) fn is_like(&self, other: &QuotedText) -> bool
+        ensures { result ≡ true → self.now ≡ other.now }
+    {
+        self.pending == other.pending
+    }
+
     // Writes what is left of the text, with LF after a last line that has none, and an empty line.
     pub(crate) fn end<S: Spool>(self, spool: &mut S) -> Result<(), SpoolFault>
         ensures ok { OnOk result (SpoolTook (S.state spool.old) (S.state spool.new) (quoted_owed self [] ++ lf ∷ [])) }
@@ -79,6 +110,18 @@ impl QuotedText {
             Pending::QuoteMarks | Pending::Inside => append_all(spool, b"\n\n"),
             Pending::Word(n) => append_each(spool, &[&FROM[..n], b"\n\n"]),
             Pending::Cr => append_all(spool, b"\r\n\n"),
+        }
+    }
+
+    // Counts what `end` writes.
+    pub(crate) fn count_end(self) -> u64
+        ensures { result ≡ counted (length (quoted_owed self [] ++ lf ∷ [])) }
+    {
+        match self.pending {
+            Pending::Start => 1,
+            Pending::QuoteMarks | Pending::Inside => 2,
+            Pending::Word(n) => n as u64 + 2,
+            Pending::Cr => 3,
         }
     }
 }

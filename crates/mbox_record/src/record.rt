@@ -2,7 +2,8 @@
 //! marks of its head renamed, where the site has that, and its From lines quoted.
 ghost use Rattle.std.specs.Prelude.{◌≡◌, ℕ, List, [], ◌∷◌, ◌++◌, IfOk, OnOk, OnErr, if◌then◌else◌};
 ghost use Rattle.mail_world.specs.Records.{quoted_text, stored_text};
-ghost use Rattle.mail_world.specs.Text.{lf};
+ghost use Rattle.mail_world.specs.Marks.{marked};
+ghost use Rattle.mail_world.specs.Text.{lf, unix};
 ghost use Rattle.lmtp_text.specs.Calendar.{civil_at};
 ghost use Rattle.mbox_record.specs.Envelope.{head_text};
 ghost use Rattle.mbox_record.specs.Spool.{SpoolTook, SpoolFailed};
@@ -18,6 +19,8 @@ use crate::spool::{Spool, SpoolFault};
 use lmtp_text::Site;
 use mbox_marks::{Held, Place, WAS, find_mark};
 use std::marker::Model;
+
+mod counting;
 
 /// Writes the record of a message that comes in pieces. Of the message it holds back 15 bytes at most: a CR, a prefix
 /// of a line's `From `, or the beginning of a field that may be a mark.
@@ -53,11 +56,19 @@ impl RecordWriter {
             (SpoolFailed (S.state spool.old) (S.state spool.new) (head_text civil_at site.now envelope.now)) }
     {
         write_head(spool, site, envelope)?;
-        Ok(RecordWriter {
+        Ok(RecordWriter::at_text(site.renames_marks()))
+    }
+
+    // At the beginning of the message.
+    pub(crate) fn at_text(renames_marks: bool) -> RecordWriter
+        ensures { (text : List ℕ)
+            → bytes_owed result text ≡ quoted_text (if renames_marks then marked (unix text) else unix text) }
+    {
+        RecordWriter {
             quoted: QuotedText::new(),
-            place: first_place(site),
+            place: first_place(renames_marks),
             held: Held::of(b""),
-        })
+        }
     }
 
     /// Writes what is sure of the message's bytes, with LF for CRLF and one more `>` before a From line, and with
@@ -92,10 +103,10 @@ impl RecordWriter {
     }
 }
 
-fn first_place(site: &Site) -> Place
-    ensures { result ≡ if site.now.renames_marks then Line else Body }
+fn first_place(renames_marks: bool) -> Place
+    ensures { result ≡ if renames_marks then Line else Body }
 {
-    if site.renames_marks() {
+    if renames_marks {
         Place::Line
     } else {
         Place::Body

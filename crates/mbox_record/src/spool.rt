@@ -1,20 +1,45 @@
 //! Where records go: a place that takes bytes at its end, in turns, and may fail.
-ghost use Rattle.std.specs.Prelude.{◌≡◌, ◌<◌, ◌≤◌, Bool, length, take, true, false, is_err, IsErr, IfOk, OnOk, OnErr};
+ghost use Rattle.std.specs.Prelude.{◌≡◌, ◌≢◌, ◌<◌, ◌≤◌, Bool, length, take, true, false, is_err, IsErr, IfOk, OnOk, OnErr};
+ghost use Rattle.std.specs.IoError.{raw_os_error, error_kind};
 ghost use Rattle.mail_world.specs.Endings.{ending};
 ghost use Rattle.mail_world.specs.Turns.{Standing};
+ghost use Rattle.mbox_record.specs.Fault.{fault_by};
 ghost use Rattle.mbox_record.specs.Spool.{SpoolState, SpoolTook, SpoolFailed, HasSynced, HasNotSynced};
 ghost use Rattle.mbox_record.specs.Spool.{standing, AsksForTurn, EndsTurn};
 ghost use Rattle.mbox_record.specs.Tail.{ending_of};
 ghost use Rattle.mbox_record.specs.TurnState.{knows_end};
 
 use crate::tail::Tail;
+use std::io;
+use std::io::ErrorKind;
 use thiserror::Error;
 
-/// A spool took no more bytes, or couldn't make sure of those that it has, for a reason that it keeps to itself: no
-/// room, or a device that failed.
+/// Why a spool took no more bytes, or couldn't make sure of those that it has.
 #[derive(Clone, Copy, Debug, PartialEq, Eq, Error)]
-#[error("the spool failed")]
-pub struct SpoolFault;
+pub enum SpoolFault {
+    /// It is in no turn, or a call failed in this one before.
+    #[error("no turn")]
+    NoTurn,
+    /// The system refused a call, with this number of its own.
+    #[error("system error {0}")]
+    System(i32),
+    /// A call failed for another reason of std's: no memory, say, or a write of no bytes.
+    #[error("{0}")]
+    Other(ErrorKind),
+}
+
+impl SpoolFault {
+    /// The reason of a file's call that failed: its number where the system gave one, or else its kind.
+    pub fn of(error: &io::Error) -> SpoolFault
+        ensures said { result ≡ fault_by (raw_os_error error.now) (error_kind error.now) }
+        ensures some { result ≢ SpoolFault.NoTurn }
+    {
+        match error.raw_os_error() {
+            Some(code) => SpoolFault::System(code),
+            None => SpoolFault::Other(error.kind()),
+        }
+    }
+}
 
 /// Why a turn at a mailbox was missed. Nothing was appended, and a later turn may come.
 #[derive(Clone, Copy, Debug, PartialEq, Eq, Error)]

@@ -3,7 +3,7 @@
 ghost use Rattle.std.specs.Prelude.{◌≡◌, ◌≢◌, ◌<◌, ◌≤◌, length, IfOk, Err};
 ghost use Rattle.std.specs.Arc.{arc_value};
 ghost use Rattle.mail_world.specs.declared.limits.TheConstants.{LANE_LIMIT};
-ghost use Rattle.lmtp_threads.specs.Works.{visits_view, spools_view};
+ghost use Rattle.lmtp_threads.specs.Works.{visits_view, spools_view, is_out};
 ghost use Rattle.lmtp_house.specs.HousePlan.{IsPlanned, MayRun, HasRunAll};
 
 use crate::house::channels::{Channels, Closings};
@@ -11,8 +11,9 @@ use crate::house::fault::HouseFault;
 use crate::house::handed::HandedIn;
 use crate::house::report::{HouseReport, Room};
 use crate::house::serving::{Ended, serve_all};
-use box_worker::Gate;
+use box_worker::{Gate, TurnObserver};
 use lmtp_lane::{Clock, Visits};
+use lmtp_talk::Observer;
 use lmtp_threads::{Lanes, Shared, WorkerReports, Workers, settle_all};
 use mbox_record::Spool;
 use msg_depot::{Depot, DepotName};
@@ -23,50 +24,57 @@ use std::thread::Threads;
 
 /// The lanes and workers of a server, and what closes their channels.
 #[derive(Drop)]
-pub struct Plan<N, V, S, G, C>
+pub struct Plan<N, V, O, S, T, G, C>
 where
     N: DepotName + Send + Sync + 'static,
     V: Visits + Send + 'static,
     V::P: Send + 'static,
+    O: Observer + Send + 'static,
     S: Spool + Drop + Send + 'static,
+    T: TurnObserver + Send + 'static,
     G: Gate + Drop + Send + 'static,
     C: Clock + Send + Sync + 'static,
 {
-    lanes: Lanes<N, V, C>,
-    workers: Workers<N, S, G>,
+    lanes: Lanes<N, V, O, C>,
+    workers: Workers<N, S, T, G>,
     closings: Closings<N>,
 }
 
-impl<N, V, S, G, C> Model for Plan<N, V, S, G, C>
+impl<N, V, O, S, T, G, C> Model for Plan<N, V, O, S, T, G, C>
 where
     N: DepotName + Send + Sync + 'static,
     V: Visits + Send + 'static,
     V::P: Send + 'static,
+    O: Observer + Send + 'static,
     S: Spool + Drop + Send + 'static,
+    T: TurnObserver + Send + 'static,
     G: Gate + Drop + Send + 'static,
     C: Clock + Send + Sync + 'static,
 {
+    ghost use Rattle.lmtp_threads.specs.declared.watched.Watched.{Watched};
     ghost use Rattle.lmtp_house.specs.HousePlan.{PlanState, plan_state};
 
-    ghost Value = { PlanState V S C };
+    ghost Value = { PlanState (Watched V O) (Watched S T) C };
 
     ghost view = { λ plan. plan_state plan.lanes plan.workers plan.closings.mail plan.closings.slips };
 }
 
-impl<N, V, S, G, C> Plan<N, V, S, G, C>
+impl<N, V, O, S, T, G, C> Plan<N, V, O, S, T, G, C>
 where
     N: DepotName + Send + Sync + 'static,
     V: Visits + Send + 'static,
     V::P: Send + 'static,
+    O: Observer + Send + 'static,
     S: Spool + Drop + Send + 'static,
+    T: TurnObserver + Send + 'static,
     G: Gate + Drop + Send + 'static,
     C: Clock + Send + Sync + 'static,
 {
     /// Takes all the memory that lanes and workers need.
     pub fn new(
         shared: &Shared<N, C>,
-        handed: HandedIn<V, S, G>,
-    ) -> Result<Plan<N, V, S, G, C>, AllocError>
+        handed: HandedIn<V, O, S, T, G>,
+    ) -> Result<Plan<N, V, O, S, T, G, C>, AllocError>
         requires capacity { 0 < handed.capacity }
         requires lanes { (0 < length handed.visits) × (length handed.visits ≤ LANE_LIMIT) }
         requires spools { (0 < length handed.spools)
@@ -105,10 +113,10 @@ where
         rt: R,
         depot: &Depot<N>,
         room: Room,
-    ) -> Result<HouseReport<V, S, G>, HouseFault>
-        requires { MayRun V.out self }
-        ensures ran { IfOk result (HasRunAll C.May (visits_view V.MayGive V.finished V.over)
-            (spools_view S.state S.MayFind S.MayRefuse) self) }
+    ) -> Result<HouseReport<V, O, S, T, G>, HouseFault>
+        requires { MayRun (is_out V.out) self }
+        ensures ran { IfOk result (HasRunAll C.May (visits_view V.MayGive V.finished V.over O.told)
+            (spools_view S.state S.MayFind S.MayRefuse T.told) self) }
         ensures room { IfOk result (λ report. (report.blocks ≡ room.blocks) × (report.slots ≡ room.slots)) }
         ensures not_size { result ≢ Err HouseFault.Size }
     {

@@ -3,7 +3,7 @@
 ghost use Rattle.std.specs.Prelude.{◌≡◌};
 ghost use Rattle.std.specs.List.{list_any};
 
-use lmtp_threads::Tally;
+use lmtp_threads::{Tally, Watched};
 use std::marker::Model;
 
 /// Whether the last turn that a mailbox had broke.
@@ -22,9 +22,9 @@ pub struct Room {
 
 /// All that was handed in, by lane and by mailbox, and what became of it.
 #[derive(Drop)]
-pub struct HouseReport<V, S, G> {
-    pub visits: Vec<V>,
-    pub spools: Vec<S>,
+pub struct HouseReport<V, O, S, T, G> {
+    pub visits: Vec<Watched<V, O>>,
+    pub spools: Vec<Watched<S, T>>,
     pub gates: Vec<G>,
     /// How many conversations each lane held; a count stays at its largest value.
     pub conversations: Vec<u64>,
@@ -35,10 +35,11 @@ pub struct HouseReport<V, S, G> {
     pub free_blocks: u32,
 }
 
-impl<V, S, G> Model for HouseReport<V, S, G> {
+impl<V, O, S, T, G> Model for HouseReport<V, O, S, T, G> {
+    ghost use Rattle.lmtp_threads.specs.declared.watched.Watched.{Watched};
     ghost use Rattle.lmtp_house.specs.Handed.{HandedBack};
 
-    ghost Value = { HandedBack V S };
+    ghost Value = { HandedBack (Watched V O) (Watched S T) };
 
     ghost view = { λ r. record {
       visits = r.visits.items;

@@ -14,10 +14,11 @@ use crate::house::memory::Memory;
 use crate::house::plan::Plan;
 use crate::house::report::{HouseReport, Room};
 use crate::house::sizes::{Sizes, is_size};
-use box_worker::Gate;
+use box_worker::{Gate, TurnObserver};
 use lmtp_lane::{Clock, Visits};
+use lmtp_talk::Observer;
 use lmtp_text::Site;
-use lmtp_threads::Shared;
+use lmtp_threads::{Shared, Watched};
 use mbox_record::Spool;
 use msg_depot::DepotName;
 use std::alloc::Global;
@@ -26,28 +27,30 @@ use std::sync::{Arc, Wait};
 use std::thread::Threads;
 
 /// Runs a server until its lanes have no more clients: a lane for each of the visits, and for each mailbox of the site
-/// a worker with its spool and its gate, each in a thread of its own. All memory is taken first; the messages have the
-/// blocks and slots of the sizes.
-pub fn run_house<V, S, G, C, R>(
+/// a worker with its spool and its gate, each in a thread of its own and with its observer. All memory is taken first;
+/// the messages have the blocks and slots of the sizes.
+pub fn run_house<V, O, S, T, G, C, R>(
     rt: R,
     alloc: Global,
     site: Arc<Site>,
     sizes: Sizes,
-    visits: Vec<V>,
-    spools: Vec<S>,
+    visits: Vec<Watched<V, O>>,
+    spools: Vec<Watched<S, T>>,
     gates: Vec<G>,
     clock: C,
-) -> Result<HouseReport<V, S, G>, HouseFault>
+) -> Result<HouseReport<V, O, S, T, G>, HouseFault>
 where
     V: Visits + Send + 'static,
     V::P: Send + 'static,
+    O: Observer + Send + 'static,
     S: Spool + Drop + Send + 'static,
+    T: TurnObserver + Send + 'static,
     G: Gate + Drop + Send + 'static,
     C: Clock + Send + Sync + 'static,
     R: Threads + Wait + Copy + Send + 'static,
-    requires none_out { AllByRecursion (λ v. V.out v ≡ false) visits.items }
+    requires none_out { AllByRecursion (λ watched. V.out watched.inner ≡ false) visits.items }
     ensures ran { IfOk result (HasRun (arc_value site) (C.May clock)
-        (visits_view V.MayGive V.finished V.over) (spools_view S.state S.MayFind S.MayRefuse)
+        (visits_view V.MayGive V.finished V.over O.told) (spools_view S.state S.MayFind S.MayRefuse T.told)
         (handed_in visits.items spools.items sizes.capacity sizes.quota)) }
     ensures room { IfOk result (λ report. (report.blocks ≡ sizes.blocks) × (report.slots ≡ sizes.slots)) }
     ensures size { result ≡ Err HouseFault.Size
@@ -69,23 +72,25 @@ where
         capacity: sizes.capacity as usize,
         quota: sizes.quota,
     };
-    run_at::<Brand, V, S, G, C, R>(rt, alloc, memory, site, clock, handed)
+    run_at::<Brand, V, O, S, T, G, C, R>(rt, alloc, memory, site, clock, handed)
 }
 
 // Runs a server over the depot of this name, in that memory.
-fn run_at<N, V, S, G, C, R>(
+fn run_at<N, V, O, S, T, G, C, R>(
     rt: R,
     alloc: Global,
     memory: Memory,
     site: Arc<Site>,
     clock: Arc<C>,
-    handed: HandedIn<V, S, G>,
-) -> Result<HouseReport<V, S, G>, HouseFault>
+    handed: HandedIn<V, O, S, T, G>,
+) -> Result<HouseReport<V, O, S, T, G>, HouseFault>
 where
     N: DepotName + Send + Sync + 'static,
     V: Visits + Send + 'static,
     V::P: Send + 'static,
+    O: Observer + Send + 'static,
     S: Spool + Drop + Send + 'static,
+    T: TurnObserver + Send + 'static,
     G: Gate + Drop + Send + 'static,
     C: Clock + Send + Sync + 'static,
     R: Threads + Wait + Copy + Send + 'static,
@@ -93,9 +98,9 @@ where
     requires capacity { 0 < handed.capacity }
     requires lanes { (0 < length handed.visits) × (length handed.visits ≤ LANE_LIMIT) }
     requires spools { (0 < length handed.spools) × (length handed.spools ≡ length (arc_value site).boxes) }
-    requires none_out { AllByRecursion (λ v. V.out v ≡ false) handed.visits }
+    requires none_out { AllByRecursion (λ watched. V.out watched.inner ≡ false) handed.visits }
     ensures ran { IfOk result (HasRun (arc_value site) (C.May (arc_value clock))
-        (visits_view V.MayGive V.finished V.over) (spools_view S.state S.MayFind S.MayRefuse) handed) }
+        (visits_view V.MayGive V.finished V.over O.told) (spools_view S.state S.MayFind S.MayRefuse T.told) handed) }
     ensures room { IfOk result
         (λ report. (report.blocks ≡ memory.room.blocks) × (report.slots ≡ memory.room.slots)) }
     ensures not_size { result ≢ Err HouseFault.Size }

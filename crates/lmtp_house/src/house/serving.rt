@@ -2,12 +2,13 @@
 
 ghost use Rattle.std.specs.Prelude.{◌≡◌, ◌≢◌, IfOk, Err};
 ghost use Rattle.std.specs.List.{AllByRecursion};
-ghost use Rattle.lmtp_threads.specs.Works.{visits_view};
+ghost use Rattle.lmtp_threads.specs.Works.{visits_view, is_out};
 ghost use Rattle.lmtp_threads.specs.Tasks.{IsLaneReady, IsBoxReady, HaveServedAll};
 
 use crate::house::fault::HouseFault;
-use box_worker::Gate;
+use box_worker::{Gate, TurnObserver};
 use lmtp_lane::{Clock, Visits};
+use lmtp_talk::Observer;
 use lmtp_threads::{LaneColumns, Lanes, Workers, Working};
 use mbox_record::Spool;
 use msg_depot::DepotName;
@@ -16,36 +17,40 @@ use std::thread::Threads;
 
 /// What lanes that have ended handed back, and the workers, which still run.
 #[derive(Drop)]
-pub struct Ended<N, V, S, G>
+pub struct Ended<N, V, O, S, T, G>
 where
     N: DepotName + Send + Sync + 'static,
     V: Visits,
+    O: Observer,
     S: Spool + Drop + Send + 'static,
+    T: TurnObserver + Send + 'static,
     G: Gate + Drop + Send + 'static,
 {
-    pub lanes: LaneColumns<N, V>,
-    pub workers: Working<N, S, G>,
+    pub lanes: LaneColumns<N, V, O>,
+    pub workers: Working<N, S, T, G>,
 }
 
 /// Starts the workers and then the lanes, and waits until the lanes have no more clients. At `Err` all that had
 /// started have ended.
-pub fn serve_all<R, N, V, S, G, C>(
+pub fn serve_all<R, N, V, O, S, T, G, C>(
     rt: R,
-    lanes: Lanes<N, V, C>,
-    workers: Workers<N, S, G>,
-) -> Result<Ended<N, V, S, G>, HouseFault>
+    lanes: Lanes<N, V, O, C>,
+    workers: Workers<N, S, T, G>,
+) -> Result<Ended<N, V, O, S, T, G>, HouseFault>
 where
     R: Threads + Wait + Copy + Send + 'static,
     N: DepotName + Send + Sync + 'static,
     V: Visits + Send + 'static,
     V::P: Send + 'static,
+    O: Observer + Send + 'static,
     S: Spool + Drop + Send + 'static,
+    T: TurnObserver + Send + 'static,
     G: Gate + Drop + Send + 'static,
     C: Clock + Send + Sync + 'static,
-    requires lanes { AllByRecursion (IsLaneReady V.out) lanes }
+    requires lanes { AllByRecursion (IsLaneReady (is_out V.out)) lanes }
     requires workers { AllByRecursion IsBoxReady workers }
     ensures served { IfOk result (λ ended. HaveServedAll C.May
-        (visits_view V.MayGive V.finished V.over) lanes ended.lanes) }
+        (visits_view V.MayGive V.finished V.over O.told) lanes ended.lanes) }
     ensures working { IfOk result (λ ended. ended.workers ≡ workers) }
     ensures not_size { result ≢ Err HouseFault.Size }
 {

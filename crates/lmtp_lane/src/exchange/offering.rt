@@ -3,6 +3,7 @@
 ghost use Rattle.std.specs.Prelude.{◌≡◌, ◌<◌, [], ◌∷◌, length, slice_index};
 ghost use Rattle.mail_world.specs.Slips.{own_slip, txn_of};
 ghost use Rattle.mail_world.specs.Lists.{copies_from};
+ghost use Rattle.mbox_record.specs.Lengths.{lengths_of};
 ghost use Rattle.mail_post.specs.Offered.{HaveNumber, IsOffered};
 ghost use Rattle.lmtp_lane.specs.LaneExchange.{sending_of, KeepsRoom, Continues, sent_as, copy_at, is_ok};
 
@@ -68,6 +69,7 @@ impl<N: DepotName> Exchange<N> {
     )
         requires place { place < length session.now.session.recipients }
         requires weight { hold.weight ≡ 1 }
+        requires lengths { mark.lengths ≡ lengths_of hold.bytes }
         requires mailboxes { length self.old.senders.items ≡ length session.now.site.boxes }
         ensures room { KeepsRoom (sending_of self.old) (sending_of self.new) }
         ensures way { Continues (txn_of self.old.lane mark.number)
@@ -85,7 +87,7 @@ impl<N: DepotName> Exchange<N> {
             mark.moment,
         );
         let mailbox = session.recipient(place);
-        let post = Post::new(txn, place, mailbox, envelope, hold);
+        let post = Post::new(txn, place, mailbox, envelope, mark.lengths, hold);
         let slip = self.failed(mark.number, place, mailbox);
         self.offer(rt, depot, post, slip);
     }
@@ -101,6 +103,7 @@ impl<N: DepotName> Exchange<N> {
     )
         requires some { 0 < length session.now.session.recipients }
         requires weight { hold.weight ≡ length session.now.session.recipients }
+        requires lengths { mark.lengths ≡ lengths_of hold.bytes }
         requires mailboxes { length self.old.senders.items ≡ length session.now.site.boxes }
         ensures room { KeepsRoom (sending_of self.old) (sending_of self.new) }
         ensures way { Continues (txn_of self.old.lane mark.number)

@@ -3,6 +3,7 @@
 ghost use Rattle.std.specs.Prelude.{◌≡◌, ◌≤◌, ◌<◌, length};
 ghost use Rattle.mail_world.specs.declared.limits.TheConstants.{RECIPIENT_LIMIT};
 ghost use Rattle.mail_world.specs.Slips.{own_slip, txn_of};
+ghost use Rattle.mbox_record.specs.Lengths.{lengths_of};
 ghost use Rattle.mail_post.specs.Gathering.{IsDone};
 ghost use Rattle.mail_post.specs.Offered.{HaveNumber, any_gone};
 ghost use Rattle.lmtp_lane.specs.LaneExchange.{ends_of, sending_of, sent_as, Sends};
@@ -79,6 +80,7 @@ impl<N: DepotName> Exchange<N> {
     )
         requires some { 0 < length session.now.session.recipients }
         requires weight { hold.weight ≡ length session.now.session.recipients }
+        requires lengths { mark.lengths ≡ lengths_of hold.bytes }
         requires mailboxes { length self.old.senders.items ≡ length session.now.site.boxes }
         ensures lane { self.new.lane ≡ self.old.lane }
         ensures senders { length self.new.senders.items ≡ length self.old.senders.items }

@@ -1,26 +1,8 @@
 //! What the lanes need of what listens, be it TCP or a Unix socket.
 
-use std::fmt::{Display, Formatter};
-use std::net::{IpAddr, SocketAddr};
-use std::{fmt, io};
-
-/// A client, as the log names it.
-#[derive(Clone, Copy, Debug, PartialEq, Eq)]
-pub enum Client {
-    /// One who connected over TCP, from this address.
-    Ip(IpAddr),
-    /// One who connected to a Unix socket.
-    Unix,
-}
-
-impl Display for Client {
-    fn fmt<W: fmt::Write>(&self, f: &mut Formatter<W>) -> fmt::Result {
-        match self {
-            Client::Ip(address) => write!(f, "{address}"),
-            Client::Unix => f.write_str("unix"),
-        }
-    }
-}
+use lmtp_talk::Client;
+use std::io;
+use std::net::SocketAddr;
 
 /// Where a server listens.
 #[derive(Clone, Copy, Debug, PartialEq, Eq)]

@@ -6,13 +6,12 @@ ghost use Rattle.std.specs.Arc.{arc_value};
 ghost use Rattle.lmtp_lane.specs.TcpVisits.{IsLaneOf, connections_left, conversations_ended, is_out, share, shares};
 
 use crate::tcp::visits::TcpVisits;
-use lmtp_talk::{Bounds, ReadBuffer};
+use lmtp_talk::Bounds;
 use std::alloc::{AllocError, Global};
 use std::sync::Arc;
 
 /// The visits of as many lanes: the connections are shared out among them, the first lanes have one more
-/// where they don't go out even, and each conversation has these bounds. All memory of the lanes'
-/// clients is taken here.
+/// where they don't go out even, and each conversation has these bounds. No client takes memory.
 pub fn tcp_visits<L: Drop, E: Drop>(
     alloc: Global,
     listener: L,
@@ -31,11 +30,10 @@ pub fn tcp_visits<L: Drop, E: Drop>(
     let listener = Arc::new(alloc, listener)?;
     let mut visits = Vec::new(alloc);
     for lane in 0..lanes {
-        let buffer = ReadBuffer::new(alloc)?;
         let shared = Arc::try_clone(&listener)?;
         let until = Arc::try_clone(&curfew)?;
         let connections = share_of(connections, lanes, lane);
-        visits.push(TcpVisits::new(shared, connections, bounds, until, buffer))?;
+        visits.push(TcpVisits::new(shared, connections, bounds, until))?;
     }
     Ok(visits)
 }

@@ -5,7 +5,7 @@ ghost use Rattle.std.specs.Arc.{arc_value};
 
 use crate::tcp::listener::Listener;
 use crate::visits::Visits;
-use lmtp_talk::{Bounds, ClientStream, Curfew, EndCause, ReadBuffer, TcpPeer, is_silence};
+use lmtp_talk::{Bounds, Client, ClientStream, Curfew, EndCause, TcpPeer, is_silence};
 use std::io;
 use std::io::{ErrorKind, Read, Write};
 use std::sync::{Arc, Wait};
@@ -15,7 +15,7 @@ use std::time::Duration;
 pub const WAIT_MS: u64 = 500;
 
 /// As many clients of a listener, that other lanes may share, as it may hold conversations, while no end was asked
-/// for. The buffer is lent to one after the other, so that none of them takes memory.
+/// for.
 #[derive(Drop)]
 pub struct TcpVisits<L: Drop, E: Drop> {
     listener: Arc<L>,
@@ -26,8 +26,8 @@ pub struct TcpVisits<L: Drop, E: Drop> {
     curfew: Arc<E>,
     // how many conversations have ended; it stays at its largest value
     ended: u64,
-    // here while no client is out
-    buffer: Option<ReadBuffer>,
+    // whether a client was handed out, and isn't back
+    out: bool,
     over: bool,
     failed: bool,
     stopped: bool,
@@ -43,7 +43,6 @@ impl<L: Drop, E: Drop> TcpVisits<L, E> {
         connections: u64,
         bounds: Bounds,
         curfew: Arc<E>,
-        buffer: ReadBuffer,
     ) -> TcpVisits<L, E>
         ensures ready { IsReady connections bounds result }
         ensures listener { result.listener ≡ listener }
@@ -55,7 +54,7 @@ impl<L: Drop, E: Drop> TcpVisits<L, E> {
             bounds,
             curfew,
             ended: 0,
-            buffer: Some(buffer),
+            out: false,
             over: false,
             failed: false,
             stopped: false,
@@ -86,7 +85,7 @@ where
     ghost use Rattle.std.specs.Prelude.{false, true, Ok, None, OnErr};
     ghost use Rattle.lmtp_lane.specs.TcpVisits.{TakesClient, is_out};
 
-    // The next client, where one is to be had; the buffer is lent to it.
+    // The next client, where one is to be had.
     fn take_client<R: Wait>(&mut self, rt: &R) -> Option<TcpPeer<L::Stream, E>>
         requires { is_out self.old ≡ false }
         ensures takes { TakesClient self.old self.new result }
@@ -96,10 +95,10 @@ where
             return None;
         }
         match self.accept(rt) {
-            Ok(Some((stream, curfew))) => {
+            Ok(Some((stream, client, curfew))) => {
                 self.connections -= 1;
-                let buffer = self.buffer.take().unwrap();
-                Some(TcpPeer::new(stream, buffer, self.bounds, curfew))
+                self.out = true;
+                Some(TcpPeer::new(stream, client, self.bounds, curfew))
             }
             Ok(None) => {
                 self.stopped = true;
@@ -113,7 +112,7 @@ where
     }
 
     // The next client that is still there, or none once the server's end is asked for.
-    fn accept<R: Wait>(&self, rt: &R) -> io::Result<Option<(L::Stream, Arc<E>)>>
+    fn accept<R: Wait>(&self, rt: &R) -> io::Result<Option<(L::Stream, Client, Arc<E>)>>
         ensures { result ≡ Ok None → E.IsAsked (arc_value self.now.curfew) }
     {
         for _ in rt.forever() {
@@ -121,13 +120,13 @@ where
                 return Ok(None);
             }
             match self.listener.accept() {
-                Ok((stream, _)) => {
+                Ok((stream, client)) => {
                     stream.set_read_timeout(Duration::from_millis(WAIT_MS))?;
                     stream.set_write_timeout(Duration::from_millis(WAIT_MS))?;
                     let Ok(curfew) = Arc::try_clone(&self.curfew) else {
                         return Err(io::Error::from(ErrorKind::OutOfMemory));
                     };
-                    return Ok(Some((stream, curfew)));
+                    return Ok(Some((stream, client, curfew)));
                 }
                 Err(error) if error.kind() == ErrorKind::ConnectionAborted => {}
                 Err(error) if is_silence(&error) => {}
@@ -169,13 +168,13 @@ where
         client
     }
 
-    /// Takes the buffer back, and closes the connection; a client who may still send has up to a second to
-    /// hear the last reply.
+    /// Closes the connection; a client who may still send has up to a second to hear the last reply.
     fn done(&mut self, peer: TcpPeer<L::Stream, E>, end: EndCause)
         requires { is_out self.old ≡ true }
         ensures { TakesBack self.old self.new }
     {
-        self.buffer = Some(peer.close(end));
+        peer.close(end);
+        self.out = false;
         self.ended = self.ended.saturating_add(1);
     }
 }

@@ -1,8 +1,6 @@
 //! The end of a connection whose client may still send: closed at once, it would be reset, and the last reply
 //! could be lost with it (RFC 1122, 4.2.2.13).
 
-ghost use Rattle.std.specs.Prelude.{◌≡◌, length};
-
 use crate::curfew::{Curfew, has_passed};
 use crate::ending::EndCause;
 use crate::tcp::retry::{is_silence, read_some};
@@ -19,41 +17,39 @@ const WAIT: u64 = 100;
 /// How many of these reads may bring nothing.
 const SILENT_READS: u32 = 10;
 
-/// How many are made at most, so that they end where the clock stands still. A client on the same machine is read some
-/// ten thousand times in a second.
-const READS: u32 = 1_000_000;
+/// How many are made at most, so that they end where the clock stands still.
+const READS: u32 = 10_000_000;
+
+/// The bytes that each of them asks for.
+const READ_SIZE: usize = 4_096;
 
 /// Before a connection is closed: after a conversation that the server ended, and after QUIT where bytes are unread, it
 /// is shut down for writing, and what the client still sends is read and dropped for a second, however much comes.
-/// `waits` says that bytes of the stream were read which the conversation didn't ask for. The buffer isn't empty.
+/// `waits` says that bytes of the stream were read which the conversation didn't ask for.
 pub fn close<T: Read + ClientStream, E: Curfew>(
     stream: &mut T,
-    buffer: &mut [u8],
     waits: bool,
     end: EndCause,
     curfew: &E,
-)
-    ensures { length buffer.new ≡ length buffer.old }
-{
+) {
+    let mut room = [0; READ_SIZE];
     let is_unread = match end {
         EndCause::Stopped | EndCause::ReadBound => true,
-        EndCause::Quit => waits || has_unread(stream, buffer),
+        EndCause::Quit => waits || has_unread(stream, &mut room),
         EndCause::EndOfInput | EndCause::ReadFault | EndCause::WriteFault => false,
     };
     if is_unread {
         let _ = stream.shutdown_write();
-        drain(stream, buffer, curfew);
+        drain(stream, &mut room, curfew);
     }
 }
 
 // Reads at once what is unread, and says whether anything was; nothing where that can't be asked without waiting.
-fn has_unread<T: Read + ClientStream>(stream: &mut T, buffer: &mut [u8]) -> bool
-    ensures { length buffer.new ≡ length buffer.old }
-{
+fn has_unread<T: Read + ClientStream>(stream: &mut T, room: &mut [u8]) -> bool {
     if stream.set_nonblocking(true).is_err() {
         return false;
     }
-    match stream.read(buffer) {
+    match stream.read(room) {
         Ok(0) | Err(_) => false,
         Ok(_) => stream.set_nonblocking(false).is_ok(),
     }
@@ -61,9 +57,7 @@ fn has_unread<T: Read + ClientStream>(stream: &mut T, buffer: &mut [u8]) -> bool
 
 // Reads on until the client has closed its end, the second is over, or the client was silent for as long; a read that
 // timed out doesn't end it before, since the bytes of a far client may still be on their way.
-fn drain<T: Read + ClientStream, E: Curfew>(stream: &mut T, buffer: &mut [u8], curfew: &E)
-    ensures { length buffer.new ≡ length buffer.old }
-{
+fn drain<T: Read + ClientStream, E: Curfew>(stream: &mut T, room: &mut [u8], curfew: &E) {
     if stream
         .set_read_timeout(Duration::from_millis(WAIT))
         .is_err()
@@ -73,7 +67,7 @@ fn drain<T: Read + ClientStream, E: Curfew>(stream: &mut T, buffer: &mut [u8], c
     let begun = curfew.moment();
     let mut silent: u32 = 0;
     for _ in 0..READS {
-        match read_some(stream, buffer) {
+        match read_some(stream, room) {
             Ok(0) => return,
             Ok(_) => {}
             Err(error) if is_silence(&error) => silent = silent.saturating_add(1),

@@ -4,6 +4,7 @@ ghost use Rattle.std.specs.Prelude.{◌≡◌, ◌<◌, [], false, length, Ok, I
 ghost use Rattle.std.specs.Arc.{arc_value};
 ghost use Rattle.std.specs.Duration.{as_nanos};
 
+use crate::client::{Client, Traffic};
 use crate::curfew::{Curfew, has_passed};
 use crate::ending::EndCause;
 use crate::pause::Pause;
@@ -13,8 +14,6 @@ use crate::tcp::drain::close;
 use crate::tcp::read_buffer::ReadBuffer;
 use crate::tcp::retry::{is_silence, write_some};
 use crate::tcp::stream::ClientStream;
-use crate::telling::Arrived;
-use mail_world::Reply;
 use std::io;
 use std::io::{Error, ErrorKind, Read, Write};
 use std::sync::Arc;
@@ -30,7 +29,7 @@ pub struct Bounds {
 }
 
 /// A client whose bytes come and go over a stream. What the system has for it is read at once, as far as the
-/// buffer goes, and handed out in pieces. It says that the server is to stop once as many pieces were handed
+/// buffer goes, which lends it in pieces. It says that the server is to stop once as many pieces were handed
 /// out as may be, once the client was silent for as many waits of the stream as it may be (RFC 5321, 4.5.3.2), and
 /// once the curfew says that its conversation is over, though bytes wait. Before that, but after the server's end was
 /// asked for, it says so at rest: in place of a line that ends the conversation there, which stays in the buffer, and
@@ -38,21 +37,26 @@ pub struct Bounds {
 #[derive(Drop)]
 pub struct TcpPeer<T, E: Drop> {
     stream: T,
-    buffer: ReadBuffer,
     curfew: Arc<E>,
+    client: Client,
     // when the conversation began
     begun: Duration,
     // how many waits may bring nothing
     waits: u32,
     // how many reads may still be made
     reads_left: u64,
+    // how many bytes it left in its buffer as it was last read
+    left: usize,
     // when it was found that bytes had come, last
     heard: Duration,
     // whether MAIL was handed on at rest since the server's end was asked for
     had_mail: bool,
     // when it was first to be written to after its conversation was over
     over_since: Option<Duration>,
-    // each stays at its largest value
+    // the bytes that reads of the stream brought, and that its writes took; each count stays at its largest value
+    bytes_read: u64,
+    bytes_written: u64,
+    // how often it was read, failed and said stop, likewise
     reads: u64,
     failures: u64,
     stops: u64,
@@ -62,33 +66,29 @@ impl<T, E: Curfew> TcpPeer<T, E> {
     ghost use Rattle.lmtp_talk.specs.TcpPeer.{IsNew};
 
     /// A client whose conversation begins now, within these bounds.
-    pub fn new(stream: T, mut buffer: ReadBuffer, bounds: Bounds, curfew: Arc<E>) -> TcpPeer<T, E>
+    pub fn new(stream: T, client: Client, bounds: Bounds, curfew: Arc<E>) -> TcpPeer<T, E>
         ensures fresh { IsNew bounds result }
         ensures stream { result.stream ≡ stream }
+        ensures client { result.client ≡ client }
     {
-        buffer.clear();
         let begun = curfew.moment();
         TcpPeer {
             stream,
-            buffer,
             curfew,
+            client,
             begun,
             waits: bounds.waits,
             reads_left: bounds.reads,
+            left: 0,
             heard: begun,
             had_mail: false,
             over_since: None,
+            bytes_read: 0,
+            bytes_written: 0,
             reads: 0,
             failures: 0,
             stops: 0,
         }
-    }
-
-    /// The stream that its bytes come and go over.
-    pub fn stream(&self) -> &T
-        ensures { result.now ≡ self.now.stream }
-    {
-        &self.stream
     }
 }
 
@@ -129,20 +129,20 @@ impl<T, E: Curfew> TcpPeer<T, E> {
     }
 
     // Whether what waits ends the conversation where it is at rest; else MAIL is kept in mind.
-    fn refuses(&mut self, pause: Pause) -> bool
-        ensures refused { result ≡ true → EndsAtRest E.IsAsked pause self.old self.old }
+    fn refuses(&mut self, buffer: &ReadBuffer, pause: Pause) -> bool
+        ensures refused { result ≡ true → EndsAtRest E.IsAsked pause self.old (waiting buffer.now) }
         ensures mail { self.new.had_mail ≡ true → (self.old.had_mail ≡ true)
             ⊎ (E.IsAsked (arc_value self.old.curfew) × (is_at_rest pause ≡ true)
-            × (begins_mail (waiting self.old.buffer) ≡ true)) }
+            × (begins_mail (waiting buffer.now) ≡ true)) }
         ensures same { self.new ≡ record self.old { had_mail = self.new.had_mail } }
     {
         if self.asked_at(pause).is_none() {
             return false;
         }
-        if ends_at_rest(pause, self.had_mail, self.buffer.unread()) {
+        if ends_at_rest(pause, self.had_mail, buffer.unread()) {
             return true;
         }
-        self.had_mail = self.had_mail || begins_mail(self.buffer.unread());
+        self.had_mail = self.had_mail || begins_mail(buffer.unread());
         false
     }
 }
@@ -200,23 +200,49 @@ enum Waited {
     Over,
 }
 
+impl<T: Read, E: Drop> TcpPeer<T, E> {
+    ghost use Rattle.std.specs.Prelude.{MatchResult};
+    ghost use Rattle.lmtp_talk.specs.Peer.{RisesBy};
+    ghost use Rattle.lmtp_talk.specs.ReadBuffer.{waiting, Refills};
+
+    // Reads the stream once, where nothing waits, and counts what it brings.
+    fn refill(&mut self, buffer: &mut ReadBuffer) -> io::Result<usize>
+        requires { waiting buffer.old ≡ [] }
+        ensures fills { Refills (T.remaining self.old.stream) (T.remaining self.new.stream) result
+            (waiting buffer.new) }
+        ensures counts { MatchResult result
+            (λ n. RisesBy n self.old.bytes_read self.new.bytes_read)
+            (λ _. self.new.bytes_read ≡ self.old.bytes_read) }
+        ensures same { self.new ≡ record self.old {
+          stream = self.new.stream;
+          bytes_read = self.new.bytes_read;
+        } }
+    {
+        let size = buffer.refill(&mut self.stream)?;
+        self.bytes_read = self.bytes_read.saturating_add(size as u64);
+        Ok(size)
+    }
+}
+
 impl<T: Read, E: Curfew> TcpPeer<T, E> {
-    ghost use Rattle.std.specs.Prelude.{IfSome, Some, None, ◌⊎◌};
+    ghost use Rattle.std.specs.Prelude.{IfSome, Some, None, ◌⊎◌, ◌-◌};
     ghost use Rattle.mail_world.specs.Failures.{Rises};
-    ghost use Rattle.lmtp_talk.specs.Peer.{PeerFailed};
-    ghost use Rattle.lmtp_talk.specs.ReadBuffer.{waiting};
-    ghost use Rattle.lmtp_talk.specs.TcpPeer.{Fills, WaitedFor, tcp_state};
+    ghost use Rattle.lmtp_talk.specs.Peer.{WasRead, HasBrought, PeerFailed, RisesBy};
+    ghost use Rattle.lmtp_talk.specs.ReadBuffer.{waiting, piece_of};
+    ghost use Rattle.lmtp_talk.specs.TcpPeer.{Fills, WaitedFor, TakesRead, brought, tcp_state};
 
     // Waits for bytes as long as the client may be silent and its conversation isn't over.
-    fn wait(&mut self, pause: Pause) -> Result<Waited, PeerFault>
-        requires { waiting self.old.buffer ≡ [] }
-        ensures waited { IfOk result (WaitedFor T.remaining self.old self.new) }
+    fn wait(&mut self, buffer: &mut ReadBuffer, pause: Pause) -> Result<Waited, PeerFault>
+        requires { waiting buffer.old ≡ [] }
+        ensures waited { IfOk result (WaitedFor T.remaining self.old (waiting buffer.old) self.new (waiting buffer.new)) }
         ensures over { result ≡ Ok Waited.Over → E.IsOver (arc_value self.old.curfew) (as_nanos self.old.begun) }
-        ensures silent { result ≡ Ok Waited.Silent → waiting self.new.buffer ≡ [] }
-        ensures err { OnErr result (PeerFailed (tcp_state T.remaining self.old) (tcp_state T.remaining self.new)) }
+        ensures silent { result ≡ Ok Waited.Silent → waiting buffer.new ≡ [] }
+        ensures err { OnErr result (PeerFailed (tcp_state T.remaining self.old (waiting buffer.old))
+            (tcp_state T.remaining self.new (waiting buffer.new))) }
+        ensures counts { RisesBy (length (waiting buffer.new)) self.old.bytes_read self.new.bytes_read }
         ensures bounds { self.new ≡ record self.old {
           stream = self.new.stream;
-          buffer = self.new.buffer;
+          bytes_read = self.new.bytes_read;
           failures = self.new.failures;
           heard = self.new.heard;
         } }
@@ -225,7 +251,7 @@ impl<T: Read, E: Curfew> TcpPeer<T, E> {
             if self.is_over() {
                 return Ok(Waited::Over);
             }
-            match self.buffer.refill(&mut self.stream) {
+            match self.refill(buffer) {
                 Ok(0) => return Ok(Waited::End),
                 Ok(_) => {
                     self.heard = self.curfew.moment();
@@ -255,42 +281,70 @@ impl<T: Read, E: Curfew> TcpPeer<T, E> {
     }
 
     // Reads on where nothing waits, and says what the client did where it said nothing.
-    fn fill(&mut self, pause: Pause) -> Result<Option<Came>, PeerFault>
-        ensures ok { IfOk result (Fills T.remaining self.old self.new) }
-        ensures err { OnErr result (PeerFailed (tcp_state T.remaining self.old) (tcp_state T.remaining self.new)) }
-        ensures waits { 0 < length (waiting self.old.buffer)
-            → ((result ≡ Ok None) × (self.new ≡ self.old))
+    fn fill(&mut self, buffer: &mut ReadBuffer, pause: Pause) -> Result<Option<Came>, PeerFault>
+        ensures ok { IfOk result (Fills T.remaining self.old (waiting buffer.old) self.new (waiting buffer.new)) }
+        ensures err { OnErr result (PeerFailed (tcp_state T.remaining self.old (waiting buffer.old))
+            (tcp_state T.remaining self.new (waiting buffer.new))) }
+        ensures counts { RisesBy (length (waiting buffer.new) - length (waiting buffer.old))
+            self.old.bytes_read self.new.bytes_read }
+        ensures waits { 0 < length (waiting buffer.old)
+            → ((result ≡ Ok None) × (self.new ≡ self.old) × (buffer.new ≡ buffer.old))
             ⊎ ((result ≡ Ok (Some Came.Stop)) × (self.new.stream ≡ self.old.stream)
-            × (self.new.buffer ≡ self.old.buffer) × E.IsOver (arc_value self.old.curfew) (as_nanos self.old.begun)) }
-        ensures causes { result ≡ Ok (Some Came.Stop) → (waiting self.new.buffer ≡ [])
+            × (buffer.new ≡ buffer.old) × E.IsOver (arc_value self.old.curfew) (as_nanos self.old.begun)) }
+        ensures causes { result ≡ Ok (Some Came.Stop) → (waiting buffer.new ≡ [])
             ⊎ E.IsOver (arc_value self.old.curfew) (as_nanos self.old.begun) }
         ensures same { (self.new.reads_left ≡ self.old.reads_left) × (self.new.reads ≡ self.old.reads)
             × (self.new.curfew ≡ self.old.curfew) × (self.new.had_mail ≡ self.old.had_mail) }
     {
-        if !self.buffer.is_empty() {
+        if !buffer.is_empty() {
             return Ok(self.stop_if_over());
         }
-        match self.wait(pause)? {
+        match self.wait(buffer, pause)? {
             Waited::Came => Ok(None),
             Waited::End => Ok(Some(Came::End)),
             Waited::Silent | Waited::Over => Ok(Some(self.stop())),
         }
     }
+
+    // Makes a read, before which only what is the peer's own waits.
+    fn take_read(&mut self, buffer: &mut ReadBuffer, pause: Pause) -> Result<Came, PeerFault>
+        ensures reads { WasRead 1 (tcp_state T.remaining self.old (waiting buffer.old))
+            (tcp_state T.remaining self.new (waiting buffer.new)) }
+        ensures come { IfOk result (HasBrought (tcp_state T.remaining self.old (waiting buffer.old))
+            (tcp_state T.remaining self.new (waiting buffer.new)) (piece_of buffer.new)) }
+        ensures failed { OnErr result (PeerFailed (tcp_state T.remaining self.old (waiting buffer.old))
+            (tcp_state T.remaining self.new (waiting buffer.new))) }
+        ensures bound { TakesRead E.IsAsked E.IsOver pause self.old (waiting buffer.old) self.new
+            (waiting buffer.new) result }
+        ensures counts { RisesBy (brought (waiting buffer.old) (waiting buffer.new) result)
+            self.old.bytes_read self.new.bytes_read }
+    {
+        self.reads = self.reads.saturating_add(1);
+        if self.reads_left == 0 {
+            return Ok(self.stop());
+        }
+        self.reads_left -= 1;
+        if let Some(came) = self.fill(buffer, pause)? {
+            return Ok(came);
+        }
+        if self.refuses(buffer, pause) {
+            return Ok(self.stop());
+        }
+        Ok(Came::Bytes(buffer.lend()))
+    }
 }
 
 impl<T: Read + ClientStream + Drop, E: Curfew> TcpPeer<T, E> {
-    /// Closes the connection of a conversation that ended so, and gives the buffer back; a client who may still
-    /// send has up to a second to hear the last reply.
-    pub fn close(self, end: EndCause) -> ReadBuffer {
+    /// Closes the connection of a conversation that ended so; a client who may still send has up to a second to hear
+    /// the last reply.
+    pub fn close(self, end: EndCause) {
         let TcpPeer {
             mut stream,
-            mut buffer,
             curfew,
+            left,
             ..
         } = self;
-        let waits = !buffer.is_empty();
-        close(&mut stream, &mut buffer.bytes, waits, end, &*curfew);
-        buffer
+        close(&mut stream, left > 0, end, &*curfew);
     }
 }
 
@@ -348,9 +402,10 @@ impl<T: Write, E: Curfew> TcpPeer<T, E> {
 }
 
 impl<T: Read + Write, E: Curfew> Peer for TcpPeer<T, E> {
-    ghost use Rattle.std.specs.Prelude.{[], None};
-    ghost use Rattle.lmtp_talk.specs.Peer.{WasRead, HasBrought, PeerFailed, HasWritten};
-    ghost use Rattle.lmtp_talk.specs.TcpPeer.{TakesRead, tcp_state};
+    ghost use Rattle.std.specs.Prelude.{[], None, MatchResult};
+    ghost use Rattle.lmtp_talk.specs.Peer.{WasRead, HasBrought, PeerFailed, HasWritten, RisesBy};
+    ghost use Rattle.lmtp_talk.specs.ReadBuffer.{waiting, piece_of};
+    ghost use Rattle.lmtp_talk.specs.TcpPeer.{TakesRead, brought, own, tcp_state};
 
     ghost state = { λ p.
         record {
@@ -361,43 +416,63 @@ impl<T: Read + Write, E: Curfew> Peer for TcpPeer<T, E> {
           failures = p.failures;
           stops = p.stops;
           holds = [];
-          told = None;
         } };
 
-    /// What it handed out, what its buffer has and what the stream has left are, together, what buffer and
-    /// stream had.
-    fn read(&mut self, buffer: &mut [u8], pause: Pause) -> Result<Came, PeerFault>
-        requires { 0 < length buffer.old }
-        ensures reads { WasRead 1 (tcp_state T.remaining self.old) (tcp_state T.remaining self.new) }
-        ensures come { IfOk result
-            (λ came. HasBrought (tcp_state T.remaining self.old) (tcp_state T.remaining self.new) buffer.new came) }
-        ensures failed { OnErr result (PeerFailed (tcp_state T.remaining self.old) (tcp_state T.remaining self.new)) }
-        ensures bound { TakesRead E.IsAsked E.IsOver pause self.old self.new result }
+    /// What the buffer lends now, what waits in it and what the stream has left are, together, what waited of this
+    /// client's bytes and the stream had. What another client left there is dropped.
+    fn read(&mut self, buffer: &mut ReadBuffer, pause: Pause) -> Result<Came, PeerFault>
+        ensures reads { WasRead 1 (tcp_state T.remaining self.old (own self.old buffer.old))
+            (tcp_state T.remaining self.new (waiting buffer.new)) }
+        ensures come { IfOk result (λ came. HasBrought (tcp_state T.remaining self.old (own self.old buffer.old))
+            (tcp_state T.remaining self.new (waiting buffer.new)) (piece_of buffer.new) came) }
+        ensures failed { OnErr result (PeerFailed (tcp_state T.remaining self.old (own self.old buffer.old))
+            (tcp_state T.remaining self.new (waiting buffer.new))) }
+        ensures bound { TakesRead E.IsAsked E.IsOver pause self.old (own self.old buffer.old) self.new
+            (waiting buffer.new) result }
+        ensures counts { RisesBy (brought (own self.old buffer.old) (waiting buffer.new) result)
+            self.old.bytes_read self.new.bytes_read }
+        ensures left { own self.new buffer.new ≡ waiting buffer.new }
     {
-        self.reads = self.reads.saturating_add(1);
-        if self.reads_left == 0 {
-            return Ok(self.stop());
-        }
-        self.reads_left -= 1;
-        if let Some(came) = self.fill(pause)? {
-            return Ok(came);
-        }
-        if self.refuses(pause) {
-            return Ok(self.stop());
-        }
-        Ok(Came::Bytes(self.buffer.hand_out(buffer)))
+        buffer.keep(self.left);
+        let read = self.take_read(buffer, pause);
+        self.left = buffer.unread().len();
+        read
     }
 
-    fn write(&mut self, bytes: &[u8]) -> Result<usize, PeerFault> {
+    fn write(&mut self, bytes: &[u8]) -> Result<usize, PeerFault>
+        requires { 0 < length bytes.now }
+        ensures reads { self.new.reads ≡ self.old.reads }
+        ensures ok { IfOk result
+            (λ n. HasWritten (tcp_state (λ _. None) self.old []) (tcp_state (λ _. None) self.new []) bytes.now n) }
+        ensures err { OnErr result
+            (PeerFailed (tcp_state (λ _. None) self.old []) (tcp_state (λ _. None) self.new [])) }
+        ensures left { self.new.left ≡ self.old.left }
+        ensures counts { MatchResult result
+            (λ n. RisesBy n self.old.bytes_written self.new.bytes_written)
+            (λ _. self.new.bytes_written ≡ self.old.bytes_written) }
+    {
         match self.write_on(bytes) {
             Ok(0) | Err(_) => Err(self.fail()),
-            Ok(size) => Ok(size),
+            Ok(size) => {
+                self.bytes_written = self.bytes_written.saturating_add(size as u64);
+                Ok(size)
+            }
         }
     }
 
-    /// It has no log.
-    fn tell_command(&mut self, _line: &[u8], _reply: Reply) {}
-
-    /// It has no log.
-    fn tell_copy(&mut self, _arrived: Arrived, _client: &[u8], _reply: Reply) {}
+    fn traffic(&self) -> Traffic
+        ensures { result ≡ record {
+          client = self.now.client;
+          began = self.now.begun;
+          read = self.now.bytes_read;
+          written = self.now.bytes_written;
+        } }
+    {
+        Traffic {
+            client: self.client,
+            began: self.begun,
+            read: self.bytes_read,
+            written: self.bytes_written,
+        }
+    }
 }

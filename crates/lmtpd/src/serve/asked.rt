@@ -2,20 +2,23 @@
 
 ghost use Rattle.std.specs.Prelude.{◌≡◌, false, length, map, None, MatchResult};
 ghost use Rattle.std.specs.Arc.{arc_value};
+ghost use Rattle.std.specs.List.{AllByRecursion};
 ghost use Rattle.lmtp_threads.specs.Works.{spools_view};
 ghost use Rattle.lmtpd_words.specs.Words.{named_site};
 ghost use Rattle.lmtpd_setup.specs.Curfew.{IsCurfewOf};
 ghost use Rattle.lmtpd_setup.specs.Faults.{site_fault};
-ghost use Rattle.lmtpd_setup.specs.Mailboxes.{held_as};
+ghost use Rattle.lmtpd_setup.specs.Mailboxes.{IsUntold, held_as};
 ghost use Rattle.lmtpd_setup.specs.Setup.{ends_asked, mailboxes_asked};
 ghost use Rattle.lmtpd.specs.Program.{IsListenedAt, IsNotServed, IsServedAsAsked};
 
 use super::numbers::{bounds_asked, connections_asked, sizes_asked};
 use crate::lacking::house_fault;
+use box_worker::TurnObserver;
+use lmtp_house::Observer;
 use lmtpd_listen::{Opened, listen_address_of};
-use lmtpd_log::{LaneLog, LineLog, LogSink};
+use lmtpd_log::{LaneLog, LineLog, LogSink, MailboxLog};
 use lmtpd_serve::{Conversations, Served, serve_run};
-use lmtpd_setup::{ServedMailbox, ServerLog, ServerSetup, Stop, open_address, set_up};
+use lmtpd_setup::{ServerLog, ServerSetup, Stop, WaitingMailbox, open_address, set_up};
 use lmtpd_words::ServeWords;
 use mbox_rd::{FileLock, RangeLock, Spool};
 use std::env::Env;
@@ -43,11 +46,10 @@ where
     W: Write,
     requires { words.now.check_words ≡ false }
     ensures { MatchResult result
-        (IsServedAsAsked H (⟦<LineLog<LogSink<ServerLog<H>>, H> as LaneLog>⟧.told)
+        (IsServedAsAsked H (⟦<LineLog<LogSink<ServerLog<H>>, H> as Observer>⟧.told)
         (⟦<LineLog<LogSink<ServerLog<H>>, H> as LaneLog>⟧.addresses)
-        (spools_view (⟦<ServedMailbox<H, ServerLog<H>> as Spool>⟧.state)
-        (⟦<ServedMailbox<H, ServerLog<H>> as Spool>⟧.MayFind)
-        (⟦<ServedMailbox<H, ServerLog<H>> as Spool>⟧.MayRefuse))
+        (spools_view (⟦<WaitingMailbox<H> as Spool>⟧.state) (⟦<WaitingMailbox<H> as Spool>⟧.MayFind)
+        (⟦<WaitingMailbox<H> as Spool>⟧.MayRefuse) (⟦<MailboxLog<LogSink<ServerLog<H>>> as TurnObserver>⟧.told))
         held_as words.now
         (W.contents writer.old) (W.contents writer.new))
         (IsNotServed words.now) }
@@ -84,14 +86,14 @@ where
     requires sound { site_fault words.now.site ≡ None }
     requires count { length setup.spools.items ≡ length words.now.site.boxes.items }
     requires mailboxes { map held_as setup.spools.items ≡ mailboxes_asked words.now }
+    requires untold { AllByRecursion (λ mailbox. IsUntold mailbox) setup.spools.items }
     requires ends { IsCurfewOf (ends_asked words.now) (arc_value setup.curfew) }
     requires addresses { setup.logs.addresses ≡ words.now.log_addresses }
     ensures { MatchResult result
-        (IsServedAsAsked H (⟦<LineLog<LogSink<ServerLog<H>>, H> as LaneLog>⟧.told)
+        (IsServedAsAsked H (⟦<LineLog<LogSink<ServerLog<H>>, H> as Observer>⟧.told)
         (⟦<LineLog<LogSink<ServerLog<H>>, H> as LaneLog>⟧.addresses)
-        (spools_view (⟦<ServedMailbox<H, ServerLog<H>> as Spool>⟧.state)
-        (⟦<ServedMailbox<H, ServerLog<H>> as Spool>⟧.MayFind)
-        (⟦<ServedMailbox<H, ServerLog<H>> as Spool>⟧.MayRefuse))
+        (spools_view (⟦<WaitingMailbox<H> as Spool>⟧.state) (⟦<WaitingMailbox<H> as Spool>⟧.MayFind)
+        (⟦<WaitingMailbox<H> as Spool>⟧.MayRefuse) (⟦<MailboxLog<LogSink<ServerLog<H>>> as TurnObserver>⟧.told))
         held_as words.now
         (W.contents writer.old) (W.contents writer.new))
         (IsNotServed words.now) }

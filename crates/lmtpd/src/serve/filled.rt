@@ -8,9 +8,11 @@ ghost use Rattle.lmtpd.specs.Program.{IsNotServedFilled, IsServeDone, IsServedAs
 
 use super::asked::serve_asked;
 use super::checked::check_words;
-use lmtpd_log::{LaneLog, LineLog, LogSink};
+use box_worker::TurnObserver;
+use lmtp_house::Observer;
+use lmtpd_log::{LaneLog, LineLog, LogSink, MailboxLog};
 use lmtpd_serve::Served;
-use lmtpd_setup::{ServedMailbox, ServerLog, Stop, fill};
+use lmtpd_setup::{ServerLog, Stop, WaitingMailbox, fill};
 use lmtpd_words::ServeWords;
 use mbox_rd::{FileLock, RangeLock, Spool};
 use std::env::Env;
@@ -47,11 +49,10 @@ where
     W: Write + Drop,
     ensures { MatchResult result
         (IsServeDone (IsFilled P.File.remaining)
-        (λ asked after. IsServedAsAsked H (⟦<LineLog<LogSink<ServerLog<H>>, H> as LaneLog>⟧.told)
+        (λ asked after. IsServedAsAsked H (⟦<LineLog<LogSink<ServerLog<H>>, H> as Observer>⟧.told)
         (⟦<LineLog<LogSink<ServerLog<H>>, H> as LaneLog>⟧.addresses)
-        (spools_view (⟦<ServedMailbox<H, ServerLog<H>> as Spool>⟧.state)
-        (⟦<ServedMailbox<H, ServerLog<H>> as Spool>⟧.MayFind)
-        (⟦<ServedMailbox<H, ServerLog<H>> as Spool>⟧.MayRefuse))
+        (spools_view (⟦<WaitingMailbox<H> as Spool>⟧.state) (⟦<WaitingMailbox<H> as Spool>⟧.MayFind)
+        (⟦<WaitingMailbox<H> as Spool>⟧.MayRefuse) (⟦<MailboxLog<LogSink<ServerLog<H>>> as TurnObserver>⟧.told))
         held_as asked (W.contents writer) (W.contents after)) words.entry)
         (IsNotServedFilled (IsFilled P.File.remaining) words.entry) }
 {

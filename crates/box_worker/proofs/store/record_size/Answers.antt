@@ -4,9 +4,8 @@ use Rattle.box_worker.specs.CountSpool.{CountSpool}
 use Rattle.box_worker.proofs.Messages.{counted_text, record_count}
 use Rattle.box_worker.proofs.store.record_size.Goals as goal
 
-pub returns-clause-size : goal.returns-clause-size
-returns-clause-size g c =
-    record_count civil_at c.args.site.now c.args.envelope.now c.args.hold.now.bytes c.in-Ok.begun c.in-Ok.ensures.new c.held.result c.held-2.result
+pub returns : goal.returns
+returns c message is =
+    record_count civil_at c.args.site.now c.args.envelope.now message c.held.result c.at.result
     (counted_text _ _ _ c.held.result (ap (λ (s : CountSpool). s.log.stands.bytes) c.new-head.ensures) c.in-Ok.ensures.ok c.held.ensures.exact)
-    (counted_text _ _ _ c.held-2.result (ap (λ (s : CountSpool). s.log.stands.bytes) c.new-text.ensures) c.in-Ok-append_text.ensures.ok c.held-2.ensures.exact)
-    c.checked_add.result c.checked_add.ensures
+    (c.at.ensures.counted message is) c.checked_add.result c.checked_add.ensures

@@ -17,9 +17,9 @@ pub loop-init : goal.loop-init
 loop-init g c =
     let at : Setting = setting_by c.args.site.now c.args.quota (worker_of c.args.slips.items) in
     let manner : Manner = manner_of g.S.Spool.MayFind g.S.Spool.MayRefuse in
-    let start : WorkerState = idle c.args.slips.items (g.S.Spool.state c.args.spool) in
+    let start : WorkerState = idle c.args.slips.items (g.S.Spool.state c.args.spool) (g.O.TurnObserver.told c.args.observer) in
     let State : List (Sender Slip) → WorkerState =
-    λ slips. record { slips = slips; mailbox = c.on.result.mailbox; in_use = c.on.result.in_use; taken = 0; lost = any_gone slips } in
+    λ slips. record { slips = slips; mailbox = c.on.result.mailbox; in_use = c.on.result.in_use; taken = 0; lost = any_gone slips; told = g.O.TurnObserver.told c.args.observer } in
     let P : List Note → Type 0 = λ copies. IsWorking at manner copies c.args.receiver c.args.receiver start (State c.new.result) c.on.result.limit in
     let R : List (Sender Slip) → Type 0 = λ slips. IsWorking at manner [] c.args.receiver c.args.receiver start (State slips) c.on.result.limit in
     record {
@@ -27,7 +27,7 @@ loop-init g c =
       lanes = refl;
       capacity = refl;
       working = subst P (sym c.requires.fresh) (subst R (sym c.new.ensures)
-          (working_none at manner c.args.slips.items c.args.receiver (g.S.Spool.state c.args.spool) c.on.result c.requires.worker
+          (working_none at manner c.args.slips.items c.args.receiver (g.S.Spool.state c.args.spool) c.on.result (g.O.TurnObserver.told c.args.observer) c.requires.worker
           c.on.ensures.mailbox c.on.ensures.in_use c.on.ensures.counts));
     }
 
@@ -35,9 +35,9 @@ pub loop-preserved : goal.loop-preserved
 loop-preserved g c =
     let at : Setting = setting_by c.args.site.now c.args.quota (worker_of c.args.slips.items) in
     let manner : Manner = manner_of g.S.Spool.MayFind g.S.Spool.MayRefuse in
-    let start : WorkerState = idle c.args.slips.items (g.S.Spool.state c.args.spool) in
+    let start : WorkerState = idle c.args.slips.items (g.S.Spool.state c.args.spool) (g.O.TurnObserver.told c.args.observer) in
     let now = c.handle.new.self in
-    let P : List Note → Type 0 = λ copies. IsWorking at manner copies c.args.receiver c.take_next.new.receiver start (worker_state now) now.mailbox.limit in
+    let P : List Note → Type 0 = λ copies. IsWorking at manner copies c.args.receiver c.take_next.new.receiver start (worker_state g.O.TurnObserver.told now) now.mailbox.limit in
     record {
       channel = c.take_next.ensures.same.0 ∙ c.loop.invariant.channel;
       lanes = c.take_next.ensures.same.1 ∙ c.loop.invariant.lanes;
@@ -53,11 +53,11 @@ returns-in-Err-Lost g c =
     let after = c.take_next.new.receiver in
     let at : Setting = setting_by c.args.site.now c.args.quota (worker_of c.args.slips.items) in
     let manner : Manner = manner_of g.S.Spool.MayFind g.S.Spool.MayRefuse in
-    let start : WorkerState = idle c.args.slips.items (g.S.Spool.state c.args.spool) in
+    let start : WorkerState = idle c.args.slips.items (g.S.Spool.state c.args.spool) (g.O.TurnObserver.told c.args.observer) in
     let gone : after.gone ≡ Some Lost = search rules in
     let P : WorkerBack _ → Type 0 = λ back. HasWorked at manner c.args.receiver back.receiver start back.worker in
     subst P (sym c.report-in-Err-Lost.ensures)
-    (worked at manner c.args.receiver c.loop.receiver after start (worker_state worker) worker.mailbox.limit c.loop.invariant.working (search rules) (search rules)
+    (worked at manner c.args.receiver c.loop.receiver after start (worker_state g.O.TurnObserver.told worker) worker.mailbox.limit c.loop.invariant.working (search rules) (search rules)
     (search rules) c.in-Err-Lost.ensures.nothing c.in-Err-Lost.ensures.no_time
     (subst IsSome (sym gone) refl) (any_gone worker.slips || true) (ap (λ (w : Option Gone). any_gone worker.slips || is_lost w) (sym gone)))
 
@@ -67,10 +67,10 @@ returns-in-Err-Closed g c =
     let after = c.take_next.new.receiver in
     let at : Setting = setting_by c.args.site.now c.args.quota (worker_of c.args.slips.items) in
     let manner : Manner = manner_of g.S.Spool.MayFind g.S.Spool.MayRefuse in
-    let start : WorkerState = idle c.args.slips.items (g.S.Spool.state c.args.spool) in
+    let start : WorkerState = idle c.args.slips.items (g.S.Spool.state c.args.spool) (g.O.TurnObserver.told c.args.observer) in
     let gone : after.gone ≡ Some Closed = search rules in
     let P : WorkerBack _ → Type 0 = λ back. HasWorked at manner c.args.receiver back.receiver start back.worker in
     subst P (sym c.report.ensures)
-    (worked at manner c.args.receiver c.loop.receiver after start (worker_state worker) worker.mailbox.limit c.loop.invariant.working (search rules) (search rules)
+    (worked at manner c.args.receiver c.loop.receiver after start (worker_state g.O.TurnObserver.told worker) worker.mailbox.limit c.loop.invariant.working (search rules) (search rules)
     (search rules) c.in-Err-Closed.ensures.nothing c.in-Err-Closed.ensures.no_time
     (subst IsSome (sym gone) refl) (any_gone worker.slips || false) (ap (λ (w : Option Gone). any_gone worker.slips || is_lost w) (sym gone)))

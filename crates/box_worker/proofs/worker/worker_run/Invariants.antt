@@ -19,5 +19,5 @@ invariant-loop g l = record {
   lanes : l.receiver.lanes ≡ l.fn.receiver.lanes;
   capacity : l.receiver.capacity ≡ l.fn.receiver.capacity;
   working : IsWorking (setting_by l.site l.fn.quota (worker_of l.fn.slips.items)) (manner_of g.S.Spool.MayFind g.S.Spool.MayRefuse) (taken l.receiver) l.fn.receiver l.receiver
-      (idle l.fn.slips.items (g.S.Spool.state l.fn.spool)) (worker_state l.worker) l.worker.mailbox.limit;
+      (idle l.fn.slips.items (g.S.Spool.state l.fn.spool) (g.O.TurnObserver.told l.fn.observer)) (worker_state g.O.TurnObserver.told l.worker) l.worker.mailbox.limit;
 }

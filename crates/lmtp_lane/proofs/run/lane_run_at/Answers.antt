@@ -15,5 +15,5 @@ pub returns : goal.returns
 returns g c =
     let V = g.V.Visits in
     let P : Site → LaneEnds → Type 0 = λ s e. HasServed (terms s c.args.reads) (g.C.Clock.May c.args.clock.now) (V.MayGive c.args.visits)
-    (lane_start (V.finished c.args.visits) (V.over c.args.visits) e.lane e.senders e.inbox) (lane_end e.lane c.lane_at.result) in
+    (lane_start (V.finished c.args.visits) (V.over c.args.visits) (g.O.Observer.told c.args.observer) e.lane e.senders e.inbox) (lane_end e.lane c.lane_at.result) in
     subst (P c.args.site.now) c.new-exchange.ensures.ends (subst (λ s. P s (ends_of c.new-exchange.result)) c.requires.site c.lane_at.ensures)

@@ -11,7 +11,7 @@ loop-init g c = record {
   here = c.requires.here;
   none_out = c.requires.none_out;
   others = λ peer may. may;
-  called = called_none _ _ _ _ (c.requires.begun, c.requires.clock);
+  called = called_none _ _ _ _ _ (c.requires.begun, c.requires.clock);
 }
 
 pub loop-preserved : goal.loop-preserved
@@ -21,7 +21,7 @@ loop-preserved g c =
       here = c.converse.ensures.site ∙ before.here;
       none_out = c.converse.ensures.back;
       others = λ peer may. before.others peer (c.next-in-loop.ensures.others peer (c.converse.ensures.others peer may));
-      called = called_more c.args.reads _ _ _ _ _ _ _ _ _ _ _ _ before.here c.in-Some-next.ensures.lends c.saturating_add-conversations.ensures
+      called = called_more c.args.reads _ _ _ _ _ _ _ _ _ _ _ _ _ _ _ before.here c.next-in-loop.ensures.same c.saturating_add-conversations.ensures
           (before.others _ c.in-Some-next.ensures.client) before.called c.converse.ensures.converses;
     }
 
@@ -33,6 +33,7 @@ returns-in_default g c =
     record {
       visits = called.visits;
       visited = search rules;
+      logged = called.logged;
       ended = search rules;
       counts = called.counts;
       came = x.came;

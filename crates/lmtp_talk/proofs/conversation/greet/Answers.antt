@@ -15,7 +15,6 @@ returns-clause-greets g c =
       session = c.greeting-greeting.ensures.session;
       wire = c.clear.ensures.after;
       same = c.flush.ensures.goes ∙ c.say.ensures.goes;
-      untold = c.flush.ensures.untold ∙ c.say.ensures.untold;
       said = subst said
           (ap (λ (x : Site). reply_text x c.greeting-greeting.result) (c.site.ensures ∙ c.greeting-greeting.ensures.site)
           ∙ ap (λ (r : Reply). reply_text c.args.dialogue.now.session.site r) c.greeting-greeting.ensures.reply)

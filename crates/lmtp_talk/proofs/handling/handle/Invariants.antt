@@ -1,5 +1,6 @@
 use Rattle.std.proofs.Common.{◌≡◌, ◌≤◌, ◌-◌, length, take}
 use Rattle.lmtp_talk.specs.Steps.{Advances, talk}
+use Rattle.lmtp_talk.specs.Parties.{parties}
 use Rattle.lmtp_talk.proofs.handling.handle.Given as goal
 
 -- the bytes up to there are handled
@@ -9,8 +10,9 @@ invariant-loop-at g l = record {
   site : l.dialogue.session.site ≡ l.initial.dialogue.session.site;
   same : g.D.Delivery.site l.delivery ≡ g.D.Delivery.site l.initial.delivery;
   reads : (g.P.Peer.state l.peer).reads ≡ (g.P.Peer.state l.initial.peer).reads;
-  stands : Advances g.D.Delivery.HasCome g.D.Delivery.IsDrafting (talk l.initial.dialogue (g.P.Peer.state l.initial.peer) l.initial.delivery)
-      (talk l.dialogue (g.P.Peer.state l.peer) l.delivery) (take l.at l.piece);
+  stands : Advances g.D.Delivery.HasCome g.D.Delivery.IsDrafting
+      (talk l.initial.dialogue (parties (g.P.Peer.state l.initial.peer) (g.O.Observer.told l.initial.observer)) l.initial.delivery)
+      (talk l.dialogue (parties (g.P.Peer.state l.peer) (g.O.Observer.told l.observer)) l.delivery) (take l.at l.piece);
 }
 
 abbrev pub decreases-loop-at : goal.decreases-loop-at

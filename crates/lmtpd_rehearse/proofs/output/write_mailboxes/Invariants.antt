@@ -5,5 +5,5 @@ use Rattle.lmtpd_rehearse.proofs.output.write_mailboxes.Given as goal
 
 abbrev pub invariant-loop-number : goal.invariant-loop-number
 invariant-loop-number g l = WritesUpTo (g.W.Write.contents l.initial.writer) (g.W.Write.contents l.writer)
-    (texts_of_mailboxes l.site.boxes (bytes_of_all l.spools))
-    (texts_of_mailboxes (drop l.number l.site.boxes) (drop l.number (bytes_of_all l.spools)))
+    (texts_of_mailboxes l.site.boxes (bytes_of_all l.mailboxes))
+    (texts_of_mailboxes (drop l.number l.site.boxes) (drop l.number (bytes_of_all l.mailboxes)))

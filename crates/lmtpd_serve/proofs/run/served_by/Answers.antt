@@ -2,7 +2,6 @@ use Rattle.std.proofs.Common.{◌∙◌, ◌||◌, ap}
 use Rattle.std.specs.List.{list_any}
 use Rattle.lmtp_house.specs.Handed.{HandedBack}
 use Rattle.lmtp_lane.specs.TcpVisits.{has_failed, was_stopped}
-use Rattle.lmtpd_log.specs.Logged.{visits_in}
 use Rattle.lmtpd_serve.proofs.run.served_by.Goals as goal
 
 pub returns-clause-faulty : goal.returns-clause-faulty
@@ -12,10 +11,10 @@ returns-clause-faulty g c =
 
 pub returns-clause-failed : goal.returns-clause-failed
 returns-clause-failed g c =
-    ap (λ b. c.args.announced.is_unknown || b) (c.has_one_failed.ensures ∙ ap (λ vs. list_any (λ v. has_failed (visits_in v)) vs) c.deref-2.ensures.value
-    ∙ ap (λ (r : HandedBack _ _). list_any (λ v. has_failed (visits_in v)) r.visits) c.report.view_is)
+    ap (λ b. c.args.announced.is_unknown || b) (c.has_one_failed.ensures ∙ ap (λ vs. list_any (λ v. has_failed v.inner) vs) c.deref-2.ensures.value
+    ∙ ap (λ (r : HandedBack _ _). list_any (λ v. has_failed v.inner) r.visits) c.report.view_is)
 
 pub returns-clause-stopped : goal.returns-clause-stopped
 returns-clause-stopped g c =
-    c.is_one_stopped.ensures ∙ ap (λ vs. list_any (λ v. was_stopped (visits_in v)) vs) c.deref-3.ensures.value
-    ∙ ap (λ (r : HandedBack _ _). list_any (λ v. was_stopped (visits_in v)) r.visits) c.report.view_is
+    c.is_one_stopped.ensures ∙ ap (λ vs. list_any (λ v. was_stopped v.inner) vs) c.deref-3.ensures.value
+    ∙ ap (λ (r : HandedBack _ _). list_any (λ v. was_stopped v.inner) r.visits) c.report.view_is

@@ -3,7 +3,6 @@ use Rattle.std.specs.Result.{OnOk, OnErr}
 use Rattle.lmtp_text.specs.Calendar.{civil_at}
 use Rattle.mbox_record.specs.Envelope.{record_text}
 use Rattle.mbox_record.specs.Spool.{SpoolState}
-use Rattle.msg_depot.specs.declared.view.Claim.{Claim}
 use Rattle.box_worker.specs.declared.limit.Limit.{Limit}
 use Rattle.box_worker.specs.Limits.{IsLetIn}
 use Rattle.box_worker.specs.Stored.{MailboxState, CountedMailbox, mailbox_of}
@@ -16,7 +15,7 @@ pub returns-then-not-fits-clause-does : goal.returns-then-not-fits-clause-does
 returns-then-not-fits-clause-does g c quota counts =
     does_refuse quota (record_text civil_at c.args.site.now c.args.envelope.now c.args.hold.now.bytes) c.args.self.now c.lets_in-fits.new.self
     c.refuse.new.self
-    (some_record civil_at c.args.site.now c.args.envelope.now c.args.hold.now.bytes) counts c.requires.sound c.if-not-fits.ensures.measured
+    (some_record civil_at c.args.site.now c.args.envelope.now c.args.hold.now.bytes) counts c.requires.sound (c.if-not-fits.ensures c.args.hold.now.bytes c.requires.lengths)
     c.refuse.result c.refuse.ensures
 
 pub returns-clause-does : goal.returns-clause-does
@@ -26,18 +25,16 @@ returns-clause-does g c quota counts =
     let text : List ℕ → List ℕ = record_text civil_at c.args.site.now c.args.envelope.now in
     let after = g.S.Spool.state kept.new.spool in
     let done : CountedMailbox = record { mailbox = mailbox_of after now.stored now.over now.faulty; limit = now.limit; in_use = now.in_use } in
-    let measured = c.if-not-fits.ensures.measured in
+    let measured = c.if-not-fits.ensures c.args.hold.now.bytes c.requires.lengths in
     let state : g.S.Spool.state now.spool ≡ c.args.self.now.mailbox.state =
     ap (λ (m : CountedMailbox). m.mailbox.state) c.self.view_is ∙ ap (λ (m : MailboxState). m.state) measured.0 in
     let P : Option Limit → Type 0 = λ l. IsLetIn c.args.self.now.limit (length (text c.args.hold.now.bytes)) l in
     let Q : SpoolState → Type 0 = λ s. OnOk kept.result (HasKeptMended s after (text c.args.hold.now.bytes)) in
-    let R : Claim → Type 0 = λ h. OnOk kept.result (HasKeptMended (g.S.Spool.state now.spool) after (text h.bytes)) in
     let V : SpoolState → Type 0 = λ s. OnErr kept.result (HasNotKeptMended s after (text c.args.hold.now.bytes)) in
-    let W : Claim → Type 0 = λ h. OnErr kept.result (HasNotKeptMended (g.S.Spool.state now.spool) after (text h.bytes)) in
     does_count quota (text c.args.hold.now.bytes) c.args.self.now done c.count.new.self
     (some_record civil_at c.args.site.now c.args.envelope.now c.args.hold.now.bytes) counts
     (subst P (sym (ap (λ (m : CountedMailbox). m.limit) c.self.view_is)) measured.1)
     (ap (λ (m : CountedMailbox). m.mailbox.faulty) c.self.view_is ∙ ap (λ (m : MailboxState). m.faulty) measured.0 ∙ c.requires.sound)
     kept.result c.count.result
-    (subst Q state (subst R c.lets_in-fits.ensures.hold kept.ensures.ok)) (subst V state (subst W c.lets_in-fits.ensures.hold kept.ensures.err))
+    (subst Q state kept.ensures.ok) (subst V state kept.ensures.err)
     c.count.ensures.stored c.count.ensures.lost

@@ -10,8 +10,8 @@ loop-lane-preserved g c = record {
   none_out = search (rules, all_push);
   none_ended = search (rules, all_push);
   shares = ap (map connections_left) c.in_ok-push.ensures.items
-      ∙ map-push connections_left (share c.args.connections c.args.lanes) c.loop-lane.visits.items c.new-in-loop-lane-2.result c.loop-lane.lane
-      c.loop-lane.invariant.shares (c.new-in-loop-lane-2.ensures.ready.connections ∙ c.share_of-connections.ensures);
+      ∙ map-push connections_left (share c.args.connections c.args.lanes) c.loop-lane.visits.items c.new-in-loop-lane.result c.loop-lane.lane
+      c.loop-lane.invariant.shares (c.new-in-loop-lane.ensures.ready.connections ∙ c.share_of-connections.ensures);
   each = search (rules, all_push);
 }
 

@@ -8,7 +8,6 @@ use Rattle.lmtp_talk.proofs.outbox.Outbox.say_answers.Goals as goal
 pub loop-i-init : goal.loop-i-init
 loop-i-init g c = record {
   goes = refl;
-  untold = refl;
   reads = refl;
   says = λ start came text h.
       let said : List ℕ → Type 0 = λ l. HasSaid start (g.P.Peer.state c.args.peer.now) c.args.self.now came l in
@@ -18,7 +17,6 @@ loop-i-init g c = record {
 pub loop-i-preserved : goal.loop-i-preserved
 loop-i-preserved g c = record {
   goes = c.say.ensures.goes ∙ c.loop-i.invariant.goes;
-  untold = c.say.ensures.untold ∙ c.loop-i.invariant.untold;
   reads = c.say.ensures.reads ∙ c.loop-i.invariant.reads;
   says = λ start came text h.
       let within : c.loop-i.i < length c.args.session.now.answers = omega (arith, c.requires, c.loop-i-test.true) in

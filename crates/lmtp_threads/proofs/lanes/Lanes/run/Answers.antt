@@ -1,7 +1,7 @@
 use Rattle.std.proofs.Common.{arith, ◌≡◌, length, ap, sym, ◌∙◌, subst, vec_items, vec_len}
 use Rattle.std.specs.List.{AllZip, AllByRecursion}
 use Rattle.lmtp_threads.specs.Columns.{no_columns}
-use Rattle.lmtp_threads.specs.Works.{VisitsView}
+use Rattle.lmtp_threads.specs.Works.{visits_view, is_out}
 use Rattle.lmtp_threads.specs.Tasks.{lane_tasks, IsLaneReady}
 use Rattle.lmtp_threads.proofs.Pairs.{AllZip-length}
 use Rattle.lmtp_threads.proofs.ServedAll.{LaneOk, have_served}
@@ -25,10 +25,10 @@ take_lanes-requires g c = subst (λ n. c.self.inside.columns ≡ no_columns n) (
 pub returns-in-Ok : goal.returns-in-Ok
 returns-in-Ok g c not_gone site clock channels given is count are =
     let reports = vec_items c.join.result in
-    let view : VisitsView _ = record { MayGive = g.V.Visits.MayGive; finished = g.V.Visits.finished; over = g.V.Visits.over } in
+    let view = visits_view g.V.Visits.MayGive g.V.Visits.finished g.V.Visits.over g.O.Observer.told in
     let tasks_are : c.start_all.new.self.tasks ≡ lane_tasks site clock 0 given.visits given.rows given.inboxes = c.in-Ok.ensures ∙ (c.self.view_is ∙ is) in
     let all = subst (λ l. AllZip (LaneOk g.C.Clock.May view) l reports) tasks_are c.join.ensures in
     have_served g.C.Clock.May view site clock channels given reports c.take_lanes.result c.take_lanes.ensures count are all not_gone
 
 pub start_all-requires-clause-ready : goal.start_all-requires-clause-ready
-start_all-requires-clause-ready g c κs within = subst (λ l. AllByRecursion (λ t. IsLaneReady g.V.Visits.out t) l) (sym c.self.view_is) c.requires
+start_all-requires-clause-ready g c κs within = subst (λ l. AllByRecursion (λ t. IsLaneReady (is_out g.V.Visits.out) t) l) (sym c.self.view_is) c.requires

@@ -23,6 +23,6 @@ pub returns : goal.returns
 returns g c not_gone site channels given is count some are =
     let reports = vec_items c.join.result in
     let tasks_are : c.self.inside.crew.tasks ≡ box_tasks (share_of site given.quota) given.inboxes given.rows given.spools = c.self.view_is ∙ is in
-    let view = spools_view g.S.Spool.state g.S.Spool.MayFind g.S.Spool.MayRefuse in
+    let view = spools_view g.S.Spool.state g.S.Spool.MayFind g.S.Spool.MayRefuse g.T.TurnObserver.told in
     let all = subst (λ l. AllZip (BoxOk view) l reports) tasks_are c.join.ensures in
     have_worked view site channels given reports c.take_workers.result.columns c.take_workers.ensures.columns count some are all not_gone

@@ -4,10 +4,10 @@ use Rattle.mail_world.specs.Site.{box_name}
 use Rattle.mail_world.specs.declared.limits.TheConstants.{BOX_NAME_LIMIT}
 use Rattle.mail_head.specs.Texts.{text_of}
 use Rattle.lmtpd_log.specs.Line.{Line, Answered}
-use Rattle.lmtpd_log.specs.Logged.{outcome_word}
 use Rattle.lmtpd_log.specs.Owed.{copy_lines}
 use Rattle.lmtpd_log.specs.Rules.{rules_of}
 use Rattle.lmtpd_log.specs.Texts.{envelope_texts}
+use Rattle.lmtpd_log.specs.Words.{outcome_word}
 use Rattle.lmtpd_log.proofs.setting.LaneSetting.answered.Goals as goal
 
 pub returns-in-Result : goal.returns-in-Result

@@ -2,6 +2,7 @@ use Rattle.std.proofs.Common.{◌≡◌, ◌∙◌, [], ◌∷◌, ℕ, Bool, Li
 use Rattle.std.proofs.Common.{refl, sym, take}
 use Rattle.std.specs.List.{AllByRecursion}
 use Rattle.mail_world.specs.Commands.{is_word}
+use Rattle.lmtp_text.specs.Readings.{line_read}
 use Rattle.lmtpd_log.specs.Letters.{address_in}
 use Rattle.lmtpd_log.specs.Line.{Line, Refused}
 use Rattle.lmtpd_log.specs.Owed.{code_of, refused_lines}
@@ -34,10 +35,10 @@ a_word (b ∷ more) = a_verb (without_white_space (b ∷ more))
 pub returns : goal.returns
 returns c =
     let rules = rules_of c.args.self.now in
-    let line = c.args.line.now in
+    let line = line_read c.args.said in
     let code = code_of rules.site c.args.reply in
     let address = option_map (λ a. text_of a) c.address-address.result in
-    let verb = c.of.ensures ∙ ap (take 5) (c.as_bytes.ensures.value ∙ c.verb_of.ensures) ∙ a_word line in
+    let verb = c.of.ensures ∙ ap (take 5) (c.as_bytes.ensures.value ∙ c.verb_of.ensures ∙ ap verb_word c.line.ensures) ∙ a_word line in
     let named = cond rules.addresses (address_in rules.site.utf8 line) None in
     let owed : List Line = Refused rules.lane (verb_word line) code named ∷ [] in
     ap (λ v. Refused rules.lane v (text_of c.code.result) address ∷ []) verb

@@ -1,0 +1,35 @@
+-- How long the text of a message is in its record.
+use Rattle.std.specs.Prelude.{◌≡◌, ℕ, List, [], ◌∷◌, ◌++◌, length, if◌then◌else◌}
+use Rattle.mail_world.specs.Counts.{counted}
+use Rattle.mail_world.specs.Marks.{marked}
+use Rattle.mail_world.specs.Records.{quoted_text, stored_text}
+use Rattle.mail_world.specs.Site.{Site}
+use Rattle.mail_world.specs.Text.{lf, unix}
+use Rattle.mbox_record.specs.Quoted.{quoted_owed}
+use Rattle.mbox_record.specs.Writing.{bytes_owed}
+use Rattle.mbox_record.specs.declared.lengths.Lengths.{Lengths}
+use Rattle.mbox_record.specs.declared.lengths.LengthCounter.{LengthCounter}
+
+-- what stands in the record of the site after its head: the text and an empty line
+abbrev pub after_head_text : Site → List ℕ → List ℕ
+after_head_text site message = quoted_text (stored_text site message) ++ lf ∷ []
+
+-- how long that is where marks stay, and where they are renamed; a count stays at 2^64 - 1
+abbrev pub lengths_of : List ℕ → Lengths
+lengths_of message = record {
+  plain = counted (length (quoted_text (unix message) ++ lf ∷ []));
+  marked = counted (length (quoted_text (marked (unix message)) ++ lf ∷ []));
+}
+
+-- The count is the length of a text, and what was owed before, whatever the rest is, is that text and what is owed after
+-- it.
+pub record Counts (count : ℕ) (before after : List ℕ → List ℕ) : Type 0 where
+  pub text : List ℕ
+  pub is : count ≡ counted (length text)
+  pub goes : (rest : List ℕ) → text ++ after rest ≡ before rest
+
+-- both lengths are counted as far as this beginning of a message tells
+pub record HasCounted (counter : LengthCounter) (begun : List ℕ) : Type 0 where
+  pub plain : Counts counter.lengths.plain (λ rest. quoted_text (unix (begun ++ rest))) (quoted_owed counter.plain)
+  pub marked : Counts counter.lengths.marked (λ rest. quoted_text (marked (unix (begun ++ rest))))
+      (bytes_owed counter.marked)
