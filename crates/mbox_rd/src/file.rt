@@ -1,6 +1,6 @@
 //! A mailbox in a file, which other programs read and empty too: it takes bytes in turns, and what stands there is
 //! looked at again in each. Nothing of it lasts from one turn to the next but its file and whether the last turn broke.
-ghost use Rattle.std.specs.Prelude.{◌≡◌, ◌≢◌, ◌<◌, ◌≤◌, ℕ, List, [], ◌∷◌, ◌++◌, true, false, length, take, ⊤};
+ghost use Rattle.std.specs.Prelude.{◌≡◌, ◌≢◌, ◌<◌, ◌≤◌, ◌+◌, ℕ, List, [], ◌∷◌, ◌++◌, true, false, length, take, ⊤};
 ghost use Rattle.std.specs.Prelude.{Err, IsErr, IfOk, IfErr, OnOk, OnErr};
 ghost use Rattle.mail_world.specs.Endings.{ending, ending_from};
 ghost use Rattle.mail_world.specs.Failures.{Rises};
@@ -22,11 +22,12 @@ use std::io;
 use std::marker::{Brand, Model};
 use std::time::Clock;
 
-/// The bytes that wait at most before they are written.
-const BUFFER_SIZE: usize = 65_536;
+/// The bytes that wait at most before they are written. Writes but the last end at a multiple of it in the file: so the
+/// system has whole large pages of a large record, which it makes and keeps in less time.
+const BUFFER_SIZE: usize = 262_144;
 
 /// A spool over a file, which other programs read and empty too. In a turn it has both locks that mail programs take,
-/// and what it takes waits in a buffer of 65,536 bytes until that is full or until a sync. A turn in which a call
+/// and what it takes waits in a buffer until that is full, at a multiple of 262,144 bytes of the file, or until a sync. A turn in which a call
 /// failed is broken: each further append and sync in it is a fault, and as it ends the file is cut back to its length
 /// at the lock. The next lock opens what the path names again, and goes on with what stands there. The first lock, and
 /// each after one that couldn't be cut back for good, has the file kept before anything is appended, until it is.
@@ -37,6 +38,8 @@ pub struct FileSpool<F: MailboxFile + Drop, C: Clock + Drop> {
     wait: u32,
     patience: Patience,
     waiting: Vec<u8>,
+    // how many bytes may wait until they are written
+    room: usize,
     began: u64,
     tail: Tail,
     failures: u64,
@@ -71,8 +74,9 @@ impl<F: MailboxFile + Drop, C: Clock + Drop> Model for FileSpool<F, C> {
       log = s.turns.log;
     } };
 
-    ghost invariant = { λ s. (vec_len s.waiting ≤ 65_536)
-        × (65_536 ≤ vec_capacity s.waiting)
+    ghost invariant = { λ s. (vec_len s.waiting ≤ 262_144)
+        × (262_144 ≤ vec_capacity s.waiting)
+        × (s.room ≤ 262_144)
         × IsInOrder F.state (record {
           file = s.file;
           wait = s.wait;
@@ -106,6 +110,7 @@ impl<F: MailboxFile + Drop, C: Clock + Drop> FileSpool<F, C> {
             wait,
             patience: Patience::new(),
             waiting: Vec::with_capacity(alloc, BUFFER_SIZE)?,
+            room: BUFFER_SIZE,
             began: 0,
             tail: Tail::Empty,
             failures: 0,
@@ -204,6 +209,13 @@ impl<F: MailboxFile + Drop, C: Clock + Drop> FileSpool<F, C> {
     }
 }
 
+// How many bytes go to the next multiple of the buffer's size behind that place of a file.
+fn room_at(at: u64) -> usize
+    ensures { (1 ≤ result) × (result ≤ BUFFER_SIZE) }
+{
+    BUFFER_SIZE - (at % BUFFER_SIZE as u64) as usize
+}
+
 fn write_and_keep<F: MailboxFile>(file: &mut F, bytes: &[u8]) -> io::Result<()>
     requires held { IsHeld (F.state file.old) }
     requires settled { (F.state file.old).cut_off ≡ [] }
@@ -269,6 +281,7 @@ impl<F: MailboxFile + Drop, C: Clock + Drop> FileSpool<F, C> {
     {
         self.began = end.at;
         self.tail = end.tail;
+        self.room = room_at(end.at);
         self.in_turn = true;
         self.has_failed = false;
         self.is_unsynced = false;
@@ -288,9 +301,10 @@ impl<F: MailboxFile + Drop, C: Clock + Drop> FileSpool<F, C> {
         Err(in_use)
     }
 
-    // Puts what there is room for into the buffer.
-    fn take(&mut self, piece: &[u8]) -> usize
-        requires room { length self.old.waiting < 65_536 }
+    // Puts as many bytes as may wait besides into the buffer.
+    fn take(&mut self, piece: &[u8], free: usize) -> usize
+        requires free { 0 < free }
+        requires room { length self.old.waiting + free ≤ 262_144 }
         requires some { 0 < length piece.now }
         requires turn { self.old.in_turn ≡ true }
         requires sound { self.old.has_failed ≡ false }
@@ -301,7 +315,7 @@ impl<F: MailboxFile + Drop, C: Clock + Drop> FileSpool<F, C> {
         } }
         ensures ends { KnowsEnd F.state self.new }
     {
-        let n = piece.len().min(BUFFER_SIZE - self.waiting.len());
+        let n = piece.len().min(free);
         let taken = &piece[..n];
         if self.waiting.extend_from_slice(taken).is_err() {
             unreachable!();
@@ -428,11 +442,15 @@ impl<F: MailboxFile + Drop, C: Clock + Drop> Spool for FileSpool<F, C> {
             let fault = self.refusal();
             return Err(self.fail(fault));
         }
-        if self.waiting.len() < BUFFER_SIZE {
-            return Ok(self.take(piece));
+        let free = self.room.saturating_sub(self.waiting.len());
+        if free > 0 {
+            return Ok(self.take(piece, free));
         }
         match self.write_waiting() {
-            Ok(()) => Ok(self.take(piece)),
+            Ok(()) => {
+                self.room = BUFFER_SIZE;
+                Ok(self.take(piece, BUFFER_SIZE))
+            }
             Err(unwritten) => Err(self.fail(unwritten)),
         }
     }
