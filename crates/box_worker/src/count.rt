@@ -1,13 +1,13 @@
 //! A spool that keeps no bytes: it measures what is written to it.
-ghost use Rattle.std.specs.Prelude.{◌≡◌, ◌-◌, ◌+◌, ◌^◌, ◌<◌, ◌≤◌, ◌++◌, ⊤, length, take, min, Ok, Err, IsErr, IfOk, OnOk, OnErr};
+ghost use Rattle.std.specs.Prelude.{◌≡◌, ◌-◌, ◌+◌, ◌^◌, ◌<◌, ◌≤◌, ⊤, length, take, min, Ok, Err, IsErr, IfOk, OnOk, OnErr};
 ghost use Rattle.std.specs.Prelude.{true, false};
 ghost use Rattle.mail_world.specs.Counts.{counted};
 ghost use Rattle.mail_world.specs.Endings.{ending};
 ghost use Rattle.mail_world.specs.Failures.{Rises};
 ghost use Rattle.box_worker.specs.CountSpool.{in_its_turn, state_of};
-ghost use Rattle.mbox_record.specs.Spool.{SpoolTook, SpoolFailed, HasSynced, HasNotSynced, AsksForTurn, EndsTurn};
+ghost use Rattle.mbox_record.specs.Spool.{SpoolTook, SpoolFailed, HasSynced, HasNotSynced, AsksForTurn};
 ghost use Rattle.mbox_record.specs.Tail.{ending_of};
-ghost use Rattle.mbox_record.specs.TurnLog.{begun_at, no_turns, nothing_there, taken_more, made_sure};
+ghost use Rattle.mbox_record.specs.TurnLog.{begun_at, no_turns, nothing_there};
 ghost use Rattle.mbox_record.specs.TurnState.{knows_end};
 
 use mbox_record::{InUse, Spool, SpoolFault, Tail, Turns, tail_after};

@@ -1,12 +1,10 @@
 //! What a lane does with the messages of its conversations.
 
-ghost use Rattle.std.specs.Prelude.{◌≡◌, ◌≤◌, ◌<◌, ◌^◌, ℕ, List, [], length, take, false, option_map};
+ghost use Rattle.std.specs.Prelude.{◌≡◌, ◌≤◌, ◌<◌, ◌^◌, [], length, take, option_map};
 ghost use Rattle.mail_world.specs.declared.limits.TheConstants.{NUMBER_LIMIT};
-ghost use Rattle.mail_world.specs.Lists.{Transaction};
 ghost use Rattle.mail_head.specs.Texts.{text_of};
 ghost use Rattle.mail_post.specs.Gathering.{IsDone};
 ghost use Rattle.mail_post.specs.Offered.{any_gone};
-ghost use Rattle.msg_depot.specs.declared.view.Claim.{Claim};
 ghost use Rattle.lmtp_lane.specs.LaneExchange.{ends_of, sent_as};
 ghost use Rattle.lmtp_lane.specs.LaneAccount.{AgreesWith, HasOffered, IsComing, told_by, Delivers};
 

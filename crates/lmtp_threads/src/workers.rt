@@ -11,7 +11,7 @@ ghost use Rattle.lmtp_threads.specs.Works.{share_of, setting_of, spools_view};
 ghost use Rattle.lmtp_threads.specs.Grid.{lists, IsRoom};
 ghost use Rattle.lmtp_threads.specs.Columns.{no_columns, TakesReport, HoldReports};
 ghost use Rattle.lmtp_threads.specs.Reports.{worker_parts};
-ghost use Rattle.lmtp_threads.specs.Tasks.{box_task, box_tasks, box_before, IsBoxReady, HaveWorkedAll};
+ghost use Rattle.lmtp_threads.specs.Tasks.{box_tasks, box_before, IsBoxReady, HaveWorkedAll};
 
 use crate::columns::Columns;
 use crate::crew::{Crew, Task};
@@ -23,7 +23,7 @@ use lmtp_text::Site;
 use mail_post::{Receiver, SlipSender};
 use mbox_record::Spool;
 use msg_depot::{Depot, DepotName};
-use std::alloc::{AllocError, Global};
+use std::alloc::AllocError;
 use std::marker::Model;
 use std::sync::{Arc, Wait};
 use std::thread::Threads;

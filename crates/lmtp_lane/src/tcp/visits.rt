@@ -82,7 +82,7 @@ where
     L::Stream: Read + Write + ClientStream + Drop,
     E: Curfew,
 {
-    ghost use Rattle.std.specs.Prelude.{false, true, Ok, None, OnErr};
+    ghost use Rattle.std.specs.Prelude.{false, true, Ok, None};
     ghost use Rattle.lmtp_lane.specs.TcpVisits.{TakesClient, is_out};
 
     // The next client, where one is to be had.
