@@ -76,7 +76,6 @@ impl<F: MailboxFile + Drop, C: Clock + Drop> Model for FileSpool<F, C> {
 
     ghost invariant = { λ s. (vec_len s.waiting ≤ 262_144)
         × (262_144 ≤ vec_capacity s.waiting)
-        × (s.room ≤ 262_144)
         × IsInOrder F.state (record {
           file = s.file;
           wait = s.wait;
@@ -90,7 +89,8 @@ impl<F: MailboxFile + Drop, C: Clock + Drop> Model for FileSpool<F, C> {
           failures = s.failures;
           refusals = s.refusals;
           log = s.turns.log;
-        }) };
+        })
+        × (s.room ≤ 262_144) };
 }
 
 impl<F: MailboxFile + Drop, C: Clock + Drop> FileSpool<F, C> {
@@ -173,6 +173,7 @@ impl<F: MailboxFile + Drop, C: Clock + Drop> FileSpool<F, C> {
             Ok(()) => {
                 self.waiting.clear();
                 self.tail = tail;
+                self.room = BUFFER_SIZE;
                 Ok(())
             }
             Err(unwritten) => {
@@ -447,10 +448,7 @@ impl<F: MailboxFile + Drop, C: Clock + Drop> Spool for FileSpool<F, C> {
             return Ok(self.take(piece, free));
         }
         match self.write_waiting() {
-            Ok(()) => {
-                self.room = BUFFER_SIZE;
-                Ok(self.take(piece, BUFFER_SIZE))
-            }
+            Ok(()) => Ok(self.take(piece, BUFFER_SIZE)),
             Err(unwritten) => Err(self.fail(unwritten)),
         }
     }

@@ -19,8 +19,8 @@ returns-then-self-clause-any_moment g c =
     (prefix_appended _ old.waiting) (prefix_appended _ c.args.piece.now)
     (in_turn_at_rest old.began (S old.file) old.waiting)
 
-pub returns-then-len-lt-BUFFER_SIZE-clause-any_moment : goal.returns-then-len-lt-BUFFER_SIZE-clause-any_moment
-returns-then-len-lt-BUFFER_SIZE-clause-any_moment g c =
+pub returns-then-free-gt0-clause-any_moment : goal.returns-then-free-gt0-clause-any_moment
+returns-then-free-gt0-clause-any_moment g c =
     let S = g.F.MailboxFile.state in let order = subst (IsInOrder S) c.self.view_is c.self.invariant.2 in
     let old = c.args.self.now in
     any_moment S old c.take.new.self old.file _ _ order (ap (λ (s : FileSpool _). s.file) c.take.ensures.new)
