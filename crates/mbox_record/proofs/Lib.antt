@@ -12,3 +12,4 @@ pub mod Written
 pub mod Wholes
 pub mod Counted
 pub mod Lengthened
+pub mod Blocks

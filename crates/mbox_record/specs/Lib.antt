@@ -11,3 +11,4 @@ pub mod Quoted
 pub mod Writing
 pub mod Steps
 pub mod Lengths
+pub mod Lines

@@ -11,6 +11,7 @@ mod envelope;
 mod from_line;
 mod head;
 mod lengths;
+mod lines;
 mod memory;
 mod mending;
 mod pending;

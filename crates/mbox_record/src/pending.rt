@@ -126,7 +126,7 @@ fn line_at_start(piece: &[u8]) -> Option<Run>
 
 // A From line begins with `>` or with its word.
 #[inline(always)]
-fn may_begin_from_line(first: u8) -> bool
+pub(crate) fn may_begin_from_line(first: u8) -> bool
     ensures mark { result ≡ false → first ≢ byte ">" }
     ensures letter { result ≡ false → first ≢ byte "F" }
 {

@@ -10,6 +10,7 @@ ghost use Rattle.mbox_record.specs.Steps.{step_text};
 ghost use Rattle.mbox_record.specs.Writing.{Writes, Fails};
 
 use crate::append::{append_all, append_each};
+use crate::lines::plain_lines;
 use crate::pending::{FROM, Pending, Step, long_step, plain_line};
 use crate::spool::{Spool, SpoolFault};
 use std::marker::Model;
@@ -78,7 +79,11 @@ impl QuotedText {
         let mut pending = self.pending;
         let mut rest = piece;
         while !rest.is_empty() {
-            if let Some(run) = plain_line(pending, rest) {
+            if let Some(lines) = plain_lines(pending, rest) {
+                count = count.saturating_add(lines.len as u64);
+                pending = Pending::Inside;
+                rest = &rest[lines.taken..];
+            } else if let Some(run) = plain_line(pending, rest) {
                 count = count.saturating_add(run.len as u64);
                 pending = Pending::Inside;
                 rest = &rest[run.taken..];

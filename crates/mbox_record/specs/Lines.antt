@@ -1,0 +1,31 @@
+-- Lines that come in blocks of bytes, of which none may be a From line.
+use Rattle.std.specs.Prelude.{◌≡◌, ℕ, zero, suc, ◌+◌, ◌<◌, ◌≤◌, Bool, ◌&&◌, ◌||◌, ◌==◌, List, [], ◌∷◌, ◌++◌}
+use Rattle.std.specs.Prelude.{length, drop, if◌then◌else◌}
+use Rattle.std.specs.Str.{byte}
+use Rattle.mail_world.specs.Text.{cr, lf}
+use Rattle.mbox_record.specs.declared.pending.Pending.TheVariants.{Inside}
+use Rattle.mbox_record.specs.Quoted.{Pending, quoted_owed}
+
+-- how many of the first n bytes pass the test with the byte after them
+abbrev pub pairs : (ℕ → ℕ → Bool) → ℕ → List ℕ → ℕ
+pairs test zero text = 0
+pairs test (suc n) [] = 0
+pairs test (suc n) (b ∷ []) = 0
+pairs test (suc n) (b ∷ c ∷ text) = (if test b c then 1 else 0) + pairs test n (c ∷ text)
+
+-- a CR that isn't written
+abbrev pub is_crlf : ℕ → ℕ → Bool
+is_crlf b c = (b == cr) && (c == lf)
+
+-- a line's end before a line that may be a From line
+abbrev pub may_quote : ℕ → ℕ → Bool
+may_quote b c = (b == lf) && ((c == byte ">") || (c == byte "F"))
+
+-- the first `taken` bytes of the piece are written as a text of `len` bytes, and then the writer stands inside a line
+pub record IsWriterLines (before : Pending) (piece : List ℕ) (len taken : ℕ) : Type 0 where
+  pub text : List ℕ
+  pub is : length text ≡ len
+  pub shorter : len ≤ taken
+  pub further : taken < length piece
+  pub goes : (rest : List ℕ) → text ++ quoted_owed Inside (drop taken piece ++ rest)
+      ≡ quoted_owed before (piece ++ rest)
