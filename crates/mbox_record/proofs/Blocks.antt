@@ -17,19 +17,19 @@ use Rattle.mbox_record.proofs.Words.{plain_first}
 
 -- ---- a block as bits
 
-abbrev tests : (ℕ → ℕ → Bool) → ℕ → List ℕ → List Bool
+abbrev pub tests : (ℕ → ℕ → Bool) → ℕ → List ℕ → List Bool
 tests test zero text = []
 tests test (suc n) [] = []
 tests test (suc n) (b ∷ []) = []
 tests test (suc n) (b ∷ c ∷ text) = test b c ∷ tests test n (c ∷ text)
 
-length-tests : (test : ℕ → ℕ → Bool) (n : ℕ) (text : List ℕ) → length (tests test n text) ≤ n
+pub length-tests : (test : ℕ → ℕ → Bool) (n : ℕ) (text : List ℕ) → length (tests test n text) ≤ n
 length-tests test zero text = omega arith
 length-tests test (suc n) [] = omega arith
 length-tests test (suc n) (b ∷ []) = omega arith
 length-tests test (suc n) (b ∷ c ∷ text) = let more = length-tests test n (c ∷ text) in omega (arith, more)
 
-no_ones : count_ones 0 ≡ 0
+pub no_ones : count_ones 0 ≡ 0
 unfolding count_ones
 no_ones = refl
 
@@ -115,12 +115,12 @@ record IsBlock (n : ℕ) (text : List ℕ) : Type 0 where
   is : length written + pairs is_crlf n text ≡ n
   goes : (rest : List ℕ) → written ++ line_rest (unix (drop n text ++ rest)) ≡ line_rest (unix (text ++ rest))
 
-none_by : (t : Bool) (k : ℕ) → (if t then 1 else 0) + k ≡ 0 → (t ≡ false) × (k ≡ 0)
+pub none_by : (t : Bool) (k : ℕ) → (if t then 1 else 0) + k ≡ 0 → (t ≡ false) × (k ≡ 0)
 none_by true k e = absurd (omega arith)
 none_by false k e = (refl, omega (arith, e))
 
 -- after an LF the line's first byte tells that it is no From line
-line_on : (s : Bool) (b c : ℕ) (text : List ℕ) → (b == lf) ≡ s → (s && ((c == 62) || (c == 70))) ≡ false
+pub line_on : (s : Bool) (b c : ℕ) (text : List ℕ) → (b == lf) ≡ s → (s && ((c == 62) || (c == 70))) ≡ false
     → (if s then lf ∷ quoted_text (unix (c ∷ text)) else b ∷ line_rest (unix (c ∷ text)))
     ≡ b ∷ line_rest (unix (c ∷ text))
 line_on true b c text e h =

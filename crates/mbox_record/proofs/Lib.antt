@@ -13,3 +13,4 @@ pub mod Wholes
 pub mod Counted
 pub mod Lengthened
 pub mod Blocks
+pub mod Copies

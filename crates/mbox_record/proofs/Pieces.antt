@@ -4,6 +4,7 @@ use Rattle.std.proofs.lemmas.List.{take_rest}
 use Rattle.mbox_record.specs.Spool.{SpoolState, SpoolTook, SpoolFailed}
 use Rattle.mbox_record.specs.Quoted.{Pending, IsPending, quoted_owed}
 use Rattle.mbox_record.specs.Writing.{Fails}
+use Rattle.mbox_record.proofs.Onward.{Fails-then}
 use Rattle.mbox_record.proofs.Taken.{SpoolTook-then, SpoolFailed-later}
 
 -- the spool took what is sure of the piece up to the rest
@@ -35,3 +36,13 @@ module _ (s t u : SpoolState) (before now next : Pending) (piece rest text : Lis
     failed = SpoolFailed-later s t u x.text text x.taken z;
     sure = λ more. record { rest = quoted_owed next (drop n rest ++ more); whole = sym (further more) };
   }
+
+-- where it then fails within what is owed of the rest
+pub FailsPiece-rest : (s t u : SpoolState) (before now next : Pending) (piece rest : List ℕ) → TakesPiece s t before now piece rest
+    → now ≡ next → Fails t u (λ more. quoted_owed next (rest ++ more)) → Fails s u (λ more. quoted_owed before (piece ++ more))
+FailsPiece-rest s t u before now next piece rest x e y =
+    Fails-then s t u (λ more. quoted_owed before (piece ++ more)) (λ more. quoted_owed next (rest ++ more)) (record {
+      text = x.text;
+      taken = x.taken;
+      goes = λ more. ap (λ (p : Pending). x.text ++ quoted_owed p (rest ++ more)) (sym e) ∙ x.goes more;
+    }) y

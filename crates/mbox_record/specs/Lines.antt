@@ -29,3 +29,20 @@ pub record IsWriterLines (before : Pending) (piece : List ℕ) (len taken : ℕ)
   pub further : taken < length piece
   pub goes : (rest : List ℕ) → text ++ quoted_owed Inside (drop taken piece ++ rest)
       ≡ quoted_owed before (piece ++ rest)
+
+-- the first CR of a block that isn't written stands at n
+pub record IsFirstEnd (text : List ℕ) (n : ℕ) : Type 0 where
+  pub within : n < 64
+  pub none : pairs is_crlf n text ≡ 0
+  pub is : drop n text ≡ cr ∷ lf ∷ drop (n + 2) text
+
+-- a block with a byte after it, and in it no line begins that may be a From line
+pub record HasLines (piece : List ℕ) : Type 0 where
+  pub longer : 64 < length piece
+  pub plain : pairs may_quote 64 piece ≡ 0
+
+-- inside of a line the first `taken` bytes of the piece are written as the text, and then the writer stands inside one
+pub record CopiesLines (piece text : List ℕ) (taken : ℕ) : Type 0 where
+  pub further : taken ≤ length piece
+  pub goes : (rest : List ℕ) → text ++ quoted_owed Inside (drop taken piece ++ rest)
+      ≡ quoted_owed Inside (piece ++ rest)

@@ -7,6 +7,7 @@
 #![tactic(auto)]
 
 mod append;
+mod copying;
 mod envelope;
 mod from_line;
 mod head;

@@ -1,14 +1,16 @@
 //! Lines that are counted by blocks of bytes, where none of them may be a From line.
 ghost use Rattle.std.specs.Prelude.{◌≡◌, ◌+◌, ◌<◌, length, drop, false};
 ghost use Rattle.std.specs.Option.{IfSome};
-ghost use Rattle.mbox_record.specs.Lines.{pairs, is_crlf, may_quote, IsWriterLines};
+ghost use Rattle.std.specs.Int.{w64, trailing_zeros};
+ghost use Rattle.std.specs.Int.RustNames.{count_ones};
+ghost use Rattle.mbox_record.specs.Lines.{pairs, is_crlf, may_quote, IsFirstEnd, IsWriterLines};
 ghost use Rattle.mbox_record.specs.declared.pending.Pending.TheVariants.{Inside};
 
 use crate::pending::{Pending, may_begin_from_line};
 use std::simd::prelude::*;
 
 // The bytes of a block, and each is looked at with the byte after it.
-const BLOCK: usize = 64;
+pub(crate) const BLOCK: usize = 64;
 
 // How many bytes are written in place of the first `taken` ones of a piece.
 #[derive(Clone, Copy, Debug)]
@@ -65,15 +67,26 @@ fn dropped(piece: &[u8], at: usize) -> usize
     requires { at + 64 < length piece.now }
     ensures { result ≡ pairs is_crlf 64 (drop at piece.now) }
 {
+    line_ends(piece, at).count_ones() as usize
+}
+
+// The CRs of the block that have their LF, as bits.
+#[inline(always)]
+pub(crate) fn line_ends(piece: &[u8], at: usize) -> u64
+    requires { at + 64 < length piece.now }
+    ensures ones { count_ones result ≡ pairs is_crlf 64 (drop at piece.now) }
+    ensures none { result ≡ 0 → pairs is_crlf 64 (drop at piece.now) ≡ 0 }
+    ensures first { 0 < result → IsFirstEnd (drop at piece.now) (trailing_zeros w64 result) }
+{
     let here = u8x64::from_slice(&piece[at..]);
     let next = u8x64::from_slice(&piece[at + 1..]);
     let found = here.simd_eq(u8x64::splat(b'\r')) & next.simd_eq(u8x64::splat(b'\n'));
-    found.to_bitmask().count_ones() as usize
+    found.to_bitmask()
 }
 
 // Whether a line that may be a From line begins after an LF of the block.
 #[inline(always)]
-fn has_from_line(piece: &[u8], at: usize) -> bool
+pub(crate) fn has_from_line(piece: &[u8], at: usize) -> bool
     requires { at + 64 < length piece.now }
     ensures { result ≡ false → pairs may_quote 64 (drop at piece.now) ≡ 0 }
 {

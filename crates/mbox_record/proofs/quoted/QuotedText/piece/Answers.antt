@@ -1,14 +1,22 @@
-use Rattle.std.proofs.Common.{take}
+use Rattle.std.proofs.Common.{◌≡◌, rules, take}
 use Rattle.mbox_record.specs.declared.pending.Pending.TheVariants.{Inside}
 use Rattle.mbox_record.specs.Steps.{step_text}
-use Rattle.mbox_record.proofs.Pieces.{TakesPiece-more, FailsPiece-more}
+use Rattle.mbox_record.proofs.Pieces.{TakesPiece-more, FailsPiece-more, FailsPiece-rest}
 use Rattle.mbox_record.proofs.Taken.{OnErr-any}
 use Rattle.mbox_record.proofs.quoted.QuotedText.piece.Goals as goal
+
+pub returns-in_err-taken-clause-err : goal.returns-in_err-taken-clause-err
+returns-in_err-taken-clause-err g c =
+    let inside : c.loop-rest.pending ≡ Inside = search rules in
+    OnErr-any c.from_residual.result (
+    FailsPiece-rest _ _ _ c.args.self c.loop-rest.pending Inside c.args.piece.now c.loop-rest.rest.now
+    c.loop-rest.invariant inside c.in_err-taken.ensures.err
+    )
 
 pub returns-in_err-append_all-clause-err : goal.returns-in_err-append_all-clause-err
 returns-in_err-append_all-clause-err g c =
     let rest = c.loop-rest.rest.now in
-    let run = c.in-Some.run' in OnErr-any c.from_residual.result (
+    let run = c.in-Some.run' in OnErr-any c.from_residual-in_err-append_all.result (
     FailsPiece-more _ _ _ c.args.self c.loop-rest.pending Inside c.args.piece.now rest (take run.len rest) run.taken
     c.loop-rest.invariant c.in-Some.ensures.goes c.in_err-append_all.ensures.err
     )
