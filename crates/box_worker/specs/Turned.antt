@@ -158,8 +158,8 @@ abbrev pub IsFullWhereBroken : Option ℕ → Outcome → Turn → Type 0
 IsFullWhereBroken limit Failed (Had lock unlock) = IsFull limit unlock.bytes
 IsFullWhereBroken limit _ _ = ⊤
 
--- What a worker came to at its spool: each copy that it took has its turn, in the order taken, as the turns say that the
--- spool lists since. What stood at each lock is what the spool may find there, and none was missed but where it may
+-- What a worker came to at its spool: each copy that it took has its turn, in the order taken, as the turns say that
+-- the spool lists since. What stood at each lock is what the spool may find there, and none was missed but where it may
 -- refuse one; the last turn that was had says whether the mailbox is faulty, and those that were missed are counted.
 pub record HasTurned (at : Setting) (manner : Manner) (copies : List Note) (turns : List Told)
     (old new : TurnedMailbox) : Type 0 where

@@ -24,9 +24,9 @@ use std::marker::Brand;
 use std::sync::Wait;
 
 /// Stores the copies that come, one after another, and gives each lane a slip for each of its own, until the channel is
-/// closed or lost. Under a quota a copy whose record would bring the mailbox above it isn't stored, and its
-/// lane is told so. Each copy has a turn at the mailbox, from a lock to an unlock; one whose turn is missed or breaks is
-/// told Failed, and the next has a turn again. The observer is told how each turn ended. It takes no memory.
+/// closed or lost. Under a quota a copy whose record would bring the mailbox above it isn't stored, and its lane is
+/// told so. Each copy has a turn at the mailbox, from a lock to an unlock; one whose turn is missed or breaks is told
+/// Failed, and the next has a turn again. The observer is told how each turn ended. It takes no memory.
 pub fn worker_run<N: DepotName, S: Spool, G: Gate, O: TurnObserver, R: Wait>(
     rt: &R,
     receiver: Receiver<N>,

@@ -71,7 +71,7 @@ pub record HoldsDraft (draft : Option Claim) (size : ℕ) (message : List ℕ) :
   pub long : size ≡ counted (length message)
   pub bytes : IfSome draft (λ claim. claim.bytes ≡ message)
 
--- bytes that fill so many whole rooms
+-- bytes that fill that many whole rooms
 abbrev pub FillRooms : List ℕ → Type 0
 FillRooms bytes = (rooms : ℕ) × (length bytes ≡ rooms * DATA_BUFFER_SIZE)
 

@@ -40,8 +40,8 @@ impl<N: DepotName> Model for CountedDraft<N> {
     ghost invariant = { λ d. HasCounted d.counter d.draft.bytes };
 }
 
-/// The draft of a message, what waits to be put into it, how long the message is so far, and its Message-ID. There is no
-/// draft once room was lacking or the message was too large; the bytes go through the room then, and into nothing.
+/// The draft of a message, what waits to be put into it, how long the message is so far, and its Message-ID. There is
+/// no draft once room was lacking or the message was too large; the bytes go through the room then, and into nothing.
 #[derive(Drop)]
 pub struct Incoming<N: DepotName> {
     pub draft: Option<CountedDraft<N>>,

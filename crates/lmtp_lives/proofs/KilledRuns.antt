@@ -102,7 +102,7 @@ beside inner observer = record { inner = inner; observer = observer }
 abbrev untouched : List Letter → Gap
 untouched letters = record { fates = map (λ l. Untouched) letters; added = [] }
 
--- the turn ended so, and of the replies the client got so many bytes
+-- the turn ended so, and of the replies the client got that many bytes
 module _ (outcome : Outcome) (end : TurnEnd) (lock unlock : Standing) (got : ℕ) where
   abbrev turns : List Told
   turns = record { outcome = outcome; turn = Had lock unlock } ∷ []

@@ -1,5 +1,6 @@
 -- What contracts see of a client over a stream.
-use Rattle.std.specs.Prelude.{◌≡◌, ◌-◌, ◌+◌, ◌<◌, ◌⊎◌, ℕ, true, false, List, [], Result, length, take, Option, None, Some, Ok}
+use Rattle.std.specs.Prelude.{◌≡◌, ◌-◌, ◌+◌, ◌<◌, ◌⊎◌, ℕ, true, false, List, [], Result}
+use Rattle.std.specs.Prelude.{length, take, Option, None, Some, Ok}
 use Rattle.std.specs.Arc.{arc_value}
 use Rattle.std.specs.Duration.{as_nanos}
 use Rattle.std.specs.declared.time.Duration.{Duration}

@@ -1,13 +1,13 @@
 //! What a mailbox's log knows of its mailbox, and which lines a turn owes by that.
 
 ghost use Rattle.std.specs.Prelude.{◌≡◌};
-ghost use Rattle.lmtpd_log.specs.TurnLines.{after_turn, at_first, store_line, use_line};
+ghost use Rattle.lmtpd_log.specs.TurnLines.{after_turn, store_line, use_line};
 
 use crate::mailbox_line::MailboxLine;
 use box_worker::TurnEnd;
 
 /// How a turn finds the mailbox, by the ends of those before it.
-#[derive(Clone, Copy, Debug)]
+#[derive(Clone, Copy, Debug, Default)]
 pub(crate) struct Condition {
     // the last one was missed
     is_in_use: bool,
@@ -16,29 +16,17 @@ pub(crate) struct Condition {
 }
 
 impl Condition {
-    /// Before the first turn.
-    pub(crate) fn at_first() -> Condition
-        ensures { result ≡ at_first }
-    {
-        Condition {
-            is_in_use: false,
-            has_failed: false,
-        }
-    }
-
     /// As the next turn finds it, after one that ended so.
     pub(crate) fn after(self, end: TurnEnd) -> Condition
         ensures { result ≡ after_turn self end }
     {
-        let (is_in_use, has_failed) = match end {
-            TurnEnd::Missed(_) => (true, self.has_failed),
-            TurnEnd::Over => (false, self.has_failed),
-            TurnEnd::Stored => (false, false),
-            TurnEnd::Broke(_) => (false, true),
-        };
         Condition {
-            is_in_use,
-            has_failed,
+            is_in_use: matches!(end, TurnEnd::Missed(_)),
+            has_failed: match end {
+                TurnEnd::Missed(_) | TurnEnd::Over => self.has_failed,
+                TurnEnd::Stored => false,
+                TurnEnd::Broke(_) => true,
+            },
         }
     }
 

@@ -1,9 +1,9 @@
-//! What is logged of a server: each copy that was answered, each command that was refused, each conversation that ended,
-//! each mailbox that failed or is in use.
+//! What is logged of a server: each copy that was answered, each command that was refused, each conversation that
+//! ended, each mailbox that failed or is in use.
 //!
-//! Its logs are observers: a `LineLog` sees the conversations of a lane, a `MailboxLog` the turns at a mailbox, and both
-//! show lines, as the crate `log` does. They know of clients and files what they are told, and nothing of the program's
-//! words.
+//! Its logs are observers: a `LineLog` sees the conversations of a lane, a `MailboxLog` the turns at a mailbox, and
+//! both show lines, as the crate `log` does. They know of clients and files what they are told, and nothing of the
+//! program's words.
 #![tactic(auto)]
 
 mod addresses;

@@ -37,7 +37,7 @@ impl<E: MailboxSink> MailboxLog<E> {
         MailboxLog {
             sink,
             name,
-            condition: Condition::at_first(),
+            condition: Condition::default(),
             history: History::new(),
         }
     }

@@ -40,7 +40,7 @@ wrong_place suffix _ names = length names
 abbrev pub place_in : SiteWords → Fault → ℕ
 place_in words f = wrong_place words.mailbox_suffix.now f (texts words.boxes.items)
 
--- a place among so many names, where it is one
+-- a place among that many names, where it is one
 abbrev pub IsFoundAt : ℕ → ℕ → Option ℕ → Type 0
 IsFoundAt place count None = count ≤ place
 IsFoundAt place count (Some found) = (found ≡ place) × (found < count)

@@ -30,7 +30,8 @@ pub record FileState : Type 0 where
   pub refusals : ℕ
   -- how often the lock file couldn't be removed
   pub unremoved : ℕ
-  -- what a crash might have left: while each call of this holder went on that wrote, kept or cut, and until its next one
+  -- what a crash might have left: while each call of this holder went on that wrote, kept or cut, and until its next
+  -- one
   pub moments : List Moment
   -- how often a write, a keep or a cut failed
   pub faults : ℕ

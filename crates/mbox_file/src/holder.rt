@@ -38,7 +38,7 @@ impl Holder {
     }
 }
 
-/// Whether a lock file of that holder and age is left behind, on a host that was booted so many seconds ago. What is
+/// Whether a lock file of that holder and age is left behind, on a host that was booted that many seconds ago. What is
 /// older than that no process has that is there now.
 pub(crate) fn is_left_behind(holder: Holder, age: u64, since_boot: u64) -> bool
     ensures { result ≡ is_left holder age since_boot }

@@ -27,7 +27,7 @@ pub(crate) enum Step<'a> {
     /// One in memory has these bytes, all of them kept.
     Holds(&'a [u8]),
     Wrote(&'a [u8]),
-    /// A write of these bytes failed after so many.
+    /// A write of these bytes failed after that many.
     WroteInPart(&'a [u8], usize),
     Kept,
     NotKept,

@@ -90,8 +90,8 @@ pub record IsInOrder {F : Type 0} (state : F → FileState) (spool : FileSpool F
   pub ends : spool.in_turn ≡ true → spool.has_failed ≡ false → KnowsEnd state spool
   pub settled : spool.is_unsettled ≡ false → (state spool.file).cut_off ≡ []
 
--- Just opened: nothing waits, nothing failed, and it is in no turn. What was cut off before, by another process too, may
--- not be kept so.
+-- Just opened: nothing waits, nothing failed, and it is in no turn. What was cut off before, by another process too,
+-- may not be kept so.
 pub record IsOpened {F : Type 0} (spool : FileSpool F) : Type 0 where
   pub empty : spool.waiting ≡ []
   pub sound : spool.has_failed ≡ false

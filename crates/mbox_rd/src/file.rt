@@ -27,10 +27,11 @@ use std::time::Clock;
 const BUFFER_SIZE: usize = 262_144;
 
 /// A spool over a file, which other programs read and empty too. In a turn it has both locks that mail programs take,
-/// and what it takes waits in a buffer until that is full, at a multiple of 262,144 bytes of the file, or until a sync. A turn in which a call
-/// failed is broken: each further append and sync in it is a fault, and as it ends the file is cut back to its length
-/// at the lock. The next lock opens what the path names again, and goes on with what stands there. The first lock, and
-/// each after one that couldn't be cut back for good, has the file kept before anything is appended, until it is.
+/// and what it takes waits in a buffer until that is full, at a multiple of 262,144 bytes of the file, or until a sync.
+/// A turn in which a call failed is broken: each further append and sync in it is a fault, and as it ends the file is
+/// cut back to its length at the lock. The next lock opens what the path names again, and goes on with what stands
+/// there. The first lock, and each after one that couldn't be cut back for good, has the file kept before anything is
+/// appended, until it is.
 #[derive(Drop)]
 pub struct FileSpool<F: MailboxFile + Drop, C: Clock + Drop> {
     file: F,
@@ -96,9 +97,9 @@ impl<F: MailboxFile + Drop, C: Clock + Drop> Model for FileSpool<F, C> {
 impl<F: MailboxFile + Drop, C: Clock + Drop> FileSpool<F, C> {
     ghost use Rattle.mbox_rd.specs.FileSpool.{IsOpened};
 
-    /// Over a file with neither lock held. Within a minute locks wait that many seconds for other programs in all, 3,600
-    /// at most; 0 is one try each. Its first turn has the file kept before anything is appended, since a process that
-    /// was killed may have cut it and not have had that kept. From here on it takes no memory.
+    /// Over a file with neither lock held. Within a minute locks wait that many seconds for other programs in all,
+    /// 3,600 at most; 0 is one try each. Its first turn has the file kept before anything is appended, since a process
+    /// that was killed may have cut it and not have had that kept. From here on it takes no memory.
     pub fn new(alloc: Global, file: F, clock: C, wait: u32) -> Result<FileSpool<F, C>, AllocError>
         ensures opened { IfOk result IsOpened }
         ensures file { IfOk result (λ spool. spool.file ≡ file) }

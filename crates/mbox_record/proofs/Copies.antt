@@ -1,92 +1,87 @@
--- Lines that are copied by blocks, up to a CR that isn't written.
-use Rattle.std.proofs.Common.{◌≡◌, ℕ, zero, suc, ◌+◌, ◌%◌, ◌^◌, ◌<◌, ◌≤◌, arith, Bool, true, false, not}
-use Rattle.std.proofs.Common.{◌==◌, List, [], ◌∷◌, ◌++◌, map}
-use Rattle.std.proofs.Common.{length, take, drop, refl, sym, ap, ap₂, ◌∙◌, append_assoc, subst}
-use Rattle.std.specs.List.{prefix_len}
-use Rattle.std.specs.Int.{w64, trailing_zeros}
-use Rattle.std.specs.Simd.Lanes.{mask_l}
-use Rattle.std.proofs.lemmas.Bool.{and_parts, eqb-true}
-use Rattle.std.proofs.lemmas.List.{length-drop, drop-drop, map-id, take-take, length-take}
-use Rattle.std.proofs.lemmas.Nat.Bits.{bit_at-trailing_zeros}
-use Rattle.std.proofs.lemmas.Simd.{mask_l-mod, trailing_mask_l}
+-- Lines that are taken by blocks, up to one that may be a From line.
+use Rattle.std.proofs.Common.{◌≡◌, ◌≢◌, ℕ, zero, suc, ◌+◌, ◌<◌, ◌≤◌, arith, Bool, true, false, ◌&&◌, ◌==◌}
+use Rattle.std.proofs.Common.{List, [], ◌∷◌, ◌++◌, length, take, drop, get_or, refl, sym, ap, ap₂, ◌∙◌, append_assoc}
+use Rattle.std.proofs.Common.{subst, true≢false}
+use Rattle.std.specs.Prelude.{if◌then◌else◌}
+use Rattle.std.proofs.lemmas.Bool.{and_right, or_parts, eqb-true, eqb-false, false_from_ne_true}
+use Rattle.std.proofs.lemmas.List.{length-append, length-drop, drop-drop, drop_more, get_or-drop, take-take, length-take}
 use Rattle.std.proofs.lemmas.Slice.{take-put_mid}
 use Rattle.std.proofs.Math.Seq.{take-append-add}
 use borrow.Rule.Slice.PartMut.{put_mid}
 use Rattle.mail_world.specs.Text.{cr, lf, unix}
-use Rattle.mbox_record.specs.Lines.{pairs, is_crlf, may_quote, IsFirstEnd, CopiesLines}
+use Rattle.mail_world.specs.Records.{quoted_text}
+use Rattle.mbox_record.specs.declared.pending.Pending.TheVariants.{Inside}
+use Rattle.mbox_record.specs.Lines.{pairs, ends_line, may_begin, may_quote, IsFirstEnd, IsWriterLines, CopiesLines}
 use Rattle.mbox_record.specs.Quoted.{line_rest}
-use Rattle.mbox_record.proofs.Blocks.{tests, length-tests, none_by, line_on}
+use Rattle.mbox_record.proofs.Words.{plain_first}
 
--- ---- the first CR that isn't written
+-- a CR that isn't written
+abbrev is_crlf : ℕ → ℕ → Bool
+is_crlf b c = (b == cr) && (c == lf)
 
--- the bytes before the first that passes
-abbrev unset : List Bool → ℕ
-unset bits = prefix_len (λ b. not b) bits
+none_by : (t : Bool) (k : ℕ) → (if t then 1 else 0) + k ≡ 0 → (t ≡ false) × (k ≡ 0)
+none_by true k e = absurd (omega arith)
+none_by false k e = (refl, omega (arith, e))
 
-record StandsFirst (text : List ℕ) (n : ℕ) : Type 0 where
-  none : pairs is_crlf n text ≡ 0
-  is : drop n text ≡ cr ∷ lf ∷ drop (n + 2) text
+-- ---- where no line ends
 
-later : (b c k : ℕ) (text : List ℕ) → is_crlf b c ≡ false → StandsFirst (c ∷ text) k → StandsFirst (b ∷ c ∷ text) (suc k)
-later b c k text e x =
-    let none = x.none in
-    let two : suc (k + 2) ≡ suc k + 2 = omega arith in record {
-      none = rw e (omega (arith, none));
-      is = x.is ∙ ap (λ (j : ℕ). cr ∷ lf ∷ drop j (b ∷ c ∷ text)) two;
-    }
+no_crlf : (n : ℕ) (text : List ℕ) → pairs ends_line n text ≡ 0 → pairs is_crlf n text ≡ 0
+no_crlf zero text e = refl
+no_crlf (suc n) [] e = refl
+no_crlf (suc n) (b ∷ []) e = refl
+no_crlf (suc n) (b ∷ c ∷ text) e =
+    let parts = none_by (ends_line b c) (pairs ends_line n (c ∷ text)) e in
+    let more = no_crlf n (c ∷ text) parts.1 in
+    rw (and_right (b == cr) (c == lf) parts.0) (omega (arith, more))
 
-first_by : (t : Bool) (b c n : ℕ) (text : List ℕ) → is_crlf b c ≡ t
-    → (unset (tests is_crlf n (c ∷ text)) < n → StandsFirst (c ∷ text) (unset (tests is_crlf n (c ∷ text))))
-    → unset (t ∷ tests is_crlf n (c ∷ text)) < suc n
-    → StandsFirst (b ∷ c ∷ text) (unset (t ∷ tests is_crlf n (c ∷ text)))
-first_by true b c n text e more h =
-    let parts = and_parts (b == cr) (c == lf) e in record {
-      none = refl;
-      is = ap₂ (λ (x y : ℕ). x ∷ y ∷ text) (eqb-true b cr parts.0) (eqb-true c lf parts.1);
-    }
-first_by false b c n text e more h =
-    let k = unset (tests is_crlf n (c ∷ text)) in
-    let one : suc k ≡ 1 + k = omega arith in
-    let P : ℕ → Type 0 = λ j. StandsFirst (b ∷ c ∷ text) j in
-    subst P one (later b c k text e (more (omega (arith, h))))
+within_line : (c : ℕ) (text : List ℕ) → (c == lf) ≡ false → pairs may_quote 1 (c ∷ text) ≡ 0
+within_line c [] e = refl
+within_line c (d ∷ text) e = rw e refl
 
-first : (n : ℕ) (text : List ℕ) → n < length text → unset (tests is_crlf n text) < n
-    → StandsFirst text (unset (tests is_crlf n text))
-first zero text h less = absurd (omega (arith, less))
-first (suc n) [] h less = absurd (omega arith)
-first (suc n) (b ∷ []) h less = absurd (omega arith)
-first (suc n) (b ∷ c ∷ text) h less =
-    first_by (is_crlf b c) b c n text refl (first n (c ∷ text) (omega arith)) less
+-- none begins that may be a From line
+none_begins : (n : ℕ) (text : List ℕ) → pairs may_quote 1 text ≡ 0 → pairs ends_line n text ≡ 0
+    → pairs may_quote n text ≡ 0
+none_begins zero text q e = refl
+none_begins (suc n) [] q e = refl
+none_begins (suc n) (b ∷ []) q e = refl
+none_begins (suc n) (b ∷ c ∷ text) q e =
+    let parts = none_by (ends_line b c) (pairs ends_line n (c ∷ text)) e in
+    let plain = none_by (may_quote b c) 0 q in
+    let more = none_begins n (c ∷ text) (within_line c text parts.0) parts.1 in
+    rw plain.0 (omega (arith, more))
 
-pub first_end : (text : List ℕ) (bits : List Bool) → 64 < length text → bits ≡ tests is_crlf 64 text
-    → 0 < mask_l bits % 2 ^ 64 → IsFirstEnd text (trailing_zeros w64 (mask_l bits % 2 ^ 64))
-first_end text bits long e some =
-    let marks : List Bool = tests is_crlf 64 text in
-    let few = length-tests is_crlf 64 text in
-    let same : mask_l bits % 2 ^ 64 ≡ mask_l marks =
-    ap (λ (l : List Bool). mask_l l % 2 ^ 64) e ∙ mask_l-mod marks 64 few in
-    let mapped = map-id marks in
-    let set : 0 < mask_l (map (λ (b : Bool). b) marks) = rw mapped (omega (arith, same, some)) in
-    let at : trailing_zeros w64 (mask_l bits % 2 ^ 64) ≡ unset marks =
-    ap (trailing_zeros w64) (same ∙ ap mask_l (sym mapped))
-    ∙ trailing_mask_l (λ (b : Bool). b) 64 marks few set in
-    let place = bit_at-trailing_zeros w64 (mask_l bits % 2 ^ 64) some (omega arith) in
-    let within : unset marks < 64 = omega (arith, place.0, at) in
-    let x = first 64 text long within in
-    let P : ℕ → Type 0 = λ n. IsFirstEnd text n in
-    subst P (sym at) (record { within = within; none = x.none; is = x.is })
+none_at_end : (n : ℕ) (text : List ℕ) → n < length text → pairs may_quote 1 text ≡ 0 → pairs ends_line n text ≡ 0
+    → pairs may_quote 1 (drop n text) ≡ 0
+none_at_end zero text h q e = q
+none_at_end (suc n) [] h q e = absurd (omega arith)
+none_at_end (suc n) (b ∷ []) h q e = absurd (omega arith)
+none_at_end (suc n) (b ∷ c ∷ text) h q e =
+    let parts = none_by (ends_line b c) (pairs ends_line n (c ∷ text)) e in
+    none_at_end n (c ∷ text) (omega arith) (within_line c text parts.0) parts.1
 
--- ---- a block as it is copied
+-- one pair more
+and_last : (test : ℕ → ℕ → Bool) (n : ℕ) (text : List ℕ) (b c : ℕ) (more : List ℕ) → drop n text ≡ b ∷ c ∷ more
+    → pairs test n text ≡ 0 → test b c ≡ false → pairs test (suc n) text ≡ 0
+and_last test zero text b c more is e h = rw is (rw h refl)
+and_last test (suc n) [] b c more is e h = refl
+and_last test (suc n) (x ∷ []) b c more is e h = refl
+and_last test (suc n) (x ∷ y ∷ text) b c more is e h =
+    let parts = none_by (test x y) (pairs test n (y ∷ text)) e in
+    let on = and_last test n (y ∷ text) b c more is parts.1 h in
+    rw parts.0 (omega (arith, on))
 
-pub fewer : (test : ℕ → ℕ → Bool) (n m : ℕ) (text : List ℕ) → n ≤ m → pairs test m text ≡ 0 → pairs test n text ≡ 0
-fewer test zero m text le e = refl
-fewer test (suc n) zero text le e = absurd (omega arith)
-fewer test (suc n) (suc m) [] le e = refl
-fewer test (suc n) (suc m) (b ∷ []) le e = refl
-fewer test (suc n) (suc m) (b ∷ c ∷ text) le e =
-    let parts = none_by (test b c) (pairs test m (c ∷ text)) e in
-    let more = fewer test n m (c ∷ text) (omega (arith, le)) parts.1 in
-    rw parts.0 (omega (arith, more))
+-- ---- what is written
+
+-- after an LF the line's first byte tells that it is no From line
+line_on : (s : Bool) (b c : ℕ) (text : List ℕ) → (b == lf) ≡ s → (s && may_begin c) ≡ false
+    → (if s then lf ∷ quoted_text (unix (c ∷ text)) else b ∷ line_rest (unix (c ∷ text)))
+    ≡ b ∷ line_rest (unix (c ∷ text))
+line_on true b c text e h =
+    let parts = or_parts (c == 62) (c == 70) h in
+    let other : (70 == c) ≡ false = false_from_ne_true (70 == c)
+    (λ t. true≢false (ap (λ (k : ℕ). k == 70) (eqb-true 70 c t) ∙ parts.1)) in
+    ap₂ (λ (k : ℕ) (l : List ℕ). k ∷ l) (sym (eqb-true b lf e)) (sym (plain_first c text parts.0 other))
+line_on false b c text e h = refl
 
 -- the first n bytes as they are
 same_bytes : (n : ℕ) (text : List ℕ) → n < length text → pairs may_quote n text ≡ 0 → pairs is_crlf n text ≡ 0
@@ -100,21 +95,115 @@ same_bytes (suc n) (b ∷ c ∷ text) h q e rest =
     let more = same_bytes n (c ∷ text) (omega arith) plain.1 kept.1 rest in
     rw kept.0 (ap (λ (l : List ℕ). b ∷ l) more ∙ sym (line_on (b == lf) b c (text ++ rest) refl plain.0))
 
-pub whole_block : (text : List ℕ) → 64 < length text → pairs may_quote 64 text ≡ 0 → pairs is_crlf 64 text ≡ 0
-    → CopiesLines text (take 64 text) 64
-whole_block text long q e = record { further = omega (arith, long); goes = same_bytes 64 text long q e }
+pub may_not : (b : ℕ) → may_begin b ≡ false → (b ≢ 62) × (b ≢ 70)
+may_not b e =
+    let parts = or_parts (b == 62) (b == 70) e in
+    (eqb-false b 62 parts.0, eqb-false b 70 parts.1)
 
--- up to a CR, which isn't written
-up_to_end : (n : ℕ) (text : List ℕ) → 64 < length text → pairs may_quote 64 text ≡ 0 → IsFirstEnd text n
-    → CopiesLines text (take n text) (n + 1)
-up_to_end n text long q x =
-    let within = x.within in
-    let next : drop (n + 1) text ≡ lf ∷ drop (n + 2) text = sym (drop-drop 1 n text) ∙ ap (drop 1) x.is in record {
-      further = omega (arith, long, within);
-      goes = λ rest.
-          ap (λ (l : List ℕ). take n text ++ line_rest (unix (l ++ rest))) next
-          ∙ ap (λ (l : List ℕ). take n text ++ line_rest (unix (l ++ rest))) (sym x.is)
-          ∙ same_bytes n text (omega (arith, long, within)) (fewer may_quote n 64 text (omega (arith, within)) q) x.none rest;
+-- ---- the first end of a line
+
+module _ (n : ℕ) (text : List ℕ) (long : 65 < length text) (x : IsFirstEnd text n) where
+  here : (b : ℕ) → get_or text n 0 ≡ b → drop n text ≡ b ∷ lf ∷ drop (n + 2) text
+  here b is =
+      let within = x.within in
+      drop_more text n 0 (omega (arith, long, within)) ∙ ap₂ (λ (c : ℕ) (l : List ℕ). c ∷ l) is x.is
+
+  -- its LF, and what is after that
+  at_end : drop (n + 1) text ≡ lf ∷ get_or text (n + 2) 0 ∷ drop (n + 3) text
+  at_end =
+      let within = x.within in
+      let three : n + 2 + 1 ≡ n + 3 = omega arith in
+      x.is ∙ ap (λ (l : List ℕ). lf ∷ l)
+      (drop_more text (n + 2) 0 (omega (arith, long, within))
+      ∙ ap (λ (j : ℕ). get_or text (n + 2) 0 ∷ drop j text) three)
+
+  pub end_is_plain : may_begin (get_or text (n + 2) 0) ≡ false → pairs may_quote 1 (drop (n + 1) text) ≡ 0
+  end_is_plain e = rw at_end (rw e refl)
+
+pub two_on : (piece : List ℕ) (at n : ℕ) → get_or (drop at piece) (n + 2) 0 ≡ get_or piece (at + n + 2) 0
+two_on piece at n =
+    let sum : at + (n + 2) ≡ at + n + 2 = omega arith in
+    get_or-drop at piece (n + 2) 0 ∙ ap (λ (k : ℕ). get_or piece k 0) sum
+
+quote_seen : (m : ℕ) (text : List ℕ) (c : ℕ) (more : List ℕ) → drop 1 text ≡ lf ∷ c ∷ more → may_begin c ≡ true
+    → pairs may_quote (suc (suc m)) text ≡ 0 → ⊥
+quote_seen m [] c more is e h = absurd (let size = ap length is in omega (arith, size))
+quote_seen m (a ∷ text) c more is e h =
+    let all : pairs may_quote (suc (suc m)) (a ∷ lf ∷ c ∷ more) ≡ 0 =
+    ap (λ (l : List ℕ). pairs may_quote (suc (suc m)) (a ∷ l)) (sym is) ∙ h in
+    let parts = none_by (may_quote a lf) (pairs may_quote (suc m) (lf ∷ c ∷ more)) all in
+    let next = none_by (may_begin c) (pairs may_quote m (c ∷ more)) parts.1 in
+    true≢false (sym e ∙ next.0)
+
+-- where a block has no line that may be a From line, one after its first LF is past it, or there is a byte before
+pub some_before : (n : ℕ) (text : List ℕ) → 65 < length text → IsFirstEnd text n
+    → may_begin (get_or text (n + 2) 0) ≡ true → pairs may_quote 64 text ≡ 0 → 0 < n
+some_before zero text long x e none = absurd (quote_seen 62 text _ _ (at_end zero text long x) e none)
+some_before (suc n) text long x e none = omega arith
+
+-- from inside of a line, whose LF doesn't stand at once before what may be a From line
+module _ (n : ℕ) (text : List ℕ) (q : pairs may_quote 1 text ≡ 0) where
+  pub same_up_to : n < length text → pairs ends_line n text ≡ 0 → CopiesLines text (take n text) n
+  same_up_to long e = record {
+    further = omega (arith, long);
+    goes = same_bytes n text long (none_begins n text q e) (no_crlf n text e);
+  }
+
+  pub plain_up_to : n < length text → pairs ends_line n text ≡ 0 → pairs may_quote 1 (drop n text) ≡ 0
+  plain_up_to long e = none_at_end n text long q e
+
+  module _ (long : 65 < length text) (x : IsFirstEnd text n) where
+    -- up to a CR, which isn't written
+    pub up_to_cr : get_or text n 0 ≡ cr → CopiesLines text (take n text) (n + 1)
+    up_to_cr is =
+        let within = x.within in
+        let back = same_bytes n text (omega (arith, long, within)) (none_begins n text q x.none)
+        (no_crlf n text x.none) in record {
+          further = omega (arith, long, within);
+          goes = λ rest.
+              ap (λ (l : List ℕ). take n text ++ line_rest (unix (l ++ rest))) x.is
+              ∙ ap (λ (l : List ℕ). take n text ++ line_rest (unix (l ++ rest))) (sym (here n text long x cr is))
+              ∙ back rest;
+        }
+
+    -- up to an LF without a CR
+    pub up_to_lf : (get_or text n 0 == cr) ≡ false → CopiesLines text (take (n + 1) text) (n + 1)
+    up_to_lf other =
+        let within = x.within in
+        let b = get_or text n 0 in
+        let is = here n text long x b refl in
+        let one : suc n ≡ n + 1 = omega arith in
+        let P : ℕ → Type 0 = λ k. CopiesLines text (take k text) k in
+        let plain = and_last may_quote n text b lf _ is (none_begins n text q x.none)
+        (and_right (b == lf) (may_begin lf) refl) in
+        let bare = and_last is_crlf n text b lf _ is (no_crlf n text x.none) (ap (λ (t : Bool). t && true) other) in
+        subst P one (record {
+          further = omega (arith, long, within);
+          goes = same_bytes (suc n) text (omega (arith, long, within)) plain bare;
+        })
+
+-- ---- one block more
+
+pub no_lines : (piece : List ℕ) → 0 < length piece → IsWriterLines Inside piece 0 0
+no_lines piece some = record { text = []; is = refl; shorter = omega arith; further = some; goes = λ rest. refl }
+
+pub one_more : (piece : List ℕ) (len taken n size : ℕ) → IsWriterLines Inside piece len taken
+    → CopiesLines (drop taken piece) (take n (drop taken piece)) size → n ≤ size → taken + size < length piece
+    → IsWriterLines Inside piece (len + n) (taken + size)
+one_more piece len taken n size x y few within =
+    let rest : List ℕ = drop taken piece in
+    let long = length-drop taken piece in
+    let is = x.is in
+    let shorter = x.shorter in
+    let part = length-take n rest in record {
+      text = x.text ++ take n rest;
+      is = omega (arith, is, long, few, within, part, length-append x.text (take n rest));
+      shorter = omega (arith, shorter, few);
+      further = within;
+      goes = λ more. append_assoc x.text (take n rest) _
+          ∙ ap (λ (l : List ℕ). x.text ++ l) (
+          ap (λ (l : List ℕ). take n rest ++ line_rest (unix (l ++ more))) (sym (drop-drop size taken piece))
+          ∙ y.goes more) ∙ x.goes more;
     }
 
 then_copied : (piece text more : List ℕ) (taken n : ℕ) → CopiesLines piece text taken
@@ -132,7 +221,7 @@ then_copied piece text more taken n x y =
 
 -- ---- what the room then has
 
--- the block as it lies behind what was made, and n bytes of it
+-- the block as it lies after what was made, and n bytes of it
 part_of : (made n k : ℕ) (room block copy : List ℕ) → made ≤ length room → n ≤ length block → copy ≡ block
     → take (made + n) (put_mid made k room copy) ≡ take made room ++ take n block
 part_of made n k room block copy fits few is =
@@ -144,34 +233,18 @@ part_of made n k room block copy fits few is =
     ∙ take-append-add (take made room) copy n
     ∙ ap (λ (l : List ℕ). take made room ++ take n l) is
 
-module _ (piece room copy : List ℕ) (made taken k m : ℕ) (fits : made + 64 ≤ length room)
-    (long : taken + 64 < length piece) (q : pairs may_quote 64 (drop taken piece) ≡ 0) (size_is : m ≡ 64)
-    (is : copy ≡ take m (drop taken piece)) (x : CopiesLines piece (take made room) taken) where
-  copied_part : (n size : ℕ) → n ≤ 64 → CopiesLines (drop taken piece) (take n (drop taken piece)) size
-      → CopiesLines piece (take (made + n) (put_mid made k room copy)) (taken + size)
-  copied_part n size few y =
-      let rest : List ℕ = drop taken piece in
-      let len = length-drop taken piece in
-      let block = length-take 64 rest in
-      let e : take (made + n) (put_mid made k room copy) ≡ take made room ++ take n rest =
-      part_of made n k room (take 64 rest) copy (omega (arith, fits)) (omega (arith, len, block, few, long))
-      (is ∙ ap (λ (j : ℕ). take j rest) size_is)
-      ∙ ap (λ (l : List ℕ). take made room ++ l) (take-take n 64 rest few) in
-      let P : List ℕ → Type 0 = λ l. CopiesLines piece l (taken + size) in
-      subst P (sym e) (then_copied piece (take made room) (take n rest) taken size x y)
-
-  pub block_copied : pairs is_crlf 64 (drop taken piece) ≡ 0
-      → CopiesLines piece (take (made + 64) (put_mid made k room copy)) (taken + 64)
-  block_copied e =
-      let len = length-drop taken piece in
-      copied_part 64 64 (omega arith) (whole_block (drop taken piece) (omega (arith, len, long)) q e)
-
-  pub line_copied : (n : ℕ) → IsFirstEnd (drop taken piece) n
-      → CopiesLines piece (take (made + n) (put_mid made k room copy)) (taken + n + 1)
-  line_copied n y =
-      let len = length-drop taken piece in
-      let within = y.within in
-      let sum : taken + (n + 1) ≡ taken + n + 1 = omega arith in
-      let P : ℕ → Type 0 = λ j. CopiesLines piece (take (made + n) (put_mid made k room copy)) j in
-      subst P sum
-      (copied_part n (n + 1) (omega (arith, within)) (up_to_end n (drop taken piece) (omega (arith, len, long)) q y))
+pub block_copied : (piece room copy : List ℕ) (made taken k m n size : ℕ) → made + 64 ≤ length room
+    → taken + 65 < length piece → m ≡ 64 → copy ≡ take m (drop taken piece) → n ≤ 64
+    → CopiesLines piece (take made room) taken
+    → CopiesLines (drop taken piece) (take n (drop taken piece)) size
+    → CopiesLines piece (take (made + n) (put_mid made k room copy)) (taken + size)
+block_copied piece room copy made taken k m n size fits long size_is is few x y =
+    let rest : List ℕ = drop taken piece in
+    let len = length-drop taken piece in
+    let block = length-take 64 rest in
+    let e : take (made + n) (put_mid made k room copy) ≡ take made room ++ take n rest =
+    part_of made n k room (take 64 rest) copy (omega (arith, fits)) (omega (arith, len, block, few, long))
+    (is ∙ ap (λ (j : ℕ). take j rest) size_is)
+    ∙ ap (λ (l : List ℕ). take made room ++ l) (take-take n 64 rest few) in
+    let P : List ℕ → Type 0 = λ l. CopiesLines piece l (taken + size) in
+    subst P (sym e) (then_copied piece (take made room) (take n rest) taken size x y)

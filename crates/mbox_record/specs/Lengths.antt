@@ -1,5 +1,5 @@
 -- How long the text of a message is in its record.
-use Rattle.std.specs.Prelude.{◌≡◌, ℕ, List, [], ◌∷◌, ◌++◌, length, if◌then◌else◌}
+use Rattle.std.specs.Prelude.{◌≡◌, ℕ, List, [], ◌∷◌, ◌++◌, length}
 use Rattle.mail_world.specs.Counts.{counted}
 use Rattle.mail_world.specs.Marks.{marked}
 use Rattle.mail_world.specs.Records.{quoted_text, stored_text}
@@ -21,8 +21,8 @@ lengths_of message = record {
   marked = counted (length (quoted_text (marked (unix message)) ++ lf ∷ []));
 }
 
--- The count is the length of a text, and what was owed before, whatever the rest is, is that text and what is owed after
--- it.
+-- The count is the length of a text, and what was owed before, whatever the rest is, is that text and what is owed
+-- after it.
 pub record Counts (count : ℕ) (before after : List ℕ → List ℕ) : Type 0 where
   pub text : List ℕ
   pub is : count ≡ counted (length text)

@@ -2,7 +2,7 @@
 ghost use Rattle.std.specs.Prelude.{◌≡◌, ◌+◌, ◌<◌, ◌≤◌, length, take, drop, true};
 ghost use Rattle.mbox_record.specs.Lines.{pairs, may_quote, HasLines, CopiesLines};
 
-use crate::lines::{BLOCK, has_from_line, line_ends};
+use crate::lines::{BLOCK, has_from_line, next_lines};
 
 // The bytes of a text that were copied, and in place of how many of the first ones of a piece.
 #[derive(Clone, Copy, Debug)]
@@ -11,8 +11,8 @@ pub(crate) struct Copied {
     pub(crate) taken: usize,
 }
 
-// Copies from inside of a line, up to the first block that may have a From line, and leaves a byte. Whole blocks are put
-// into the room, so that some bytes behind the text change too.
+// Copies from inside of a line, up to one that may be a From line, and leaves some bytes. Whole blocks are put into the
+// room, so that some bytes after the text change too.
 pub(crate) fn copy_lines(piece: &[u8], room: &mut [u8]) -> Copied
     requires lines { HasLines piece.now }
     requires room { 64 ≤ length room.old }
@@ -22,40 +22,37 @@ pub(crate) fn copy_lines(piece: &[u8], room: &mut [u8]) -> Copied
 {
     let nothing = Copied { made: 0, taken: 0 };
     let mut copied = copy_block(piece, room, nothing);
-    while copied.taken + BLOCK < piece.len()
-        && copied.made + BLOCK <= room.len()
-        && !has_from_line(piece, copied.taken)
-    {
+    while copied.taken + BLOCK + 1 < piece.len() && copied.made + BLOCK <= room.len() {
+        let before = copied.taken;
         copied = copy_block(piece, room, copied);
+        if copied.taken == before {
+            break;
+        }
     }
     copied
 }
 
-// Copies a block, or what it has before its first CR that isn't written.
+// Copies a block, or what is written of it before the first end of a line; nothing before a line that may be a From
+// line.
 #[inline(always)]
 fn copy_block(piece: &[u8], room: &mut [u8], copied: Copied) -> Copied
-    requires more { copied.taken + 64 < length piece.now }
+    requires more { copied.taken + 65 < length piece.now }
     requires room { copied.made + 64 ≤ length room.old }
-    requires plain { pairs may_quote 64 (drop copied.taken piece.now) ≡ 0 }
+    requires plain { pairs may_quote 1 (drop copied.taken piece.now) ≡ 0 }
     requires copies { CopiesLines piece.now (take copied.made room.old) copied.taken }
     ensures size { length room.new ≡ length room.old }
     ensures made { result.made ≤ length room.new }
     ensures copies { CopiesLines piece.now (take result.made room.new) result.taken }
-    ensures some { copied.taken < result.taken }
+    ensures plain { pairs may_quote 1 (drop result.taken piece.now) ≡ 0 }
+    ensures some { pairs may_quote 64 (drop copied.taken piece.now) ≡ 0 → copied.taken < result.taken }
+    ensures further { copied.taken ≤ result.taken }
 {
     let Copied { made, taken } = copied;
     room[made..made + BLOCK].copy_from_slice(&piece[taken..taken + BLOCK]);
-    let ends = line_ends(piece, taken);
-    if ends == 0 {
-        return Copied {
-            made: made + BLOCK,
-            taken: taken + BLOCK,
-        };
-    }
-    let first = ends.trailing_zeros() as usize;
+    let next = next_lines(piece, taken);
     Copied {
-        made: made + first,
-        taken: taken + first + 1,
+        made: made + next.len,
+        taken: taken + next.taken,
     }
 }
 
@@ -64,5 +61,5 @@ fn copy_block(piece: &[u8], room: &mut [u8], copied: Copied) -> Copied
 pub(crate) fn has_lines(piece: &[u8]) -> bool
     ensures { result ≡ true → HasLines piece.now }
 {
-    piece.len() > BLOCK && !has_from_line(piece, 0)
+    piece.len() > BLOCK + 1 && !has_from_line(piece, 0)
 }

@@ -1,15 +1,14 @@
-//! Lines that are counted by blocks of bytes, where none of them may be a From line.
-ghost use Rattle.std.specs.Prelude.{◌≡◌, ◌+◌, ◌<◌, length, drop, false};
+//! Lines that are taken by blocks of bytes, where none of them may be a From line.
+ghost use Rattle.std.specs.Prelude.{◌≡◌, ◌+◌, ◌<◌, ◌≤◌, length, take, drop, false};
 ghost use Rattle.std.specs.Option.{IfSome};
 ghost use Rattle.std.specs.Int.{w64, trailing_zeros};
-ghost use Rattle.std.specs.Int.RustNames.{count_ones};
-ghost use Rattle.mbox_record.specs.Lines.{pairs, is_crlf, may_quote, IsFirstEnd, IsWriterLines};
+ghost use Rattle.mbox_record.specs.Lines.{pairs, ends_line, may_quote, IsFirstEnd, IsWriterLines, CopiesLines};
 ghost use Rattle.mbox_record.specs.declared.pending.Pending.TheVariants.{Inside};
 
 use crate::pending::{Pending, may_begin_from_line};
 use std::simd::prelude::*;
 
-// The bytes of a block, and each is looked at with the byte after it.
+// The bytes of a block. Those of one from its second on are looked at, and two after it.
 pub(crate) const BLOCK: usize = 64;
 
 // How many bytes are written in place of the first `taken` ones of a piece.
@@ -19,8 +18,7 @@ pub(crate) struct Lines {
     pub(crate) taken: usize,
 }
 
-// The blocks inside of lines, up to the first that may have a From line. A quoted reply has one in each block, and its
-// lines are left to others at once.
+// What stands inside of lines, up to the first that may be a From line.
 #[inline(always)]
 pub(crate) fn plain_lines(pending: Pending, piece: &[u8]) -> Option<Lines>
     ensures written { IfSome result (λ lines. IsWriterLines pending piece.now lines.len lines.taken) }
@@ -37,7 +35,7 @@ fn lines_inside(piece: &[u8]) -> Option<Lines>
     ensures written { IfSome result (λ lines. IsWriterLines Inside piece.now lines.len lines.taken) }
     ensures some { IfSome result (λ lines. 0 < lines.taken) }
 {
-    if piece.len() <= BLOCK || piece[0] == b'\n' && may_begin_from_line(piece[1]) {
+    if piece.len() <= BLOCK + 1 || piece[0] == b'\n' && may_begin_from_line(piece[1]) {
         return None;
     }
     let lines = blocks(piece);
@@ -47,41 +45,69 @@ fn lines_inside(piece: &[u8]) -> Option<Lines>
     Some(lines)
 }
 
-// As many blocks as have no From line, and leave a byte.
+// Up to a line that may be a From line, or less than a block and what is looked at after it.
 fn blocks(piece: &[u8]) -> Lines
     requires some { 0 < length piece.now }
+    requires plain { pairs may_quote 1 piece.now ≡ 0 }
     ensures { IsWriterLines Inside piece.now result.len result.taken }
 {
     let mut len = 0;
     let mut taken = 0;
-    while taken + BLOCK < piece.len() && !has_from_line(piece, taken) {
-        len += BLOCK - dropped(piece, taken);
-        taken += BLOCK;
+    while taken + BLOCK + 1 < piece.len() {
+        let next = next_lines(piece, taken);
+        if next.taken == 0 {
+            break;
+        }
+        len += next.len;
+        taken += next.taken;
     }
     Lines { len, taken }
 }
 
-// How many CRs of the block have their LF, and aren't written.
+// The bytes from that one on that are written as they are: a block, or what it has up to the first end of a line after
+// its first byte, whose CR isn't written. The LF is left, and what stands before it too where its line may be a From
+// line.
 #[inline(always)]
-fn dropped(piece: &[u8], at: usize) -> usize
-    requires { at + 64 < length piece.now }
-    ensures { result ≡ pairs is_crlf 64 (drop at piece.now) }
+pub(crate) fn next_lines(piece: &[u8], at: usize) -> Lines
+    requires more { at + 65 < length piece.now }
+    requires plain { pairs may_quote 1 (drop at piece.now) ≡ 0 }
+    ensures written { CopiesLines (drop at piece.now) (take result.len (drop at piece.now)) result.taken }
+    ensures plain { pairs may_quote 1 (drop (at + result.taken) piece.now) ≡ 0 }
+    ensures some { pairs may_quote 64 (drop at piece.now) ≡ 0 → 0 < result.taken }
+    ensures shorter { result.len ≤ result.taken }
+    ensures block { result.taken ≤ 64 }
 {
-    line_ends(piece, at).count_ones() as usize
+    let ends = line_ends(piece, at);
+    if ends == 0 {
+        return Lines {
+            len: BLOCK,
+            taken: BLOCK,
+        };
+    }
+    let first = ends.trailing_zeros() as usize;
+    let next = at + first;
+    if may_begin_from_line(piece[next + 2]) {
+        return Lines {
+            len: first,
+            taken: first,
+        };
+    }
+    let taken = first + 1;
+    if piece[next] == b'\r' {
+        return Lines { len: first, taken };
+    }
+    Lines { len: taken, taken }
 }
 
-// The CRs of the block that have their LF, as bits.
+// The LFs after a byte of the block, as bits.
 #[inline(always)]
-pub(crate) fn line_ends(piece: &[u8], at: usize) -> u64
+fn line_ends(piece: &[u8], at: usize) -> u64
     requires { at + 64 < length piece.now }
-    ensures ones { count_ones result ≡ pairs is_crlf 64 (drop at piece.now) }
-    ensures none { result ≡ 0 → pairs is_crlf 64 (drop at piece.now) ≡ 0 }
+    ensures none { result ≡ 0 → pairs ends_line 64 (drop at piece.now) ≡ 0 }
     ensures first { 0 < result → IsFirstEnd (drop at piece.now) (trailing_zeros w64 result) }
 {
-    let here = u8x64::from_slice(&piece[at..]);
     let next = u8x64::from_slice(&piece[at + 1..]);
-    let found = here.simd_eq(u8x64::splat(b'\r')) & next.simd_eq(u8x64::splat(b'\n'));
-    found.to_bitmask()
+    next.simd_eq(u8x64::splat(b'\n')).to_bitmask()
 }
 
 // Whether a line that may be a From line begins after an LF of the block.

@@ -4,7 +4,8 @@ ghost use Rattle.std.specs.Prelude.{IsErr, IfOk, IfErr, OnOk, OnErr, Ok, Err, tr
 ghost use Rattle.mail_world.specs.Counts.{counted};
 ghost use Rattle.mail_world.specs.Endings.{ending};
 ghost use Rattle.mbox_record.specs.MemorySpool.{unused, standing_of, state_of, fault_in};
-ghost use Rattle.mbox_record.specs.Spool.{SpoolTook, SpoolFailed, HasSynced, HasNotSynced, standing, AsksForTurn, EndsTurn};
+ghost use Rattle.mbox_record.specs.Spool.{SpoolTook, SpoolFailed, HasSynced, HasNotSynced};
+ghost use Rattle.mbox_record.specs.Spool.{standing, AsksForTurn, EndsTurn};
 ghost use Rattle.mbox_record.specs.Tail.{ending_of};
 ghost use Rattle.mbox_record.specs.TurnLog.{begun_at, ended_at, missed};
 ghost use Rattle.mbox_record.specs.TurnState.{knows_end};

@@ -5,6 +5,7 @@ ghost use Rattle.std.specs.Str.{byte};
 ghost use Rattle.mail_world.specs.Counts.{counted};
 ghost use Rattle.mail_world.specs.Text.{begins};
 ghost use Rattle.mbox_record.specs.Quoted.{IsPending};
+ghost use Rattle.mbox_record.specs.Lines.{may_begin};
 ghost use Rattle.mbox_record.specs.Steps.{IsWriterRun, IsWriterStep};
 ghost use Rattle.mbox_record.specs.declared.pending.Pending.TheVariants.{Start, QuoteMarks, Word, Inside, Cr};
 
@@ -127,8 +128,7 @@ fn line_at_start(piece: &[u8]) -> Option<Run>
 // A From line begins with `>` or with its word.
 #[inline(always)]
 pub(crate) fn may_begin_from_line(first: u8) -> bool
-    ensures mark { result ≡ false → first ≢ byte ">" }
-    ensures letter { result ≡ false → first ≢ byte "F" }
+    ensures { result ≡ may_begin first }
 {
     first == b'>' || first == b'F'
 }

@@ -18,7 +18,7 @@ use crate::pending::{FROM, Pending, Step, long_step, plain_line};
 use crate::spool::{Spool, SpoolFault};
 use std::marker::Model;
 
-// The bytes of text that are copied at once, and room for the block that may lie behind them.
+// The bytes of text that are copied at once, and room for the block that may lie after them.
 const ROOM_SIZE: usize = 4_096 + BLOCK;
 
 // A text that comes in pieces. A CR is held back, or a prefix of a line's `From `, and no bytes of the text are kept.

@@ -1,5 +1,6 @@
 //! Where records go: a place that takes bytes at its end, in turns, and may fail.
-ghost use Rattle.std.specs.Prelude.{◌≡◌, ◌≢◌, ◌<◌, ◌≤◌, Bool, length, take, true, false, is_err, IsErr, IfOk, OnOk, OnErr};
+ghost use Rattle.std.specs.Prelude.{◌≡◌, ◌≢◌, ◌<◌, ◌≤◌, Bool, length, take, true, false};
+ghost use Rattle.std.specs.Prelude.{is_err, IsErr, IfOk, OnOk, OnErr};
 ghost use Rattle.std.specs.IoError.{raw_os_error, error_kind};
 ghost use Rattle.mail_world.specs.Endings.{ending};
 ghost use Rattle.mail_world.specs.Turns.{Standing};
