@@ -5,3 +5,4 @@ pub mod Losing
 pub mod Failing
 pub mod Leaving
 pub mod Letters
+pub mod Lined

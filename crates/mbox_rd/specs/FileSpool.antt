@@ -5,6 +5,7 @@ use Rattle.mail_world.specs.Counts.{counted}
 use Rattle.mail_world.specs.Failures.{Rises}
 use Rattle.mail_world.specs.Prefixes.{IsPrefix}
 use Rattle.mail_world.specs.Turns.{Standing}
+use Rattle.mbox_record.specs.Lines.{CopiesLines}
 use Rattle.mbox_record.specs.Spool.{SpoolState}
 use Rattle.mbox_record.specs.TurnLog.{TurnLog, no_turns, begun_at, missed, ended_at}
 use Rattle.mbox_record.specs.declared.tail.Tail.{Tail}
@@ -164,6 +165,12 @@ pub record KeepsWritten (old new : FileState) (text : List ℕ) : Type 0 where
 -- all that was taken is in the file, which keeps it
 abbrev pub KeepsAll : {F : Type 0} → (F → FileState) → FileSpool F → FileSpool F → Type 0
 KeepsAll state old new = KeepsWritten (state old.file) (state new.file) old.waiting
+
+-- what waits has grown by lines of the piece, as they are written in place of its first n bytes
+pub record AddsLines (old new piece : List ℕ) (n : ℕ) : Type 0 where
+  pub text : List ℕ
+  pub added : new ≡ old ++ text
+  pub copies : CopiesLines piece text n
 
 -- a call in a turn stays in it, and nothing failed
 pub record StaysSound {F : Type 0} (old new : FileSpool F) : Type 0 where

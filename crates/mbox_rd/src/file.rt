@@ -1,13 +1,17 @@
 //! A mailbox in a file, which other programs read and empty too: it takes bytes in turns, and what stands there is
 //! looked at again in each. Nothing of it lasts from one turn to the next but its file and whether the last turn broke.
-ghost use Rattle.std.specs.Prelude.{◌≡◌, ◌≢◌, ◌<◌, ◌≤◌, ◌+◌, ℕ, List, [], ◌∷◌, ◌++◌, true, false, length, take, ⊤};
+ghost use Rattle.std.specs.Prelude.{◌≡◌, ◌≢◌, ◌<◌, ◌≤◌, ◌+◌, ◌⊎◌, ℕ, List, [], ◌∷◌, ◌++◌, true, false, length, take, drop, ⊤};
 ghost use Rattle.std.specs.Prelude.{Err, IsErr, IfOk, IfErr, OnOk, OnErr};
 ghost use Rattle.mail_world.specs.Endings.{ending, ending_from};
 ghost use Rattle.mail_world.specs.Failures.{Rises};
 ghost use Rattle.mail_world.specs.Prefixes.{IsPrefix};
+ghost use Rattle.mbox_record.specs.Lines.{HasLines};
+ghost use Rattle.mbox_record.specs.Quoted.{quoted_owed};
 ghost use Rattle.mbox_record.specs.Spool.{SpoolTook, SpoolFailed, HasSynced, HasNotSynced, AsksForTurn, EndsTurn};
 ghost use Rattle.mbox_record.specs.Tail.{ending_of};
 ghost use Rattle.mbox_record.specs.TurnState.{knows_end};
+ghost use Rattle.mbox_record.specs.Writing.{Writes};
+ghost use Rattle.mbox_record.specs.declared.pending.Pending.TheVariants.{Inside};
 ghost use Rattle.mbox_file.specs.MailboxFile.{IsHeld, at_now};
 ghost use Rattle.mbox_rd.specs.FileSpool.{KeepsWritten, LosesPart};
 ghost use Rattle.mbox_file.specs.Moment.{LeavesOne, LeavesAt};
@@ -16,7 +20,7 @@ ghost use Rattle.mbox_rd.specs.Moments.{LeavesInTurn, LeavesOnly};
 use crate::patience::Patience;
 use crate::turn::{end_turn, open_anew, wait_for_turn};
 use mbox_file::{FileEnd, MailboxFile};
-use mbox_record::{InUse, Spool, SpoolFault, Tail, Turns, tail_after};
+use mbox_record::{InUse, LINES_ROOM, Spool, SpoolFault, Tail, Turns, copy_lines, tail_after};
 use std::alloc::{AllocError, Global};
 use std::io;
 use std::marker::{Brand, Model};
@@ -211,7 +215,7 @@ impl<F: MailboxFile + Drop, C: Clock + Drop> FileSpool<F, C> {
     }
 }
 
-// How many bytes go to the next multiple of the buffer's size behind that place of a file.
+// How many bytes go to the next multiple of the buffer's size after that place of a file.
 fn room_at(at: u64) -> usize
     ensures { (1 ≤ result) × (result ≤ BUFFER_SIZE) }
 {
@@ -233,7 +237,7 @@ fn write_and_keep<F: MailboxFile>(file: &mut F, bytes: &[u8]) -> io::Result<()>
 impl<F: MailboxFile + Drop, C: Clock + Drop> FileSpool<F, C> {
     ghost use Rattle.mbox_file.specs.MailboxFile.{IsEnd};
     ghost use Rattle.mbox_rd.specs.Turn.{HasBegun, HasMissed, StaysThere};
-    ghost use Rattle.mbox_rd.specs.FileSpool.{StartsTurn, CountsRefusal, KnowsEnd};
+    ghost use Rattle.mbox_rd.specs.FileSpool.{AddsLines, StartsTurn, CountsRefusal, KnowsEnd};
 
     // Asks for a turn. After one that broke, what the path names is opened first.
     fn ask(&mut self) -> Result<FileEnd, InUse>
@@ -325,12 +329,38 @@ impl<F: MailboxFile + Drop, C: Clock + Drop> FileSpool<F, C> {
         self.is_unsynced = true;
         n
     }
+
+    // Puts the lines of a piece into the buffer as they are written, where that many bytes may wait besides.
+    fn take_lines(&mut self, piece: &[u8], free: usize) -> usize
+        requires free { 64 ≤ free }
+        requires room { length self.old.waiting + free ≤ 262_144 }
+        requires lines { HasLines piece.now }
+        requires turn { self.old.in_turn ≡ true }
+        requires sound { self.old.has_failed ≡ false }
+        ensures some { 0 < result }
+        ensures new { self.new ≡ record self.old { waiting = self.new.waiting; is_unsynced = true } }
+        ensures lines { AddsLines self.old.waiting self.new.waiting piece.now result }
+        ensures ends { KnowsEnd F.state self.new }
+    {
+        let held = self.waiting.len();
+        if self
+            .waiting
+            .resize(held + free.min(LINES_ROOM + piece.len()), 0)
+            .is_err()
+        {
+            unreachable!();
+        }
+        let copied = copy_lines(piece, &mut self.waiting[held..]);
+        self.waiting.truncate(held + copied.made);
+        self.is_unsynced = true;
+        copied.taken
+    }
 }
 
 impl<F: MailboxFile + Drop, C: Clock + Drop> Spool for FileSpool<F, C> {
     ghost use Rattle.mbox_rd.specs.FileSpool.{HasTurn, StartsTurn, CountsRefusal, HasEnded, StopsTurn};
     ghost use Rattle.mbox_rd.specs.FileSpool.{HasTaken, KeepsAll, StaysSound, Breaks, HasLost, failed_again};
-    ghost use Rattle.mbox_rd.specs.FileSpool.{KnowsEnd, contents_of, state_of};
+    ghost use Rattle.mbox_rd.specs.FileSpool.{AddsLines, KnowsEnd, contents_of, state_of};
     ghost use Rattle.mbox_rd.specs.Moments.{AnyMoment, Stores};
     ghost use Rattle.mbox_rd.specs.Turn.{HasMissed};
 
@@ -452,6 +482,35 @@ impl<F: MailboxFile + Drop, C: Clock + Drop> Spool for FileSpool<F, C> {
             Ok(()) => Ok(self.take(piece, BUFFER_SIZE)),
             Err(unwritten) => Err(self.fail(unwritten)),
         }
+    }
+
+    /// Copies into the buffer, as far as there is room for 64 bytes. The file isn't touched.
+    fn append_lines(&mut self, piece: &[u8]) -> usize
+        requires { HasLines piece.now }
+        ensures refused { (self.old.has_failed ≡ true) ⊎ (self.old.is_unsettled ≡ true) → result ≡ 0 }
+        ensures sound { 0 < result → StaysSound self.old self.new }
+        ensures file { self.new.file ≡ self.old.file }
+        ensures lines { 0 < result → AddsLines self.old.waiting self.new.waiting piece.now result }
+        ensures ends { 0 < result → KnowsEnd F.state self.new }
+
+        // what every spool ensures
+        ensures within { result ≤ length piece.now }
+        ensures none { result ≡ 0
+            → ⟦<FileSpool<F, C> as Spool>⟧.state self.new ≡ ⟦<FileSpool<F, C> as Spool>⟧.state self.old }
+        ensures some { 0 < result → Writes (⟦<FileSpool<F, C> as Spool>⟧.state self.old)
+            (⟦<FileSpool<F, C> as Spool>⟧.state self.new) (λ rest. quoted_owed Inside (piece.now ++ rest))
+            (λ rest. quoted_owed Inside (drop result piece.now ++ rest)) }
+        ensures unsynced { 0 < result → (⟦<FileSpool<F, C> as Spool>⟧.state self.new).turn.is_unsynced ≡ true }
+        ensures outside { (⟦<FileSpool<F, C> as Spool>⟧.state self.old).turn.in_turn ≡ false → result ≡ 0 }
+    {
+        if self.is_unsettled || self.has_failed || !self.in_turn {
+            return 0;
+        }
+        let free = self.room.saturating_sub(self.waiting.len());
+        if free < LINES_ROOM {
+            return 0;
+        }
+        self.take_lines(piece, free)
     }
 
     /// Writes what waits, and has the file's bytes kept by the system. The first fault of a turn says why the file's

@@ -1,10 +1,9 @@
 -- A piece of the message, step by step.
-use Rattle.std.proofs.Common.{◌≡◌, ℕ, ◌-◌, List, ◌++◌, length, take, drop, sym, ap, ◌∙◌, append_assoc}
+use Rattle.std.proofs.Common.{◌≡◌, ℕ, ◌-◌, List, ◌++◌, length, take, drop, sym, ap, ◌∙◌, append_assoc, subst}
 use Rattle.std.proofs.lemmas.List.{take_rest}
 use Rattle.mbox_record.specs.Spool.{SpoolState, SpoolTook, SpoolFailed}
 use Rattle.mbox_record.specs.Quoted.{Pending, IsPending, quoted_owed}
 use Rattle.mbox_record.specs.Writing.{Fails}
-use Rattle.mbox_record.proofs.Onward.{Fails-then}
 use Rattle.mbox_record.proofs.Taken.{SpoolTook-then, SpoolFailed-later}
 
 -- the spool took what is sure of the piece up to the rest
@@ -37,12 +36,8 @@ module _ (s t u : SpoolState) (before now next : Pending) (piece rest text : Lis
     sure = λ more. record { rest = quoted_owed next (drop n rest ++ more); whole = sym (further more) };
   }
 
--- where it then fails within what is owed of the rest
-pub FailsPiece-rest : (s t u : SpoolState) (before now next : Pending) (piece rest : List ℕ) → TakesPiece s t before now piece rest
-    → now ≡ next → Fails t u (λ more. quoted_owed next (rest ++ more)) → Fails s u (λ more. quoted_owed before (piece ++ more))
-FailsPiece-rest s t u before now next piece rest x e y =
-    Fails-then s t u (λ more. quoted_owed before (piece ++ more)) (λ more. quoted_owed next (rest ++ more)) (record {
-      text = x.text;
-      taken = x.taken;
-      goes = λ more. ap (λ (p : Pending). x.text ++ quoted_owed p (rest ++ more)) (sym e) ∙ x.goes more;
-    }) y
+-- the spool stands as it stood
+pub TakesPiece-still : (s t u : SpoolState) (before now : Pending) (piece rest : List ℕ) → u ≡ t
+    → TakesPiece s t before now piece rest → TakesPiece s u before now piece rest
+TakesPiece-still s t u before now piece rest e x =
+    let P : SpoolState → Type 0 = λ v. TakesPiece s v before now piece rest in subst P (sym e) x

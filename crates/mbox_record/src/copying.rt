@@ -4,16 +4,20 @@ ghost use Rattle.mbox_record.specs.Lines.{pairs, may_quote, HasLines, CopiesLine
 
 use crate::lines::{BLOCK, has_from_line, next_lines};
 
-// The bytes of a text that were copied, and in place of how many of the first ones of a piece.
+/// The least room for `copy_lines`, in bytes.
+pub const LINES_ROOM: usize = BLOCK;
+
+/// How many bytes of text `copy_lines` made, and in place of how many of the first ones of a piece.
 #[derive(Clone, Copy, Debug)]
-pub(crate) struct Copied {
-    pub(crate) made: usize,
-    pub(crate) taken: usize,
+pub struct Copied {
+    pub made: usize,
+    pub taken: usize,
 }
 
-// Copies from inside of a line, up to one that may be a From line, and leaves some bytes. Whole blocks are put into the
-// room, so that some bytes after the text change too.
-pub(crate) fn copy_lines(piece: &[u8], room: &mut [u8]) -> Copied
+/// Copies from inside of a line on what is written of the piece into the room, which has 64 bytes at least, up to a
+/// line that may be a From line, and leaves some bytes. Whole blocks of 64 bytes are put there, so that some bytes
+/// after the text change too.
+pub fn copy_lines(piece: &[u8], room: &mut [u8]) -> Copied
     requires lines { HasLines piece.now }
     requires room { 64 ≤ length room.old }
     ensures made { result.made ≤ length room.new }

@@ -1,11 +1,14 @@
 //! How long the text of a message is in its record, counted while it comes.
-ghost use Rattle.std.specs.Prelude.{◌≡◌, ℕ, List, [], ◌++◌, length, if◌then◌else◌};
+ghost use Rattle.std.specs.Prelude.{◌≡◌, ◌≤◌, ℕ, List, [], ◌++◌, length, if◌then◌else◌};
 ghost use Rattle.mail_world.specs.Counts.{counted};
 ghost use Rattle.mbox_record.specs.Lengths.{lengths_of, after_head_text, HasCounted};
 
 use crate::quoted::QuotedText;
 use crate::record::RecordWriter;
 use lmtp_text::Site;
+use memchr::memmem;
+
+const HEAD_END: &[u8] = b"\r\n\r\n";
 
 /// How many bytes a message's text has in its record, with LF for CRLF, one more `>` before each From line, and the
 /// empty line after it: where the marks of its head stay, and where `X-Was-` stands before each of them. A count stays
@@ -57,6 +60,26 @@ impl LengthCounter {
 
     /// With one more piece of the message, which may end anywhere.
     pub fn add(self, piece: &[u8]) -> LengthCounter
+        ensures { (begun : List ℕ) → HasCounted self begun → HasCounted result (begun ++ piece.now) }
+    {
+        let (head, rest) = piece.split_at(self.head_in(piece));
+        self.add_part(head).add_part(rest)
+    }
+
+    // How many bytes of the piece the head may have. What comes after it is counted once.
+    fn head_in(&self, piece: &[u8]) -> usize
+        ensures { result ≤ length piece.now }
+    {
+        if self.marked.is_past_marks() {
+            return 0;
+        }
+        match memmem::find(piece, HEAD_END) {
+            Some(at) => at + HEAD_END.len(),
+            None => piece.len(),
+        }
+    }
+
+    fn add_part(self, piece: &[u8]) -> LengthCounter
         ensures { (begun : List ℕ) → HasCounted self begun → HasCounted result (begun ++ piece.now) }
     {
         let LengthCounter {

@@ -22,6 +22,7 @@ mod spool;
 mod tail;
 mod turns;
 
+pub use copying::{Copied, LINES_ROOM, copy_lines};
 pub use envelope::Envelope;
 pub use lengths::{LengthCounter, Lengths};
 pub use mbox_letters::{BadMailbox, Letter, read_mailbox};

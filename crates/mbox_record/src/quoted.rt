@@ -5,21 +5,17 @@ ghost use Rattle.mail_world.specs.Records.{quoted_text};
 ghost use Rattle.mail_world.specs.Text.{unix, lf};
 ghost use Rattle.mbox_record.specs.declared.pending.Pending.TheVariants.{Inside};
 ghost use Rattle.mbox_record.specs.Lengths.{Counts};
-ghost use Rattle.mbox_record.specs.Lines.{HasLines};
 ghost use Rattle.mbox_record.specs.Quoted.{quoted_owed};
 ghost use Rattle.mbox_record.specs.Spool.{SpoolTook, SpoolFailed};
 ghost use Rattle.mbox_record.specs.Steps.{step_text};
 ghost use Rattle.mbox_record.specs.Writing.{Writes, Fails};
 
 use crate::append::{append_all, append_each};
-use crate::copying::{copy_lines, has_lines};
-use crate::lines::{BLOCK, plain_lines};
+use crate::copying::has_lines;
+use crate::lines::plain_lines;
 use crate::pending::{FROM, Pending, Step, long_step, plain_line};
 use crate::spool::{Spool, SpoolFault};
 use std::marker::Model;
-
-// The bytes of text that are copied at once, and room for the block that may lie after them.
-const ROOM_SIZE: usize = 4_096 + BLOCK;
 
 // A text that comes in pieces. A CR is held back, or a prefix of a line's `From `, and no bytes of the text are kept.
 #[derive(Clone, Copy, Debug)]
@@ -63,8 +59,8 @@ impl QuotedText {
         let mut pending = self.pending;
         let mut rest = piece;
         while !rest.is_empty() {
-            if pending == Pending::Inside && has_lines(rest) {
-                let taken = append_lines(spool, rest)?;
+            let taken = append_lines(pending, spool, rest);
+            if taken > 0 {
                 rest = &rest[taken..];
             } else if let Some(run) = plain_line(pending, rest) {
                 append_all(spool, &rest[..run.len])?;
@@ -140,20 +136,19 @@ impl QuotedText {
     }
 }
 
-// Appends lines from inside of one, and says how many bytes of the piece they took.
-fn append_lines<S: Spool>(spool: &mut S, piece: &[u8]) -> Result<usize, SpoolFault>
-    requires { HasLines piece.now }
-    ensures ok { IfOk result (λ taken. Writes (S.state spool.old) (S.state spool.new)
-        (λ rest. quoted_owed Inside (piece.now ++ rest)) (λ rest. quoted_owed Inside (drop taken piece.now ++ rest))) }
-    ensures some { IfOk result (λ taken. 0 < taken) }
-    ensures within { IfOk result (λ taken. taken ≤ length piece.now) }
-    ensures err { OnErr result
-        (Fails (S.state spool.old) (S.state spool.new) (λ rest. quoted_owed Inside (piece.now ++ rest))) }
+// Appends lines from inside of one, if there are some, and says how many bytes of the piece they are.
+fn append_lines<S: Spool>(pending: Pending, spool: &mut S, piece: &[u8]) -> usize
+    ensures within { result ≤ length piece.now }
+    ensures none { result ≡ 0 → S.state spool.new ≡ S.state spool.old }
+    ensures inside { 0 < result → pending ≡ Inside }
+    ensures some { 0 < result → Writes (S.state spool.old) (S.state spool.new)
+        (λ rest. quoted_owed Inside (piece.now ++ rest)) (λ rest. quoted_owed Inside (drop result piece.now ++ rest)) }
 {
-    let mut room = [0; ROOM_SIZE];
-    let copied = copy_lines(piece, &mut room);
-    append_all(spool, &room[..copied.made])?;
-    Ok(copied.taken)
+    if pending == Pending::Inside && has_lines(piece) {
+        spool.append_lines(piece)
+    } else {
+        0
+    }
 }
 
 fn write_step<S: Spool>(spool: &mut S, piece: &[u8], step: &Step) -> Result<(), SpoolFault>

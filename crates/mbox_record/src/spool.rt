@@ -1,14 +1,18 @@
 //! Where records go: a place that takes bytes at its end, in turns, and may fail.
-ghost use Rattle.std.specs.Prelude.{◌≡◌, ◌≢◌, ◌<◌, ◌≤◌, Bool, length, take, true, false};
+ghost use Rattle.std.specs.Prelude.{◌≡◌, ◌≢◌, ◌<◌, ◌≤◌, ◌++◌, Bool, length, take, drop, true, false};
 ghost use Rattle.std.specs.Prelude.{is_err, IsErr, IfOk, OnOk, OnErr};
 ghost use Rattle.std.specs.IoError.{raw_os_error, error_kind};
 ghost use Rattle.mail_world.specs.Endings.{ending};
 ghost use Rattle.mail_world.specs.Turns.{Standing};
 ghost use Rattle.mbox_record.specs.Fault.{fault_by};
+ghost use Rattle.mbox_record.specs.Lines.{HasLines};
+ghost use Rattle.mbox_record.specs.Quoted.{quoted_owed};
 ghost use Rattle.mbox_record.specs.Spool.{SpoolState, SpoolTook, SpoolFailed, HasSynced, HasNotSynced};
 ghost use Rattle.mbox_record.specs.Spool.{standing, AsksForTurn, EndsTurn};
 ghost use Rattle.mbox_record.specs.Tail.{ending_of};
 ghost use Rattle.mbox_record.specs.TurnState.{knows_end};
+ghost use Rattle.mbox_record.specs.Writing.{Writes};
+ghost use Rattle.mbox_record.specs.declared.pending.Pending.TheVariants.{Inside};
 
 use crate::tail::Tail;
 use std::io;
@@ -94,6 +98,21 @@ pub trait Spool {
         ensures unsynced { OnOk result ((state self.new).turn.is_unsynced ≡ true) }
         ensures outside { (state self.old).turn.in_turn ≡ false
             → IsErr result × ((state self.new).bytes ≡ (state self.old).bytes) };
+
+    /// Takes lines of a message from inside of one on, as they are written, up to one that may be a From line, and says
+    /// how many bytes of the piece these are. 0: none is taken so, and `append` is to take them.
+    fn append_lines(&mut self, piece: &[u8]) -> usize
+        requires { HasLines piece.now }
+        ensures within { result ≤ length piece.now }
+        ensures none { result ≡ 0 → state self.new ≡ state self.old }
+        ensures some { 0 < result → Writes (state self.old) (state self.new)
+            (λ rest. quoted_owed Inside (piece.now ++ rest)) (λ rest. quoted_owed Inside (drop result piece.now ++ rest)) }
+        ensures unsynced { 0 < result → (state self.new).turn.is_unsynced ≡ true }
+        ensures outside { (state self.old).turn.in_turn ≡ false → result ≡ 0 }
+    {
+        let _ = piece;
+        0
+    }
 
     /// Asks that all it holds be kept through a crash, as a file's `sync_data` does, and waits for the answer. After a
     /// fault any of it may be lost. Outside a turn it is a fault.

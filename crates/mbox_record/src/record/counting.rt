@@ -67,7 +67,7 @@ impl RecordWriter {
     }
 
     // It leaves marks as they are, and holds no bytes back for them.
-    fn is_past_marks(&self) -> bool
+    pub(crate) fn is_past_marks(&self) -> bool
         ensures { result ≡ true → (text : List ℕ) → bytes_owed self.now text ≡ quoted_owed self.now.quoted text }
     {
         match self.place {

@@ -1,0 +1,24 @@
+use Rattle.std.proofs.Common.{◌≡◌, ◌≤◌, ◌+◌, ℕ, List, rules, arith, ap, length, take, ◌∙◌}
+use Rattle.mbox_rd.specs.FileSpool.{FileSpool}
+use Rattle.mbox_rd.proofs.Lined.{kept_by, lines_added}
+use Rattle.mbox_rd.proofs.file.FileSpool.take_lines.Goals as goal
+
+pub returns-clause-lines : goal.returns-clause-lines
+returns-clause-lines g c =
+    let old = c.args.self.now.waiting in
+    let held = c.len-held.result in
+    let made = c.copy_lines-copied.result.made in
+    let inside = c.self.inside.waiting.items in
+    let same : inside ≡ old = ap (λ (s : FileSpool _). s.waiting) c.self.view_is in
+    let size : held ≡ length inside = search rules in
+    let kept : take held c.deref_mut.result.now ≡ old =
+    kept_by _ held (held + c.min.result) inside _ c.deref_mut.result.now (c.deref_mut.ensures.value ∙ c.resize.ensures.items) size (omega arith)
+    ∙ same in
+    let within : held + made ≤ c.resize.new.self.len = search rules in
+    record {
+      text = take made c.copy_lines-copied.new.room;
+      added = c.truncate.ensures.items
+          ∙ lines_added held made _ old c.deref_mut.result.now c.copy_lines-copied.new.room _ _ (size ∙ ap length same) kept
+          c.copy_lines-copied.ensures.made within;
+      copies = c.copy_lines-copied.ensures.copies;
+    }
