@@ -47,7 +47,8 @@ pub fn report_checked<W, E: Write>(
     error: &mut E,
 ) -> Exit
     ensures status { result.status ≡ check_status checked.now.findings.items checked.now.cut }
-    ensures lines { IsListed (unlocked_lines checked.now.unlocked.items ++ line_after is_journal (check_fault checked.now.cut))
+    ensures lines { IsListed
+        (unlocked_lines checked.now.unlocked.items ++ line_after is_journal (check_fault checked.now.cut))
         (E.contents error.old) (E.contents error.new) result.cut }
 {
     Exit {

@@ -118,7 +118,8 @@ fn try_each_box(
     boxes: &[&[u8]],
 ) -> Result<(), Fault>
     ensures { MatchResult result (λ _. list_all (is_usable_name suffix.now) (texts boxes.now) ≡ true)
-        (λ fault. (fault ≡ Fault.Memory) ⊎ (first_fault suffix.now (site_of host.now domains.now boxes.now) ≡ Some fault)) }
+        (λ fault. (fault ≡ Fault.Memory)
+        ⊎ (first_fault suffix.now (site_of host.now domains.now boxes.now) ≡ Some fault)) }
 {
     for name in boxes {
         try_box(alloc, host, domains, suffix, name)?;

@@ -1,7 +1,7 @@
 //! A mailbox in a file, which other programs read and empty too: it takes bytes in turns, and what stands there is
 //! looked at again in each. Nothing of it lasts from one turn to the next but its file and whether the last turn broke.
-ghost use Rattle.std.specs.Prelude.{◌≡◌, ◌≢◌, ◌<◌, ◌≤◌, ◌+◌, ◌⊎◌, ℕ, List, [], ◌∷◌, ◌++◌, true, false, length, take, drop, ⊤};
-ghost use Rattle.std.specs.Prelude.{Err, IsErr, IfOk, IfErr, OnOk, OnErr};
+ghost use Rattle.std.specs.Prelude.{◌≡◌, ◌≢◌, ◌<◌, ◌≤◌, ◌⊎◌, ℕ, List, [], ◌∷◌, ◌++◌, true, false, length, take};
+ghost use Rattle.std.specs.Prelude.{drop, ⊤, Err, IsErr, IfOk, IfErr, OnOk, OnErr};
 ghost use Rattle.mail_world.specs.Endings.{ending, ending_from};
 ghost use Rattle.mail_world.specs.Failures.{Rises};
 ghost use Rattle.mail_world.specs.Prefixes.{IsPrefix};
@@ -13,22 +13,19 @@ ghost use Rattle.mbox_record.specs.TurnState.{knows_end};
 ghost use Rattle.mbox_record.specs.Writing.{Writes};
 ghost use Rattle.mbox_record.specs.declared.pending.Pending.TheVariants.{Inside};
 ghost use Rattle.mbox_file.specs.MailboxFile.{IsHeld, at_now};
-ghost use Rattle.mbox_rd.specs.FileSpool.{KeepsWritten, LosesPart};
 ghost use Rattle.mbox_file.specs.Moment.{LeavesOne, LeavesAt};
-ghost use Rattle.mbox_rd.specs.Moments.{LeavesInTurn, LeavesOnly};
+ghost use Rattle.mbox_rd.specs.Moments.{LeavesOnly};
+
+mod waiting;
 
 use crate::patience::Patience;
 use crate::turn::{end_turn, open_anew, wait_for_turn};
 use mbox_file::{FileEnd, MailboxFile};
-use mbox_record::{InUse, LINES_ROOM, Spool, SpoolFault, Tail, Turns, copy_lines, tail_after};
+use mbox_record::{InUse, LINES_ROOM, Spool, SpoolFault, Tail, Turns, tail_after};
 use std::alloc::{AllocError, Global};
-use std::io;
 use std::marker::{Brand, Model};
 use std::time::Clock;
-
-/// The bytes that wait at most before they are written. Writes but the last end at a multiple of it in the file: so the
-/// system has whole large pages of a large record, which it makes and keeps in less time.
-const BUFFER_SIZE: usize = 262_144;
+use waiting::{BUFFER_SIZE, room_at};
 
 /// A spool over a file, which other programs read and empty too. In a turn it has both locks that mail programs take,
 /// and what it takes waits in a buffer until that is full, at a multiple of 262,144 bytes of the file, or until a sync.
@@ -131,8 +128,9 @@ impl<F: MailboxFile + Drop, C: Clock + Drop> FileSpool<F, C> {
 }
 
 impl<F: MailboxFile + Drop, C: Clock + Drop> FileSpool<F, C> {
-    ghost use Rattle.mbox_file.specs.MailboxFile.{HasAppended, HasNotAppended};
-    ghost use Rattle.mbox_rd.specs.FileSpool.{HasWritten, HasNotWritten, KeepsAll, HasLost, contents_of, failed_again};
+    ghost use Rattle.mbox_file.specs.MailboxFile.{IsEnd};
+    ghost use Rattle.mbox_rd.specs.Turn.{HasBegun, HasMissed, StaysThere};
+    ghost use Rattle.mbox_rd.specs.FileSpool.{StartsTurn, CountsRefusal, failed_again};
 
     // Why a call is refused that the file isn't asked for: it is in no turn in which none failed, or else what was cut
     // off couldn't be kept so as this turn began.
@@ -158,86 +156,6 @@ impl<F: MailboxFile + Drop, C: Clock + Drop> FileSpool<F, C> {
         self.has_failed = self.has_failed || self.in_turn;
         fault
     }
-
-    // Writes what waits. How the file ends is known again after each write, and not after each piece; nobody knows it
-    // where one failed.
-    fn write_waiting(&mut self) -> Result<(), SpoolFault>
-        requires turn { self.old.in_turn ≡ true }
-        requires settled { self.old.is_unsettled ≡ false }
-        ensures ok { OnOk result (HasWritten self.old self.new) }
-        ensures written { OnOk result (HasAppended (F.state self.old.file) (F.state self.new.file) self.old.waiting) }
-        ensures err { OnErr result (HasNotWritten self.old self.new) }
-        ensures failed { OnErr result
-            (HasNotAppended (F.state self.old.file) (F.state self.new.file) self.old.waiting) }
-        ensures reason { IfErr result (λ fault. fault ≢ SpoolFault.NoTurn) }
-        ensures moments { LeavesInTurn self.old.began (contents_of F.state self.old)
-            (F.state self.old.file) (F.state self.new.file) }
-    {
-        let tail = self.tail();
-        match self.file.write(&self.waiting) {
-            Ok(()) => {
-                self.waiting.clear();
-                self.tail = tail;
-                self.room = BUFFER_SIZE;
-                Ok(())
-            }
-            Err(unwritten) => {
-                self.has_failed = true;
-                Err(SpoolFault::of(&unwritten))
-            }
-        }
-    }
-
-    // The same, and has all of the file kept.
-    fn keep_waiting(&mut self) -> Result<(), SpoolFault>
-        requires turn { self.old.in_turn ≡ true }
-        requires settled { self.old.is_unsettled ≡ false }
-        ensures ok { OnOk result (HasWritten self.old self.new) }
-        ensures kept { OnOk result (KeepsAll F.state self.old self.new) }
-        ensures err { OnErr result (HasNotWritten self.old self.new) }
-        ensures failed { OnErr result (HasLost F.state self.old self.new) }
-        ensures reason { IfErr result (λ fault. fault ≢ SpoolFault.NoTurn) }
-        ensures moments { LeavesInTurn self.old.began (contents_of F.state self.old)
-            (F.state self.old.file) (F.state self.new.file) }
-    {
-        let end = self.tail();
-        match write_and_keep(&mut self.file, &self.waiting) {
-            Ok(()) => {
-                self.waiting.clear();
-                self.tail = end;
-                Ok(())
-            }
-            Err(unkept) => {
-                self.has_failed = true;
-                Err(SpoolFault::of(&unkept))
-            }
-        }
-    }
-}
-
-// How many bytes go to the next multiple of the buffer's size after that place of a file.
-fn room_at(at: u64) -> usize
-    ensures { (1 ≤ result) × (result ≤ BUFFER_SIZE) }
-{
-    BUFFER_SIZE - (at % BUFFER_SIZE as u64) as usize
-}
-
-fn write_and_keep<F: MailboxFile>(file: &mut F, bytes: &[u8]) -> io::Result<()>
-    requires held { IsHeld (F.state file.old) }
-    requires settled { (F.state file.old).cut_off ≡ [] }
-    ensures kept { OnOk result (KeepsWritten (F.state file.old) (F.state file.new) bytes.now) }
-    ensures lost { OnErr result (LosesPart (F.state file.old) (F.state file.new) bytes.now) }
-    ensures moments { (began : ℕ)
-        → LeavesInTurn began ((F.state file.old).bytes ++ bytes.now) (F.state file.old) (F.state file.new) }
-{
-    file.write(bytes)?;
-    file.keep()
-}
-
-impl<F: MailboxFile + Drop, C: Clock + Drop> FileSpool<F, C> {
-    ghost use Rattle.mbox_file.specs.MailboxFile.{IsEnd};
-    ghost use Rattle.mbox_rd.specs.Turn.{HasBegun, HasMissed, StaysThere};
-    ghost use Rattle.mbox_rd.specs.FileSpool.{AddsLines, StartsTurn, CountsRefusal, KnowsEnd};
 
     // Asks for a turn. After one that broke, what the path names is opened first.
     fn ask(&mut self) -> Result<FileEnd, InUse>
@@ -306,55 +224,6 @@ impl<F: MailboxFile + Drop, C: Clock + Drop> FileSpool<F, C> {
         self.turns.miss();
         Err(in_use)
     }
-
-    // Puts as many bytes as may wait besides into the buffer.
-    fn take(&mut self, piece: &[u8], free: usize) -> usize
-        requires free { 0 < free }
-        requires room { length self.old.waiting + free ≤ 262_144 }
-        requires some { 0 < length piece.now }
-        requires turn { self.old.in_turn ≡ true }
-        requires sound { self.old.has_failed ≡ false }
-        ensures within { (1 ≤ result) × (result ≤ length piece.now) }
-        ensures new { self.new ≡ record self.old {
-          waiting = self.old.waiting ++ take result piece.now;
-          is_unsynced = true;
-        } }
-        ensures ends { KnowsEnd F.state self.new }
-    {
-        let n = piece.len().min(free);
-        let taken = &piece[..n];
-        if self.waiting.extend_from_slice(taken).is_err() {
-            unreachable!();
-        }
-        self.is_unsynced = true;
-        n
-    }
-
-    // Puts the lines of a piece into the buffer as they are written, where that many bytes may wait besides.
-    fn take_lines(&mut self, piece: &[u8], free: usize) -> usize
-        requires free { 64 ≤ free }
-        requires room { length self.old.waiting + free ≤ 262_144 }
-        requires lines { HasLines piece.now }
-        requires turn { self.old.in_turn ≡ true }
-        requires sound { self.old.has_failed ≡ false }
-        ensures some { 0 < result }
-        ensures new { self.new ≡ record self.old { waiting = self.new.waiting; is_unsynced = true } }
-        ensures lines { AddsLines self.old.waiting self.new.waiting piece.now result }
-        ensures ends { KnowsEnd F.state self.new }
-    {
-        let held = self.waiting.len();
-        if self
-            .waiting
-            .resize(held + free.min(LINES_ROOM + piece.len()), 0)
-            .is_err()
-        {
-            unreachable!();
-        }
-        let copied = copy_lines(piece, &mut self.waiting[held..]);
-        self.waiting.truncate(held + copied.made);
-        self.is_unsynced = true;
-        copied.taken
-    }
 }
 
 impl<F: MailboxFile + Drop, C: Clock + Drop> Spool for FileSpool<F, C> {
@@ -385,7 +254,8 @@ impl<F: MailboxFile + Drop, C: Clock + Drop> Spool for FileSpool<F, C> {
             → OnOk result (Rises (F.state self.old.file).openings (F.state self.new.file).openings) }
         ensures count { IfOk result (λ held. held ≡ self.new.began) }
         ensures refused { OnErr result (CountsRefusal self.old self.new) }
-        ensures not_had { self.old.in_turn ≡ false → OnErr result (HasMissed (F.state self.old.file) (F.state self.new.file)) }
+        ensures not_had { self.old.in_turn ≡ false
+            → OnErr result (HasMissed (F.state self.old.file) (F.state self.new.file)) }
 
         // what every spool ensures
         ensures asks { AsksForTurn (⟦<FileSpool<F, C> as Spool>⟧.state self.old)

@@ -1,6 +1,6 @@
 use Rattle.mbox_rd.proofs.Leaving.{after_failed_write, after_keep}
 use Rattle.mbox_rd.proofs.Losing.{unkept}
-use Rattle.mbox_rd.proofs.file.write_and_keep.Goals as goal
+use Rattle.mbox_rd.proofs.file.waiting.write_and_keep.Goals as goal
 
 pub returns-in_err-write-clause-moments : goal.returns-in_err-write-clause-moments
 returns-in_err-write-clause-moments g c = λ began lock at.

@@ -1,0 +1,146 @@
+//! What a turn took and the file hasn't: how much of it may wait, and how it is written and kept.
+ghost use Rattle.std.specs.Prelude.{◌≡◌, ◌≢◌, ◌<◌, ◌≤◌, ◌+◌, ℕ, [], ◌++◌, true, false, length, take};
+ghost use Rattle.std.specs.Prelude.{IfErr, OnOk, OnErr};
+ghost use Rattle.mbox_record.specs.Lines.{HasLines};
+ghost use Rattle.mbox_file.specs.MailboxFile.{IsHeld};
+ghost use Rattle.mbox_rd.specs.FileSpool.{KeepsWritten, LosesPart};
+ghost use Rattle.mbox_rd.specs.Moments.{LeavesInTurn};
+
+use super::FileSpool;
+use mbox_file::MailboxFile;
+use mbox_record::{LINES_ROOM, Spool, SpoolFault, copy_lines};
+use std::io;
+use std::time::Clock;
+
+/// The bytes that wait at most before they are written. Writes but the last end at a multiple of it in the file: so the
+/// system has whole large pages of a large record, which it makes and keeps in less time.
+pub(super) const BUFFER_SIZE: usize = 262_144;
+
+// How many bytes go to the next multiple of the buffer's size after that place of a file.
+pub(super) fn room_at(at: u64) -> usize
+    ensures { (1 ≤ result) × (result ≤ BUFFER_SIZE) }
+{
+    BUFFER_SIZE - (at % BUFFER_SIZE as u64) as usize
+}
+
+impl<F: MailboxFile + Drop, C: Clock + Drop> FileSpool<F, C> {
+    ghost use Rattle.mbox_file.specs.MailboxFile.{HasAppended, HasNotAppended};
+    ghost use Rattle.mbox_rd.specs.FileSpool.{HasWritten, HasNotWritten, KeepsAll, HasLost, AddsLines, KnowsEnd};
+    ghost use Rattle.mbox_rd.specs.FileSpool.{contents_of};
+
+    // Puts as many bytes as may wait besides into the buffer.
+    pub(super) fn take(&mut self, piece: &[u8], free: usize) -> usize
+        requires free { 0 < free }
+        requires room { length self.old.waiting + free ≤ 262_144 }
+        requires some { 0 < length piece.now }
+        requires turn { self.old.in_turn ≡ true }
+        requires sound { self.old.has_failed ≡ false }
+        ensures within { (1 ≤ result) × (result ≤ length piece.now) }
+        ensures new { self.new ≡ record self.old {
+          waiting = self.old.waiting ++ take result piece.now;
+          is_unsynced = true;
+        } }
+        ensures ends { KnowsEnd F.state self.new }
+    {
+        let n = piece.len().min(free);
+        let taken = &piece[..n];
+        if self.waiting.extend_from_slice(taken).is_err() {
+            unreachable!();
+        }
+        self.is_unsynced = true;
+        n
+    }
+
+    // Puts the lines of a piece into the buffer as they are written, where that many bytes may wait besides.
+    pub(super) fn take_lines(&mut self, piece: &[u8], free: usize) -> usize
+        requires free { 64 ≤ free }
+        requires room { length self.old.waiting + free ≤ 262_144 }
+        requires lines { HasLines piece.now }
+        requires turn { self.old.in_turn ≡ true }
+        requires sound { self.old.has_failed ≡ false }
+        ensures some { 0 < result }
+        ensures new { self.new ≡ record self.old { waiting = self.new.waiting; is_unsynced = true } }
+        ensures lines { AddsLines self.old.waiting self.new.waiting piece.now result }
+        ensures ends { KnowsEnd F.state self.new }
+    {
+        let held = self.waiting.len();
+        if self
+            .waiting
+            .resize(held + free.min(LINES_ROOM + piece.len()), 0)
+            .is_err()
+        {
+            unreachable!();
+        }
+        let copied = copy_lines(piece, &mut self.waiting[held..]);
+        self.waiting.truncate(held + copied.made);
+        self.is_unsynced = true;
+        copied.taken
+    }
+
+    // Writes what waits. How the file ends is known again after each write, and not after each piece; nobody knows it
+    // where one failed.
+    pub(super) fn write_waiting(&mut self) -> Result<(), SpoolFault>
+        requires turn { self.old.in_turn ≡ true }
+        requires settled { self.old.is_unsettled ≡ false }
+        ensures ok { OnOk result (HasWritten self.old self.new) }
+        ensures written { OnOk result (HasAppended (F.state self.old.file) (F.state self.new.file) self.old.waiting) }
+        ensures err { OnErr result (HasNotWritten self.old self.new) }
+        ensures failed { OnErr result
+            (HasNotAppended (F.state self.old.file) (F.state self.new.file) self.old.waiting) }
+        ensures reason { IfErr result (λ fault. fault ≢ SpoolFault.NoTurn) }
+        ensures moments { LeavesInTurn self.old.began (contents_of F.state self.old)
+            (F.state self.old.file) (F.state self.new.file) }
+    {
+        let tail = self.tail();
+        match self.file.write(&self.waiting) {
+            Ok(()) => {
+                self.waiting.clear();
+                self.tail = tail;
+                self.room = BUFFER_SIZE;
+                Ok(())
+            }
+            Err(unwritten) => {
+                self.has_failed = true;
+                Err(SpoolFault::of(&unwritten))
+            }
+        }
+    }
+
+    // The same, and has all of the file kept.
+    pub(super) fn keep_waiting(&mut self) -> Result<(), SpoolFault>
+        requires turn { self.old.in_turn ≡ true }
+        requires settled { self.old.is_unsettled ≡ false }
+        ensures ok { OnOk result (HasWritten self.old self.new) }
+        ensures kept { OnOk result (KeepsAll F.state self.old self.new) }
+        ensures err { OnErr result (HasNotWritten self.old self.new) }
+        ensures failed { OnErr result (HasLost F.state self.old self.new) }
+        ensures reason { IfErr result (λ fault. fault ≢ SpoolFault.NoTurn) }
+        ensures moments { LeavesInTurn self.old.began (contents_of F.state self.old)
+            (F.state self.old.file) (F.state self.new.file) }
+    {
+        let end = self.tail();
+        match write_and_keep(&mut self.file, &self.waiting) {
+            Ok(()) => {
+                self.waiting.clear();
+                self.tail = end;
+                Ok(())
+            }
+            Err(unkept) => {
+                self.has_failed = true;
+                Err(SpoolFault::of(&unkept))
+            }
+        }
+    }
+}
+
+fn write_and_keep<F: MailboxFile>(file: &mut F, bytes: &[u8]) -> io::Result<()>
+    requires held { IsHeld (F.state file.old) }
+    requires settled { (F.state file.old).cut_off ≡ [] }
+    ensures kept { OnOk result (KeepsWritten (F.state file.old) (F.state file.new) bytes.now) }
+    ensures lost { OnErr result (LosesPart (F.state file.old) (F.state file.new) bytes.now) }
+    ensures moments { (began : ℕ)
+        → LeavesInTurn began ((F.state file.old).bytes ++ bytes.now) (F.state file.old) (F.state file.new) }
+{
+    file.write(bytes)?;
+    file.keep()
+}
