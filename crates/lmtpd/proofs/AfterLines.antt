@@ -2,7 +2,7 @@
 use Rattle.std.proofs.Common.{◌∙◌, ◌++◌, List, ℕ, Option, Err, Ok, OnErr, ap, append_assoc, sym}
 use Rattle.std.specs.Prelude.{Result}
 use Rattle.std.specs.Io.KnownBytes.{Appends}
-use Rattle.lmtpd_words.specs.Output.{IsCutOff}
+use Rattle.lmtpd_output.specs.Output.{IsCutOff}
 use Rattle.std.proofs.KnownBytes.{Appends-trans}
 
 cut_after : (u v w : Option (List ℕ)) (before text : List ℕ) → Appends u v before → IsCutOff v w text → IsCutOff u w (before ++ text)

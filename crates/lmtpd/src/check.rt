@@ -7,12 +7,13 @@ ghost use Rattle.lmtpd.specs.Lacking.{check_fault, check_status};
 ghost use Rattle.lmtpd.specs.Program.{IsCheckedAsAsked};
 ghost use Rattle.lmtpd_setup.specs.Lines.{line_after};
 ghost use Rattle.lmtpd_check.specs.Checked.{is_letters, unlocked_lines};
-ghost use Rattle.lmtpd_words.specs.Output.{IsCutOff, IsListed};
+ghost use Rattle.lmtpd_output.specs.Output.{IsCutOff, IsListed};
 
 use crate::lacking::check_fault;
 use lmtpd_check::{Checked, Finding, check_files, write_unlocked_lines};
+use lmtpd_output::WriteFault;
 use lmtpd_setup::{Exit, Fault, write_fault};
-use lmtpd_words::{CheckWords, WriteFault};
+use lmtpd_words::CheckWords;
 use mbox_rd::RangeLock;
 use std::fs::Files;
 use std::io::Write;

@@ -4,12 +4,13 @@ ghost use Rattle.std.specs.Prelude.{◌≡◌, ◌++◌, ◌∷◌, [], codes, O
 ghost use Rattle.std.specs.Io.KnownBytes.{Appends};
 ghost use Rattle.mail_world.specs.Text.{lf};
 ghost use Rattle.lmtpd_setup.specs.Lines.{mark};
-ghost use Rattle.lmtpd_words.specs.Output.{IsCutOff, IsListed};
+ghost use Rattle.lmtpd_output.specs.Output.{IsCutOff, IsListed};
 ghost use Rattle.lmtpd.specs.Copied.{IsCopiedAsAsked, copy_line, copy_status};
 
 use lmtpd_copy::{CopyFault, CopyTarget, TargetFile, copy_file};
+use lmtpd_output::{WriteFault, write_each};
 use lmtpd_setup::{Exit, Fault, mark, write_fault};
-use lmtpd_words::{CopyWords, WriteFault, write_each};
+use lmtpd_words::CopyWords;
 use mbox_rd::{MailboxFile, MailboxSource, RangeLock, StdMailboxFile};
 use std::alloc::Global;
 use std::fs::Files;

@@ -12,8 +12,9 @@ mod program;
 mod rehearse;
 mod serve;
 
+use lmtpd_output::is_journal;
 use lmtpd_setup::Stop;
-use lmtpd_words::{is_journal, not_text};
+use lmtpd_words::not_text;
 use program::run_program;
 use std::alloc::AllocError;
 use std::process::ExitCode;

@@ -6,9 +6,9 @@ use Rattle.std.specs.Io.KnownBytes.{Appends}
 use Rattle.std.proofs.lemmas.List.{get_or-map, length-map}
 use Rattle.std.proofs.lemmas.List.Elements.{All-nil, All-push}
 use Rattle.lmtp_text.specs.Sites.{texts}
-use Rattle.lmtpd_words.specs.Output.{IsCutOff, pair_texts}
+use Rattle.lmtpd_output.specs.Output.{IsCutOff, pair_texts}
 use Rattle.std.proofs.KnownBytes.{Appends-trans}
-use Rattle.lmtpd_words.proofs.Written.{Appends-nil, breaks_next}
+use Rattle.lmtpd_output.proofs.Written.{Appends-nil, breaks_next}
 use Rattle.lmtpd_check.specs.Checked.{AreAmong, finding_line, finding_lines, IsFindingOf, IsChecked}
 use Rattle.lmtpd_check.specs.declared.checked.Finding.{Finding}
 

@@ -9,7 +9,7 @@ use Rattle.mbox_check.specs.Form.{IsCountOf, IsFaultOf}
 use Rattle.mbox_check.specs.declared.fault.BadForm.{BadForm}
 use Rattle.mbox_check.specs.declared.fault.BadForm.TheVariants.{NoFromLine, NoEmptyLine}
 use Rattle.mbox_check.specs.declared.fault.CheckFault.TheVariants as fault
-use Rattle.lmtpd_words.specs.Output.{IsCutOff, pair_texts}
+use Rattle.lmtpd_output.specs.Output.{IsCutOff, pair_texts}
 use Rattle.lmtpd_check.specs.declared.checked.Finding.{Finding}
 use Rattle.lmtpd_check.specs.declared.checked.Finding.TheVariants.{Letters, Form, Unread}
 

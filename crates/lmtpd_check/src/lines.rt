@@ -2,12 +2,12 @@
 
 ghost use Rattle.std.specs.Prelude.{◌≡◌, OnOk, OnErr};
 ghost use Rattle.std.specs.Io.KnownBytes.{Appends};
-ghost use Rattle.lmtpd_words.specs.Output.{IsCutOff};
+ghost use Rattle.lmtpd_output.specs.Output.{IsCutOff};
 ghost use Rattle.lmtpd_check.specs.Checked.{bad_line, finding_line, number_line, unlocked_line, unlocked_lines};
 
 use crate::checked::Finding;
 use itoa::Buffer;
-use lmtpd_words::{WriteFault, hand_on, write_each};
+use lmtpd_output::{WriteFault, hand_on, write_each};
 use mbox_check::BadForm;
 use std::io::Write;
 
@@ -34,7 +34,7 @@ fn write_unlocked<E: Write>(error: &mut E, name: &str) -> Result<(), WriteFault>
 }
 
 /// Writes a file's line, and has the writer hand it on. After a fault the writer has gained a prefix of the line.
-#[tactic(auto, using(lmtpd_words::proofs::Handed::whole_kept, lmtpd_words::proofs::Handed::whole_cut))]
+#[tactic(auto, using(lmtpd_output::proofs::Handed::whole_kept, lmtpd_output::proofs::Handed::whole_cut))]
 pub fn write_finding<W: Write>(
     writer: &mut W,
     name: &str,

@@ -2,7 +2,7 @@
 use Rattle.std.proofs.Common.{◌≡◌, ℕ, ◌<◌, List, [], length, get_or, sym, ap, ◌∙◌, arith}
 use Rattle.std.proofs.lemmas.List.{length-map, get_or-map}
 use Rattle.mail_world.specs.Site.{Site, box_name}
-use Rattle.lmtpd_words.proofs.Listed.{IsPairAt}
+use Rattle.lmtpd_output.proofs.Listed.{IsPairAt}
 use Rattle.lmtpd_rehearse.specs.Mailboxes.{Mailbox, bytes_of_all}
 
 -- a mailbox with its bytes

@@ -46,7 +46,7 @@ use Rattle.lmtpd_rehearse.specs.Copies.{HoldsCopies}
 use Rattle.lmtpd_rehearse.specs.Client.{MayGive, told as told_by, is_last_told, unseen, IsOnlyOver}
 use Rattle.lmtpd_rehearse.specs.Mailboxes.{Mailbox, MailboxContent, kept_all, kept_at, bytes_of_all, empty_mailbox, mailbox_room, texts_of_mailboxes, IsCalm}
 use Rattle.lmtpd_rehearse.specs.Rehearsal.{AreMailboxes, copies_due, told_of_box, model_of, IsRunOfRehearsal, RehearsalEndsFor, HeldState, IsHeld, IsRehearsed}
-use Rattle.lmtpd_words.specs.Output.{IsListed}
+use Rattle.lmtpd_output.specs.Output.{IsListed}
 use Rattle.lmtpd_rehearse.specs.Rehearsal.{Streams}
 use Rattle.lmtpd_rehearse.proofs.Boxes.{get_same, kept_is, length-kept, bytes_are, none_failed, all_calm}
 use Rattle.mail_world.specs.Runs.{events_of, offers_by}

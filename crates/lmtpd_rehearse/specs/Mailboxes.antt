@@ -6,7 +6,7 @@ use Rattle.mail_world.specs.Site.{Site}
 use Rattle.mbox_record.specs.MemorySpool.{MemorySpool, unused}
 use Rattle.lmtp_threads.specs.declared.tally.Tally.{Tally}
 use Rattle.lmtp_threads.specs.declared.watched.Watched.{Watched}
-use Rattle.lmtpd_words.specs.Output.{pair_texts}
+use Rattle.lmtpd_output.specs.Output.{pair_texts}
 use Rattle.lmtpd_rehearse.specs.declared.parts.TheConstants.{MAILBOX_ROOM}
 
 -- a mailbox in memory, whose turns nobody sees

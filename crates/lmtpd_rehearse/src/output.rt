@@ -2,13 +2,13 @@
 
 ghost use Rattle.std.specs.Prelude.{◌≡◌, ◌++◌, length, OnOk, OnErr};
 ghost use Rattle.std.specs.Io.KnownBytes.{Appends};
-ghost use Rattle.lmtpd_words.specs.Output.{IsCutOff};
+ghost use Rattle.lmtpd_output.specs.Output.{IsCutOff};
 ghost use Rattle.lmtpd_rehearse.specs.Mailboxes.{bytes_of_all, mailbox_line, texts_of_mailboxes};
 
 use super::parts::Mailbox;
 use itoa::Buffer;
 use lmtp_text::Site;
-use lmtpd_words::{WriteFault, write_each};
+use lmtpd_output::{WriteFault, write_each};
 use std::io::Write;
 
 // Writes the line of a mailbox, and what it holds.

@@ -5,7 +5,7 @@ ghost use Rattle.std.specs.Arc.{arc_value};
 ghost use Rattle.lmtpd_rehearse.specs.Mailboxes.{bytes_of_all, texts_of_mailboxes};
 ghost use Rattle.lmtpd_rehearse.specs.Client.{IsOnlyOver, unseen};
 ghost use Rattle.lmtpd_rehearse.specs.declared.client.OnlyClient.TheVariants as OnlyClient;
-ghost use Rattle.lmtpd_words.specs.Output.{IsListed};
+ghost use Rattle.lmtpd_output.specs.Output.{IsListed};
 ghost use Rattle.lmtpd_rehearse.specs.Rehearsal.{IsRehearsed, IsBlockCount, IsHeld};
 
 use super::client::OnlyClient;

@@ -2,8 +2,8 @@
 use Rattle.std.proofs.Common.{◌≡◌, ◌∙◌, ◌++◌, Bool, true, false, List, ℕ, Option, ap, append_assoc, refl, subst, sym}
 use Rattle.std.specs.Io.KnownBytes.{Appends}
 use Rattle.std.proofs.KnownBytes.{Appends-trans}
-use Rattle.lmtpd_words.specs.Output.{IsListed}
-use Rattle.lmtpd_words.proofs.Written.{Appends-keeps}
+use Rattle.lmtpd_output.specs.Output.{IsListed}
+use Rattle.lmtpd_output.proofs.Written.{Appends-keeps}
 use Rattle.lmtpd_serve.specs.Served.{IsAnnounced, ListsOn}
 
 pub said_on : (unknown was cut : Bool) (u v w : Option (List ℕ)) (text : List ℕ) (a : IsAnnounced unknown u v was) → ListsOn was text v w cut

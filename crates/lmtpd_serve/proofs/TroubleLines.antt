@@ -4,7 +4,7 @@ use Rattle.std.specs.Arc.{arc_value}
 use Rattle.mail_world.specs.Site.{Site, box_name}
 use Rattle.mail_world.specs.Text.{lf}
 use Rattle.lmtp_threads.specs.declared.tally.Tally.{Tally}
-use Rattle.lmtpd_words.proofs.Listed.{IsPairAt}
+use Rattle.lmtpd_output.proofs.Listed.{IsPairAt}
 use Rattle.lmtpd_serve.specs.declared.served.Served.{Served}
 
 -- the pieces of a line

@@ -19,7 +19,7 @@ use Rattle.lmtp_lane.specs.TcpVisits.{IsLaneOf, IsNewcomer, connections_left, co
 use Rattle.lmtp_lane.specs.TcpVisits.{is_over, shares, told_by, was_stopped}
 use Rattle.lmtp_lane.specs.declared.tcp.visits.TcpVisits.{TcpVisits}
 use Rattle.lmtp_talk.specs.Entries.{Entry}
-use Rattle.lmtpd_words.specs.Output.{IsListed, pair_texts}
+use Rattle.lmtpd_output.specs.Output.{IsListed, pair_texts}
 use Rattle.lmtpd_serve.specs.declared.conversations.Conversations.{Conversations}
 use Rattle.lmtpd_serve.specs.declared.lines.Trouble.{Trouble}
 use Rattle.lmtpd_serve.specs.declared.lines.Trouble.TheVariants.{InUse, OverQuota}

@@ -3,7 +3,7 @@
 
 ghost use Rattle.std.specs.Prelude.{◌≡◌, length, string_bytes, IfOk, OnOk, OnErr};
 ghost use Rattle.std.specs.Io.KnownBytes.{Appends};
-ghost use Rattle.lmtpd_words.specs.Output.{IsCutOff};
+ghost use Rattle.lmtpd_output.specs.Output.{IsCutOff};
 ghost use Rattle.lmtpd_serve.specs.Served.{endpoint_line, count_line, counts_text, count_told, words_of, trouble_line};
 ghost use Rattle.lmtpd_serve.specs.Served.{trouble_told, trouble_lines_of, trouble_lines};
 
@@ -11,7 +11,7 @@ use super::served::Served;
 use itoa::Buffer;
 use lmtp_house::{Endpoint, Tally};
 use lmtp_text::Site;
-use lmtpd_words::{WriteFault, write_each};
+use lmtpd_output::{WriteFault, write_each};
 use std::alloc::{AllocError, Global};
 use std::io::Write;
 

@@ -2,13 +2,13 @@
 
 ghost use Rattle.std.specs.Prelude.{◌≡◌, length, IfOk, OnOk, OnErr};
 ghost use Rattle.std.specs.Io.KnownBytes.{Appends};
-ghost use Rattle.lmtpd_words.specs.Output.{IsCutOff, IsListed};
+ghost use Rattle.lmtpd_output.specs.Output.{IsCutOff, IsListed};
 ghost use Rattle.lmtpd_serve.specs.Served.{IsAnnounced, ListsOn, counts_text};
 
 use super::lines::{endpoint_line, write_counts};
 use lmtp_house::{Listener, Tally};
 use lmtp_text::Site;
-use lmtpd_words::{WriteFault, hand_on, write_bytes};
+use lmtpd_output::{WriteFault, hand_on, write_bytes};
 use std::alloc::{AllocError, Global};
 use std::io::Write;
 
@@ -64,7 +64,7 @@ fn is_line_cut<W: Write>(line: &[u8], writer: &mut W) -> bool
     say_line(line, writer).is_err()
 }
 
-#[tactic(auto, using(lmtpd_words::proofs::Handed::whole_kept, lmtpd_words::proofs::Handed::whole_cut))]
+#[tactic(auto, using(lmtpd_output::proofs::Handed::whole_kept, lmtpd_output::proofs::Handed::whole_cut))]
 fn say_line<W: Write>(line: &[u8], writer: &mut W) -> Result<(), WriteFault>
     ensures ok { OnOk result (Appends (W.contents writer.old) (W.contents writer.new) line.now) }
     ensures err { OnErr result (IsCutOff (W.contents writer.old) (W.contents writer.new) line.now) }
@@ -82,7 +82,7 @@ fn are_counts_cut<W: Write>(site: &Site, tallies: &[Tally], writer: &mut W) -> b
     say_counts(site, tallies, writer).is_err()
 }
 
-#[tactic(auto, using(lmtpd_words::proofs::Handed::whole_kept, lmtpd_words::proofs::Handed::whole_cut))]
+#[tactic(auto, using(lmtpd_output::proofs::Handed::whole_kept, lmtpd_output::proofs::Handed::whole_cut))]
 fn say_counts<W: Write>(site: &Site, tallies: &[Tally], writer: &mut W) -> Result<(), WriteFault>
     requires { length tallies.now ≡ length site.now.boxes }
     ensures ok { OnOk result (Appends (W.contents writer.old) (W.contents writer.new)

@@ -2,7 +2,7 @@
 use Rattle.std.specs.Prelude.{ℕ, Bool, List, [], ◌∷◌, ◌++◌, codes, Option, Some, None, string_bytes}
 use Rattle.log.specs.declared.level.Level.TheVariants as level
 use Rattle.mail_world.specs.Text.{lf}
-use Rattle.lmtpd_words.specs.Journal.{priority_in}
+use Rattle.lmtpd_output.specs.Journal.{priority_in}
 use Rattle.lmtpd_setup.specs.Faults.{fault_text, status_of}
 use Rattle.lmtpd_setup.specs.declared.fault.Fault.{Fault}
 use Rattle.lmtpd_setup.specs.declared.stop.Stop.{Stop}

@@ -13,7 +13,7 @@ use Rattle.mail_world.specs.Text.{lf}
 use Rattle.mail_world.specs.declared.limits.TheConstants.{BOX_LIMIT}
 use Rattle.lmtp_text.specs.Sites.{texts}
 use Rattle.lmtpd_words.specs.Boxes.{IsLineOfName, listed_boxes}
-use Rattle.lmtpd_words.specs.Printable.{printable_text}
+use Rattle.lmtpd_output.specs.Printable.{printable_text}
 use Rattle.lmtpd_words.specs.declared.words.ServeWords.{ServeWords}
 use Rattle.lmtpd_words.specs.declared.words.SiteWords.{SiteWords}
 use Rattle.lmtpd_setup.specs.Faults.{fault_text, is_usable_name, site_fault}

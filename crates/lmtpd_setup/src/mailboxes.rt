@@ -4,7 +4,7 @@ ghost use Rattle.std.specs.Prelude.{◌≡◌, [], Some, length, map, string_byt
 ghost use Rattle.std.specs.List.{AllByRecursion};
 ghost use Rattle.mbox_file.specs.StdFile.{file_mode, file_path};
 ghost use Rattle.lmtpd_log.specs.MailboxLogs.{name_in, turns_told};
-ghost use Rattle.lmtpd_words.specs.Printable.{printable_text};
+ghost use Rattle.lmtpd_output.specs.Printable.{printable_text};
 ghost use Rattle.lmtpd_setup.specs.Mailboxes.{IsUntold, held_as, held_at, path_at};
 ghost use Rattle.lmtpd_setup.specs.Unopened.{AreNotOpen, IsNotOpen};
 
@@ -14,7 +14,7 @@ use crate::hurried::HurriedClock;
 use crate::stop::Stop;
 use lmtp_threads::Watched;
 use lmtpd_log::{LogSink, MailboxLog};
-use lmtpd_words::printable;
+use lmtpd_output::printable;
 use log::{Log, error};
 use mbox_rd::{FileSpool, MailboxFile, RangeLock, StdMailboxFile};
 use std::alloc::{AllocError, Global};

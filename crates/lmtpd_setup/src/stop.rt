@@ -6,14 +6,14 @@ ghost use Rattle.clap.specs.Words.{kind_of};
 ghost use Rattle.lmtpd_setup.specs.Faults.{listen_refusal, status_of, stop_for, stop_status, words_status};
 ghost use Rattle.lmtpd_setup.specs.Lines.{line_after, mark, named_lines, status_after, stop_line, unopened_line};
 ghost use Rattle.lmtpd_setup.specs.Lines.{unread_line};
-ghost use Rattle.lmtpd_words.specs.Output.{IsCutOff, IsListed};
+ghost use Rattle.lmtpd_output.specs.Output.{IsCutOff, IsListed};
 ghost use Rattle.mail_world.specs.Text.{lf};
 
 use crate::fault::Fault;
 use clap::Error;
 use clap::error::ErrorKind;
 use lmtpd_listen::ListenFault;
-use lmtpd_words::{Urgent, WriteFault, priority_in, write_each};
+use lmtpd_output::{Urgent, WriteFault, priority_in, write_each};
 use log::Level;
 use std::io::Write;
 

@@ -4,13 +4,13 @@ ghost use Rattle.std.specs.Prelude.{◌≡◌, ◌++◌, OnOk, OnErr};
 ghost use Rattle.std.specs.Io.KnownBytes.{Appends};
 ghost use Rattle.lmtpd.specs.Lacking.{server_fault};
 ghost use Rattle.lmtpd_setup.specs.Lines.{line_after, status_after};
-ghost use Rattle.lmtpd_words.specs.Output.{IsCutOff, IsListed};
+ghost use Rattle.lmtpd_output.specs.Output.{IsCutOff, IsListed};
 ghost use Rattle.lmtpd_serve.specs.Served.{trouble_lines};
 
 use crate::lacking::server_fault;
+use lmtpd_output::WriteFault;
 use lmtpd_serve::{Served, write_trouble_lines};
 use lmtpd_setup::{Exit, Fault, status_after, write_fault};
-use lmtpd_words::WriteFault;
 use std::io::Write;
 
 /// Says on `error` which mailboxes are over their quota, and then what is lacking, if anything is, and gives the

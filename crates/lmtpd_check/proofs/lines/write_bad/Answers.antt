@@ -1,7 +1,7 @@
 use Rattle.std.proofs.Common.{OnErr, OnOk, subst, sym}
 use Rattle.std.specs.Io.KnownBytes.{Appends}
 use Rattle.mbox_check.specs.declared.fault.BadForm.{BadForm}
-use Rattle.lmtpd_words.specs.Output.{IsCutOff}
+use Rattle.lmtpd_output.specs.Output.{IsCutOff}
 use Rattle.lmtpd_check.specs.Checked.{bad_line}
 use Rattle.lmtpd_check.proofs.lines.write_bad.Goals as goal
 

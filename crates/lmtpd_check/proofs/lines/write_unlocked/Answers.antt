@@ -1,5 +1,5 @@
 use Rattle.std.proofs.Common.{List, ℕ, OnErr, subst}
-use Rattle.lmtpd_words.specs.Output.{IsCutOff}
+use Rattle.lmtpd_output.specs.Output.{IsCutOff}
 use Rattle.lmtpd_check.specs.Checked.{unlocked_line}
 use Rattle.lmtpd_check.proofs.lines.write_unlocked.Goals as goal
 

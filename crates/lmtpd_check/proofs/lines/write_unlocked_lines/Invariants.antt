@@ -1,5 +1,5 @@
 use Rattle.std.proofs.Common.{drop}
-use Rattle.lmtpd_words.proofs.Written.{WritesUpTo}
+use Rattle.lmtpd_output.proofs.Written.{WritesUpTo}
 use Rattle.lmtpd_check.specs.Checked.{unlocked_lines}
 use Rattle.lmtpd_check.proofs.lines.write_unlocked_lines.Given as goal
 

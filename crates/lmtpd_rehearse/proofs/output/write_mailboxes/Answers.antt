@@ -2,7 +2,7 @@ use Rattle.std.proofs.Common.{◌<◌, length, arith}
 use Rattle.mbox_record.proofs.Taken.{OnErr-any}
 use Rattle.lmtpd_rehearse.specs.Mailboxes.{bytes_of_all, mailbox_output}
 use Rattle.lmtpd_rehearse.proofs.Listed.{mailbox_at}
-use Rattle.lmtpd_words.proofs.Listed.{pair_written, pair_broken}
+use Rattle.lmtpd_output.proofs.Listed.{pair_written, pair_broken}
 use Rattle.lmtpd_rehearse.proofs.output.write_mailboxes.Goals as goal
 
 pub returns-in_err-write_mailbox-clause-err : goal.returns-in_err-write_mailbox-clause-err

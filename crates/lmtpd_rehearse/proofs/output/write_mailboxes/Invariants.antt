@@ -1,6 +1,6 @@
 use Rattle.std.proofs.Common.{drop}
 use Rattle.lmtpd_rehearse.specs.Mailboxes.{bytes_of_all, texts_of_mailboxes}
-use Rattle.lmtpd_words.proofs.Written.{WritesUpTo}
+use Rattle.lmtpd_output.proofs.Written.{WritesUpTo}
 use Rattle.lmtpd_rehearse.proofs.output.write_mailboxes.Given as goal
 
 abbrev pub invariant-loop-number : goal.invariant-loop-number

@@ -2,7 +2,7 @@ use Rattle.std.proofs.Common.{◌∙◌, sym, ap, length, List, subst}
 use Rattle.std.specs.Arc.{arc_value}
 use Rattle.mail_world.specs.Site.{Site}
 use Rattle.lmtpd_rehearse.specs.Mailboxes.{Mailbox, texts_of_mailboxes, bytes_of_all}
-use Rattle.lmtpd_words.specs.Output.{IsListed}
+use Rattle.lmtpd_output.specs.Output.{IsListed}
 use Rattle.lmtpd_rehearse.specs.Rehearsal.{HeldState, IsHeld, Streams}
 use Rattle.lmtpd_rehearse.proofs.Ran.{as_many_mailboxes, rehearsed}
 use Rattle.lmtpd_rehearse.proofs.run.rehearse_run.Goals as goal

@@ -1,7 +1,7 @@
 use Rattle.std.proofs.Common.{◌<◌, arith, length}
 use Rattle.std.specs.Arc.{arc_value}
 use Rattle.mbox_record.proofs.Taken.{OnErr-any}
-use Rattle.lmtpd_words.proofs.Listed.{pair_written, pair_broken}
+use Rattle.lmtpd_output.proofs.Listed.{pair_written, pair_broken}
 use Rattle.lmtpd_serve.specs.Served.{trouble_told}
 use Rattle.lmtpd_serve.proofs.TroubleLines.{told_at}
 use Rattle.lmtpd_serve.proofs.lines.write_all_of.Goals as goal

@@ -1,7 +1,7 @@
 use Rattle.std.proofs.Common.{drop}
 use Rattle.std.specs.Arc.{arc_value}
-use Rattle.lmtpd_words.specs.Output.{pair_texts}
-use Rattle.lmtpd_words.proofs.Written.{WritesUpTo}
+use Rattle.lmtpd_output.specs.Output.{pair_texts}
+use Rattle.lmtpd_output.proofs.Written.{WritesUpTo}
 use Rattle.lmtpd_serve.specs.Served.{trouble_lines_of, trouble_told}
 use Rattle.lmtpd_serve.proofs.lines.write_all_of.Given as goal
 

@@ -1,7 +1,7 @@
 use Rattle.std.proofs.Common.{◌<◌, length, arith}
 use Rattle.mbox_record.proofs.Taken.{OnErr-any}
 use Rattle.lmtpd_serve.specs.Served.{count_line}
-use Rattle.lmtpd_words.proofs.Listed.{pair_at, pair_written, pair_broken}
+use Rattle.lmtpd_output.proofs.Listed.{pair_at, pair_written, pair_broken}
 use Rattle.lmtpd_serve.proofs.lines.write_counts.Goals as goal
 
 pub returns-in_err-write_count-clause-err : goal.returns-in_err-write_count-clause-err

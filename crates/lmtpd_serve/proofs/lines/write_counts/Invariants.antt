@@ -1,6 +1,6 @@
 use Rattle.std.proofs.Common.{drop}
 use Rattle.lmtpd_serve.specs.Served.{counts_text}
-use Rattle.lmtpd_words.proofs.Written.{WritesUpTo}
+use Rattle.lmtpd_output.proofs.Written.{WritesUpTo}
 use Rattle.lmtpd_serve.proofs.lines.write_counts.Given as goal
 
 abbrev pub invariant-loop-number : goal.invariant-loop-number

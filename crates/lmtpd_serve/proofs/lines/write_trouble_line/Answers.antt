@@ -1,7 +1,7 @@
 use Rattle.std.proofs.Common.{◌≡◌, List, ℕ, OnOk, OnErr, refl, rules, subst}
 use Rattle.std.specs.Prelude.{codes, decimal}
 use Rattle.std.specs.Io.KnownBytes.{Appends}
-use Rattle.lmtpd_words.specs.Output.{IsCutOff}
+use Rattle.lmtpd_output.specs.Output.{IsCutOff}
 use Rattle.lmtpd_serve.proofs.TroubleLines.{joined}
 use Rattle.lmtpd_serve.proofs.lines.write_trouble_line.Goals as goal
 

@@ -1,4 +1,4 @@
-use Rattle.lmtpd_words.specs.Printable.{printable_text}
+use Rattle.lmtpd_output.specs.Printable.{printable_text}
 use Rattle.lmtpd_setup.proofs.Paths.{path_told}
 use Rattle.lmtpd_setup.proofs.mailboxes.path_of.Goals as goal
 

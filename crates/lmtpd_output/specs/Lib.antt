@@ -1,0 +1,3 @@
+pub mod Journal
+pub mod Output
+pub mod Printable
