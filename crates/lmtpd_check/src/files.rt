@@ -7,7 +7,7 @@ ghost use Rattle.lmtpd_check.specs.Checked.{IsChecked};
 use crate::checked::{Checked, Finding};
 use crate::lines::write_finding;
 use crate::reader::check_file;
-use mbox_file::RangeLock;
+use mbox_locks::RangeLock;
 use std::alloc::{AllocError, Global};
 use std::fs::Files;
 use std::io::Write;

@@ -5,7 +5,7 @@ ghost use Rattle.lmtpd_check.specs.Checked.{IsFindingOf};
 
 use crate::checked::Finding;
 use mbox_check::{CheckFault, check_mailbox};
-use mbox_file::{LockKind, RangeLock};
+use mbox_locks::{LockKind, RangeLock};
 use std::fs::{File, Files};
 use std::io::ErrorKind;
 use std::time::{Clock, Duration};

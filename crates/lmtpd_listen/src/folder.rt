@@ -4,7 +4,7 @@ ghost use Rattle.std.specs.Prelude.{IfErr};
 ghost use Rattle.lmtpd_listen.specs.Opened.{IsListenFault};
 
 use crate::fault::{ListenFault, Reason};
-use mbox_file::FileLock;
+use mbox_locks::FileLock;
 use std::fs::{File, Files};
 use std::io::ErrorKind;
 use std::time::{Clock, Duration};

@@ -9,7 +9,7 @@ use crate::listen_address::ListenAddress;
 use crate::server::ServerSocket;
 use crate::socket_file::SocketFile;
 use crate::unix::open_unix;
-use mbox_file::FileLock;
+use mbox_locks::FileLock;
 use std::alloc::Global;
 use std::env::Env;
 use std::fs::Files;

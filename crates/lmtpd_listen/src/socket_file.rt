@@ -6,7 +6,7 @@ ghost use Rattle.std.specs.Prelude.{IfErr};
 
 use crate::fault::{ListenFault, Reason};
 use crate::folder::lock_folder;
-use mbox_file::FileLock;
+use mbox_locks::FileLock;
 use std::fs::{Files, Metadata};
 use std::os::unix::fs::{FileTypeExt, MetadataExt};
 use std::time::Clock;

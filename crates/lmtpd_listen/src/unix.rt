@@ -10,7 +10,7 @@ use crate::opened::Opened;
 use crate::server::ServerSocket;
 use crate::socket_file::{Made, Mark, SocketFile, mark_of, remove_made};
 use libc::net::listen;
-use mbox_file::FileLock;
+use mbox_locks::FileLock;
 use std::alloc::Global;
 use std::fs;
 use std::fs::{Files, Permissions};

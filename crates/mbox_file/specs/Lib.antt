@@ -1,4 +1,3 @@
-pub mod Holder
 pub mod MailboxFile
 pub mod MailboxSource
 pub mod Moment

@@ -1,28 +1,23 @@
 //! The file of a mailbox that other programs use too, with the locks that mail programs take.
 //!
 //! A `MailboxFile` is locked, looked at, written, kept and cut, one call after the other, and a `MailboxSource` is read
-//! under its locks. The layer above makes turns and a spool of them; other crates take its locks alone, `RangeLock` and
-//! `FileLock`. What is written, and when, is never known here.
+//! under its locks. The layer above makes turns and a spool of them. What is written, and when, is never known here.
 #![tactic(auto)]
 
 mod file;
-mod file_lock;
-mod holder;
 mod mailbox_file;
 mod mailbox_source;
 mod memory_file;
 mod plain;
-mod range_lock;
 mod stale;
 mod std_file;
 mod system_file;
 mod told;
 
 pub use file::{FileEnd, OWNER_ONLY, sync_folder};
-pub use file_lock::FileLock;
 pub use mailbox_file::MailboxFile;
 pub use mailbox_source::MailboxSource;
+pub use mbox_locks::{FileLock, LockKind, RangeLock};
 pub use memory_file::MemoryFile;
 pub use plain::remove_open;
-pub use range_lock::{LockKind, RangeLock};
 pub use std_file::StdMailboxFile;

@@ -1,6 +1,6 @@
 //! Lock files that nobody has: their process is gone, or they are older than any turn.
-use crate::holder::{Holder, Named, is_left_behind};
 use crate::plain::node_of;
+use mbox_locks::{Holder, Named, is_left_behind};
 use std::alloc::{AllocError, Global};
 use std::fs::{Files, Metadata, OpenFile, OpenOptions};
 use std::io;

@@ -13,9 +13,9 @@ use crate::file::{FileEnd, read_end, sync_folder};
 use crate::plain::{
     Node, OpenNode, Taken, is_same, node_of, open_plain, remove_node, remove_open, system_fault,
 };
-use crate::range_lock::{LockKind, RangeLock};
 use crate::stale::{is_stale, owner_text};
 use mail_world::limits::TAIL_SIZE;
+use mbox_locks::{LockKind, RangeLock};
 use mbox_record::InUse;
 use std::alloc::{AllocError, Global};
 use std::fs::{FileTimes, Files, Metadata, OpenFile, OpenOptions};

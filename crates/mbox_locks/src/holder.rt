@@ -1,6 +1,6 @@
 //! Whom a lock file names, and when it is left behind.
 ghost use Rattle.std.specs.Prelude.{◌≡◌, ℕ, None, IfSome};
-ghost use Rattle.mbox_file.specs.Holder.{NamesProcess, holder_here, is_left};
+ghost use Rattle.mbox_locks.specs.Holder.{NamesProcess, holder_here, is_left};
 
 /// A lock file that is older is left behind, unless a process of this host has it.
 const STALE_SECONDS: u64 = 300;
@@ -12,7 +12,7 @@ const BLANKS: [char; 3] = [' ', '\t', '\n'];
 
 /// Who has a lock file, as far as this host can tell.
 #[derive(Clone, Copy, Debug, PartialEq, Eq)]
-pub(crate) enum Holder {
+pub enum Holder {
     /// Nobody who could be asked for: it names no process, or one of another host, or one that is gone and nobody knows
     /// whether the server's user said so.
     Unknown,
@@ -40,7 +40,7 @@ impl Holder {
 
 /// Whether a lock file of that holder and age is left behind, on a host that was booted that many seconds ago. What is
 /// older than that no process has that is there now.
-pub(crate) fn is_left_behind(holder: Holder, age: u64, since_boot: u64) -> bool
+pub fn is_left_behind(holder: Holder, age: u64, since_boot: u64) -> bool
     ensures { result ≡ is_left holder age since_boot }
 {
     match holder {
@@ -52,7 +52,7 @@ pub(crate) fn is_left_behind(holder: Holder, age: u64, since_boot: u64) -> bool
 
 /// What a lock file says: a process, and its host, which is empty where it names none.
 #[derive(Clone, Copy)]
-pub(crate) struct Named<'a> {
+pub struct Named<'a> {
     pub process: Option<u32>,
     pub host: &'a str,
 }

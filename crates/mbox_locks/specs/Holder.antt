@@ -1,8 +1,8 @@
 -- Who has a lock file, and when it is left behind.
 use Rattle.std.specs.Prelude.{◌≡◌, ◌≢◌, ℕ, ◌≤◌, Bool, true, ◌||◌, ◌&&◌, cond, List, slice_index, nat_lt}
 use Rattle.std.specs.Str.Parse.{IsNumeral, digits_value}
-use Rattle.mbox_file.specs.declared.holder.Holder.{Holder}
-use Rattle.mbox_file.specs.declared.holder.Holder.TheVariants.{Unknown, Alive, Nobody}
+use Rattle.mbox_locks.specs.declared.holder.Holder.{Holder}
+use Rattle.mbox_locks.specs.declared.holder.Holder.TheVariants.{Unknown, Alive, Nobody}
 
 -- a number from 1 to 2^31 - 1 in decimal, whose first digit isn't 0
 pub record NamesProcess (text : List ℕ) (process : ℕ) : Type 0 where

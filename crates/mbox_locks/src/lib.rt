@@ -1,0 +1,13 @@
+//! The locks that mail programs take on a mailbox: on an open file, as traits, and by a lock file, which says whose it is.
+//!
+//! Other crates take the locks, and judge by a lock file's text, age and process whether it is left behind. No file is
+//! opened, read or removed here.
+#![tactic(auto)]
+
+mod file_lock;
+mod holder;
+mod range_lock;
+
+pub use file_lock::FileLock;
+pub use holder::{Holder, Named, is_left_behind};
+pub use range_lock::{LockKind, RangeLock};
