@@ -1,4 +1,5 @@
-"""usage: rounds.py FOLDER [--rounds N] [--works a,b,..] [--peers floor,ours,..] [--slow-sync] [--picture FILE.svg]
+"""usage: rounds.py FOLDER [--rounds N] [--times N] [--works a,b,..] [--peers floor,ours,..] [--slow-sync]
+                 [--picture FILE.svg]
 
 The rounds and the table of bench/serve.sh, which built `load`, `floor`, `plain` and slowsync.so in FOLDER.
 """
@@ -68,6 +69,7 @@ def main():
     options = argparse.ArgumentParser()
     options.add_argument("folder", type=pathlib.Path)
     options.add_argument("--rounds", type=int, default=3)
+    options.add_argument("--times", type=int)
     options.add_argument("--works", default=",".join(WORKS))
     options.add_argument("--peers", default=",".join(PEERS))
     options.add_argument("--slow-sync", action="store_true")
@@ -76,7 +78,7 @@ def main():
     signal.signal(signal.SIGTERM, lambda *_: sys.exit(143))
     # Dovecot's processes and smtp-sink aren't root's, and pass through the folder.
     given.folder.chmod(0o711)
-    bench = Bench(given.folder, given.slow_sync)
+    bench = Bench(given.folder, given.slow_sync, given.times)
     works, names = given.works.split(","), given.peers.split(",")
     there = [name for name in names if name == "floor" or not say_absent(name)]
     say_machine(given)
@@ -120,8 +122,9 @@ def say_run(number, work, name, run):
 
 
 class Bench:
-    def __init__(self, folder, is_slow):
+    def __init__(self, folder, is_slow, times):
         self.folder = folder
+        self.times = times  # in place of the works' own; None where they stay
         self.preload = str(folder / "slowsync.so") if is_slow else None
         self.is_slow = is_slow
         if is_slow and not (folder / "slowsync.so").exists():
@@ -133,7 +136,7 @@ class Bench:
         folder.mkdir(mode=0o755)
         try:
             work = WORKS[name]
-            more = 1 if peer == "dovecot" or self.is_slow else work.times
+            more = 1 if peer == "dovecot" or self.is_slow else self.times or work.times
             if peer == "floor":
                 return self.floor(work, work.messages * more, folder)
             return self.server(work, work.messages * more, peer, folder)
