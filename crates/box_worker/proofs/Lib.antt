@@ -1,6 +1,5 @@
 pub mod Messages
 pub mod Counting
-pub mod Counted
 pub mod Telling
 pub mod Measuring
 pub mod Observing

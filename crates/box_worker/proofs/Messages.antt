@@ -1,18 +1,19 @@
 -- A message that a writer gets piece by piece.
-use Rattle.std.proofs.Common.{◌≡◌, ℕ, ◌+◌, ◌<◌, ◌≤◌, ◌^◌, List, [], ◌∷◌, ◌++◌, length, take, drop, Option, Some, None, sym, ap, ◌∙◌, subst, append_assoc}
+use Rattle.std.proofs.Common.{◌≡◌, ℕ, ◌+◌, ◌<◌, ◌≤◌, List, [], ◌∷◌, ◌++◌, length, take, drop, refl, sym, ap, ◌∙◌, subst, append_assoc}
 use Rattle.std.proofs.Common.{append-nil, take-append-drop, arith, length-append}
-use Rattle.std.specs.Option.{SomeIff}
+use Rattle.std.specs.Prelude.{if◌then◌else◌}
 use Rattle.std.proofs.Math.Seq.{take-add}
-use Rattle.mail_world.specs.Counts.{counted}
 use Rattle.mail_world.specs.Records.{Calendar, quoted_text, stored_text}
-use Rattle.mail_world.specs.Text.{lf}
+use Rattle.mail_world.specs.Marks.{marked}
+use Rattle.mail_world.specs.Text.{lf, unix}
 use Rattle.mbox_record.specs.Envelope.{Envelope, record_text, head_text}
-use Rattle.mbox_record.specs.Lengths.{after_head_text}
+use Rattle.mbox_record.specs.Lengths.{text_after_head}
+use Rattle.mbox_record.specs.RecordHead.{RecordHead, record_after}
 use Rattle.mbox_record.specs.Spool.{SpoolState, SpoolTook, SpoolFailed, HasNotSynced}
 use Rattle.mbox_record.specs.Writing.{Writer, bytes_owed, WritesPiece, FailsPiece}
 use Rattle.mbox_record.proofs.Parts.{record_split}
 use Rattle.mbox_record.proofs.Taken.{SpoolTook-then, SpoolTook-as, SpoolFailed-first, SpoolFailed-later, SpoolFailed-as}
-use Rattle.mbox_record.proofs.Wholes.{BeginsRecord, WritesPiece-then, FailsPiece-then}
+use Rattle.mbox_record.proofs.Wholes.{WritesPiece-then, FailsPiece-then}
 use Rattle.mail_world.specs.Site.{Site}
 
 -- a failure in a prefix of a text is one in the text
@@ -65,23 +66,10 @@ text_failed_at_end s t u first last message x y =
 pub not_kept : (s t u : SpoolState) (text : List ℕ) → SpoolTook s t text → HasNotSynced t u → SpoolFailed s u text
 not_kept s t u text x y = SpoolFailed-as s u _ _ (sym (append-nil text)) (SpoolFailed-later s t u text [] x y)
 
--- the sum of two counts is exact where it fits, and fits where the whole does
-sum_of : (m n a b whole : ℕ) → a ≡ counted m → b ≡ counted n → whole ≡ m + n → 1 ≤ m → 1 ≤ n → (result : Option ℕ) → SomeIff result (a + b < 2 ^ 64) (a + b)
-    → SomeIff result (whole < 2 ^ 64) whole
-sum_of m n a b whole is_a is_b is some_m some_n None none = λ below. none (omega (arith, is_a, is_b, is, some_m, some_n, below))
-sum_of m n a b whole is_a is_b is some_m some_n (Some s) some =
-    let below = some.0 in
-    let same : a + b ≡ whole = omega (arith, is_a, is_b, is, some_m, some_n, below) in
-    (omega (arith, below, same), some.1 ∙ same)
-
--- what a spool counts that held nothing and took a text
-pub counted_text : (s t : SpoolState) (text : List ℕ) (held : ℕ) → s.bytes ≡ [] → SpoolTook s t text → held ≡ counted (length t.bytes)
-    → held ≡ counted (length text)
-counted_text s t text held none x says = says ∙ ap (λ (l : List ℕ). counted (length l)) (x.appended ∙ ap (λ (l : List ℕ). l ++ text) none)
-
--- a head begins with `From `
-some_head : (calendar : Calendar) (site : Site) (envelope : Envelope) → 1 ≤ length (head_text calendar site envelope)
-some_head calendar site envelope = omega arith
+-- a writer that begins after that head owes the message
+abbrev pub BeginsText : RecordHead → Writer → Type 0
+BeginsText head first =
+    (text : List ℕ) → bytes_owed first text ≡ quoted_text (if head.renames_marks then marked (unix text) else unix text)
 
 -- a record ends with LF
 pub some_record : (calendar : Calendar) (site : Site) (envelope : Envelope) (message : List ℕ) → 1 ≤ length (record_text calendar site envelope message)
@@ -91,32 +79,21 @@ some_record calendar site envelope message =
     omega (arith, long, last)
 
 -- a record is its head and its text
-module _ (calendar : Calendar) (site : Site) (envelope : Envelope) (message : List ℕ) (first : Writer) (begins : BeginsRecord site first) where
-  abbrev head : List ℕ
-  head = head_text calendar site envelope
-
+module _ (head : RecordHead) (message : List ℕ) (first : Writer) (begins : BeginsText head first) where
   abbrev rest : List ℕ
   rest = bytes_owed first message ++ lf ∷ []
 
-  pub record_is : record_text calendar site envelope message ≡ head ++ rest
-  record_is = record_split calendar site envelope message ∙ append_assoc head (quoted_text (stored_text site message)) (lf ∷ [])
-      ∙ ap (λ (l : List ℕ). head ++ (l ++ lf ∷ [])) (sym (begins message))
+  record_is : record_after head message ≡ head.text ++ rest
+  record_is = ap (λ (l : List ℕ). head.text ++ (l ++ lf ∷ [])) (sym (begins message))
 
-  pub record_took : (s t u : SpoolState) → SpoolTook s t head → SpoolTook t u rest → SpoolTook s u (record_text calendar site envelope message)
-  record_took s t u x y = SpoolTook-as s u _ _ record_is (SpoolTook-then s t u head rest x y)
+  pub record_took : (s t u : SpoolState) → SpoolTook s t head.text → SpoolTook t u rest → SpoolTook s u (record_after head message)
+  record_took s t u x y = SpoolTook-as s u _ _ record_is (SpoolTook-then s t u head.text rest x y)
 
-  pub record_failed : (s t u : SpoolState) → SpoolTook s t head → SpoolFailed t u rest → SpoolFailed s u (record_text calendar site envelope message)
-  record_failed s t u x y = SpoolFailed-as s u _ _ record_is (SpoolFailed-later s t u head rest x y)
+  pub record_failed : (s t u : SpoolState) → SpoolTook s t head.text → SpoolFailed t u rest → SpoolFailed s u (record_after head message)
+  record_failed s t u x y = SpoolFailed-as s u _ _ record_is (SpoolFailed-later s t u head.text rest x y)
 
--- what two counts of its head and of the rest come to, which stay at their largest value
-pub record_count : (calendar : Calendar) (site : Site) (envelope : Envelope) (message : List ℕ) (a b : ℕ)
-    → a ≡ counted (length (head_text calendar site envelope)) → b ≡ counted (length (after_head_text site message))
-    → (result : Option ℕ) → SomeIff result (a + b < 2 ^ 64) (a + b)
-    → SomeIff result (length (record_text calendar site envelope message) < 2 ^ 64) (length (record_text calendar site envelope message))
-record_count calendar site envelope message a b is_a is_b result sum =
-    let head : List ℕ = head_text calendar site envelope in
-    let content : List ℕ = quoted_text (stored_text site message) in
-    let long : length (record_text calendar site envelope message) ≡ length head + length (content ++ lf ∷ []) =
-    ap length (record_split calendar site envelope message ∙ append_assoc head content (lf ∷ [])) ∙ length-append head (content ++ lf ∷ []) in
-    let last : length (content ++ lf ∷ []) ≡ length content + 1 = length-append content (lf ∷ []) in
-    sum_of (length head) (length (content ++ lf ∷ [])) a b _ is_a is_b long (some_head calendar site envelope) (omega (arith, last)) result sum
+-- a failure at its head
+pub head_failed : (head : RecordHead) (message : List ℕ) (s t : SpoolState) → SpoolFailed s t head.text → SpoolFailed s t (record_after head message)
+head_failed head message s t h =
+    SpoolFailed-as s t _ (head.text ++ text_after_head head.renames_marks message) refl
+    (SpoolFailed-first s t head.text (text_after_head head.renames_marks message) h)

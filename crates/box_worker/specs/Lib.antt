@@ -1,4 +1,3 @@
-pub mod CountSpool
 pub mod Limits
 pub mod Stored
 pub mod Told

@@ -7,7 +7,6 @@
 //! another mailbox.
 #![tactic(auto)]
 
-mod count;
 mod gate;
 mod limit;
 mod mailbox;

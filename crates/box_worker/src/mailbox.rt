@@ -3,8 +3,10 @@
 ghost use Rattle.std.specs.Prelude.{◌≡◌, ◌+◌, ℕ, List, true, false, length, OnOk, IfErr};
 ghost use Rattle.lmtp_text.specs.Calendar.{civil_at};
 ghost use Rattle.mail_world.specs.Counts.{counted};
-ghost use Rattle.mbox_record.specs.Envelope.{record_text};
+ghost use Rattle.mail_world.specs.Site.{Site};
+ghost use Rattle.mbox_record.specs.Envelope.{Envelope, record_text};
 ghost use Rattle.mbox_record.specs.Lengths.{lengths_of};
+ghost use Rattle.mbox_record.specs.RecordHead.{head_of};
 ghost use Rattle.mbox_record.specs.TurnState.{knows_end};
 ghost use Rattle.box_worker.specs.Limits.{CountsTo};
 ghost use Rattle.box_worker.specs.Stored.{mailbox_of, IsMeasured, CountsOutcome};
@@ -12,10 +14,10 @@ ghost use Rattle.box_worker.specs.TurnEnds.{outcome_of};
 ghost use Rattle.box_worker.specs.Turned.{manner_of, MeasuresAgain, DoesInTurn, EndsInTurn, CountsInTurn, TurnsCopy};
 
 use crate::limit::Limit;
-use crate::store::{mend_and_store, record_size};
+use crate::store::mend_and_store;
 use crate::turn::TurnEnd;
 use lmtp_text::Site;
-use mbox_record::{Envelope, Lengths, Spool, SpoolFault, Tail};
+use mbox_record::{Envelope, Lengths, RecordHead, Spool, SpoolFault, Tail};
 use msg_depot::{Depot, DepotName, Hold};
 use std::marker::Model;
 use std::sync::Wait;
@@ -179,24 +181,27 @@ impl<S: Spool> Mailbox<S> {
         ensures in_use { self.new.in_use ≡ self.old.in_use }
         ensures hold { hold.new ≡ hold.old }
     {
-        let fits = self.lets_in(site, envelope, lengths);
+        let head = RecordHead::of(site, envelope);
+        let fits = self.lets_in(&head, lengths);
         if !fits {
             return self.refuse();
         }
-        let kept = mend_and_store(rt, &mut self.spool, depot, site, envelope, hold);
+        let kept = mend_and_store(rt, &mut self.spool, depot, &head, hold);
         self.count(kept)
     }
 
-    // Whether the record of a message of these lengths may stand after what the mailbox holds. One that may is counted.
-    fn lets_in(&mut self, site: &Site, envelope: &Envelope, lengths: &Lengths) -> bool
-        ensures { (message : List ℕ) → lengths.now ≡ lengths_of message
-            → IsMeasured (length (record_text civil_at site.now envelope.now message)) result self.old self.new }
+    // Whether the record with that head of a message of these lengths may stand after what the mailbox holds. One that
+    // may is counted.
+    fn lets_in(&mut self, head: &RecordHead, lengths: &Lengths) -> bool
+        ensures same { self.new ≡ record self.old { limit = self.new.limit } }
+        ensures measured { (site : Site) (envelope : Envelope) (message : List ℕ)
+            → head.now ≡ head_of civil_at site envelope → lengths.now ≡ lengths_of message
+            → IsMeasured (length (record_text civil_at site envelope message)) result self.old self.new }
     {
         let Some(limit) = self.limit else {
             return true;
         };
-        let size = record_size(site, envelope, lengths);
-        match limit.admit(size) {
+        match limit.admit(head.record_size(lengths)) {
             Some(next) => {
                 self.limit = Some(next);
                 true

@@ -1,39 +1,34 @@
 //! The record of a held message into a spool.
 
-ghost use Rattle.std.specs.Prelude.{◌≡◌, ◌<◌, ◌^◌, ℕ, List, [], ◌∷◌, ◌++◌, length, OnOk, OnErr, IfOk, SomeIff};
+ghost use Rattle.std.specs.Prelude.{◌≡◌, [], ◌∷◌, ◌++◌, OnOk, OnErr, IfOk};
 ghost use Rattle.mail_world.specs.Text.{lf};
-ghost use Rattle.lmtp_text.specs.Calendar.{civil_at};
-ghost use Rattle.mbox_record.specs.Envelope.{record_text};
-ghost use Rattle.mbox_record.specs.Lengths.{lengths_of};
+ghost use Rattle.mbox_record.specs.RecordHead.{record_after};
 ghost use Rattle.mbox_record.specs.Spool.{SpoolTook, SpoolFailed};
 ghost use Rattle.mbox_record.specs.Writing.{bytes_owed, WritesPiece, FailsPiece};
 ghost use Rattle.box_worker.specs.Stored.{HasKept};
 ghost use Rattle.box_worker.specs.Turned.{HasKeptMended, HasNotKeptMended};
 
-use crate::count::CountSpool;
-use lmtp_text::Site;
 use mail_world::limits::WORKER_BUFFER_SIZE;
-use mbox_record::{Envelope, Lengths, RecordWriter, Spool, SpoolFault, mend};
+use mbox_record::{RecordHead, RecordWriter, Spool, SpoolFault, mend};
 use msg_depot::{Depot, DepotName, Hold};
 use std::sync::Wait;
 
-// Appends the record of the held message and has it kept.
+// Appends the record of the held message, which begins with that head, and has it kept.
 #[tactic(auto, using(crate::proofs::Messages::not_kept))]
 fn store<N: DepotName, S: Spool, R: Wait>(
     rt: &R,
     spool: &mut S,
     depot: &Depot<N>,
-    site: &Site,
-    envelope: &Envelope,
+    head: &RecordHead,
     hold: &mut Hold<N>,
 ) -> Result<(), SpoolFault>
     ensures ok { OnOk result (HasKept (S.state spool.old) (S.state spool.new)
-        (record_text civil_at site.now envelope.now hold.old.bytes)) }
+        (record_after head.now hold.old.bytes)) }
     ensures err { OnErr result (SpoolFailed (S.state spool.old) (S.state spool.new)
-        (record_text civil_at site.now envelope.now hold.old.bytes)) }
+        (record_after head.now hold.old.bytes)) }
     ensures hold { hold.new ≡ hold.old }
 {
-    append_record(rt, spool, depot, site, envelope, hold)?;
+    append_record(rt, spool, depot, head, hold)?;
     spool.sync()
 }
 
@@ -43,32 +38,17 @@ pub(crate) fn mend_and_store<N: DepotName, S: Spool, R: Wait>(
     rt: &R,
     spool: &mut S,
     depot: &Depot<N>,
-    site: &Site,
-    envelope: &Envelope,
+    head: &RecordHead,
     hold: &mut Hold<N>,
 ) -> Result<(), SpoolFault>
     ensures ok { OnOk result (HasKeptMended (S.state spool.old) (S.state spool.new)
-        (record_text civil_at site.now envelope.now hold.old.bytes)) }
+        (record_after head.now hold.old.bytes)) }
     ensures err { OnErr result (HasNotKeptMended (S.state spool.old) (S.state spool.new)
-        (record_text civil_at site.now envelope.now hold.old.bytes)) }
+        (record_after head.now hold.old.bytes)) }
     ensures hold { hold.new ≡ hold.old }
 {
     mend(spool)?;
-    store(rt, spool, depot, site, envelope, hold)
-}
-
-/// How many bytes the record of a message has, unless they are 2^64 or more, by the lengths of its text. The head alone
-/// is formatted for this, and no message is read; head and text are counted apart, since a count stays at 2^64 - 1.
-pub(crate) fn record_size(site: &Site, envelope: &Envelope, lengths: &Lengths) -> Option<u64>
-    ensures { (message : List ℕ) → lengths.now ≡ lengths_of message
-        → (let size = length (record_text civil_at site.now envelope.now message) in
-        SomeIff result (size < 2 ^ 64) size) }
-{
-    let mut head = CountSpool::new();
-    let Ok(_) = RecordWriter::begin(&mut head, site, envelope) else {
-        unreachable!()
-    };
-    head.held().checked_add(lengths.at(site))
+    store(rt, spool, depot, head, hold)
 }
 
 // Appends the record of the held message.
@@ -76,17 +56,16 @@ fn append_record<N: DepotName, S: Spool, R: Wait>(
     rt: &R,
     spool: &mut S,
     depot: &Depot<N>,
-    site: &Site,
-    envelope: &Envelope,
+    head: &RecordHead,
     hold: &mut Hold<N>,
 ) -> Result<(), SpoolFault>
     ensures ok { OnOk result (SpoolTook (S.state spool.old) (S.state spool.new)
-        (record_text civil_at site.now envelope.now hold.old.bytes)) }
+        (record_after head.now hold.old.bytes)) }
     ensures err { OnErr result (SpoolFailed (S.state spool.old) (S.state spool.new)
-        (record_text civil_at site.now envelope.now hold.old.bytes)) }
+        (record_after head.now hold.old.bytes)) }
     ensures hold { hold.new ≡ hold.old }
 {
-    let begun = RecordWriter::begin(spool, site, envelope)?;
+    let begun = RecordWriter::after(spool, head)?;
     append_text(rt, spool, depot, hold, begun)
 }
 

@@ -67,11 +67,30 @@ pub(crate) fn read_end<'a, F: Read + Seek>(
 ) -> io::Result<(FileEnd, &'a [u8])>
     ensures { IfOk result (λ read. IsEndBy read.1.now read.0) }
 {
-    let at = file.seek(SeekFrom::End(0))?;
-    let last = read_last(file, at, few)?;
+    let (at, last) = read_last_two(file, few)?;
     match tail_of_line(at, last) {
         Some(tail) => Ok((FileEnd { at, tail }, last)),
         None => read_torn(file, at, many),
+    }
+}
+
+// How long a file is, and its last two bytes, or as many as it has. Where the last two begin tells how long it is.
+fn read_last_two<'a, F: Read + Seek>(
+    file: &mut F,
+    few: &'a mut [u8; 2],
+) -> io::Result<(u64, &'a [u8])>
+    ensures { IfOk result (λ read. length read.1.now ≡ min read.0 2) }
+{
+    match file.seek(SeekFrom::End(-2)) {
+        Ok(start) => {
+            file.read_exact(few)?;
+            Ok((start.saturating_add(2), few))
+        }
+        Err(error) if error.kind() == ErrorKind::InvalidInput => {
+            let at = file.seek(SeekFrom::End(0))?;
+            Ok((at, read_last(file, at, few)?))
+        }
+        Err(error) => Err(error),
     }
 }
 

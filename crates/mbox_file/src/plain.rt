@@ -46,7 +46,7 @@ impl Taken {
 
     fn takes_owner(self, uid: u32) -> bool {
         match self {
-            Taken::Own(_) => libc::geteuid() != 0 || uid == 0,
+            Taken::Own(_) => uid == 0 || libc::geteuid() != 0,
             Taken::Anybodys => true,
         }
     }

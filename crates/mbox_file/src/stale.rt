@@ -1,7 +1,6 @@
 //! Lock files that nobody has: their process is gone, or they are older than any turn.
 use crate::plain::node_of;
-use mbox_locks::{Holder, Named, is_left_behind};
-use std::alloc::{AllocError, Global};
+use mbox_locks::{holder_of, is_left_behind, since_boot};
 use std::fs::{Files, Metadata, OpenFile, OpenOptions};
 use std::io;
 use std::io::Read;
@@ -10,22 +9,6 @@ use std::time::Clock;
 
 /// Room for the text of a lock file; one that fills it names nobody.
 const TEXT_SIZE: usize = 320;
-
-/// Room for the host's name, which Linux has up to 64 bytes of.
-const HOST_SIZE: usize = 256;
-
-/// The clock that counts from the host's boot on, also while it is suspended.
-const CLOCK_BOOTTIME: i32 = 7;
-
-/// Who has a lock file, in the form that others read: PROCESS:HOST.
-pub(crate) fn owner_text(alloc: Global) -> Result<String, AllocError> {
-    let mut name = [0; HOST_SIZE];
-    let is_known = libc::gethostname(&mut name) == 0;
-    let end = name.iter().position(|&byte| byte == 0).unwrap_or(0);
-    let host = str::from_utf8(&name[..end]).unwrap_or("");
-    let host = if is_known { host } else { "" };
-    format!(in alloc; "{}:{}", libc::getpid(), host)
-}
 
 /// Whether the lock file that was found at this path is left behind, where the one who asks, of that text, has none.
 pub(crate) fn is_stale<R: Files + Clock>(
@@ -40,25 +23,6 @@ pub(crate) fn is_stale<R: Files + Clock>(
     let is_own_user = found.uid() == libc::geteuid();
     let holder = holder_of(str::from_utf8(text).unwrap_or(""), owner, is_own_user);
     is_left_behind(holder, age_of(rt, found), since_boot())
-}
-
-// Who has the lock file of that text, as far as this host can tell.
-fn holder_of(text: &str, owner: &str, is_own_user: bool) -> Holder {
-    let named = Named::of(text);
-    let own = Named::of(owner);
-    let is_own_host = !named.host.is_empty() && named.host == own.host;
-    match named.process {
-        Some(process) if named.host.is_empty() || is_own_host => {
-            let is_own = named.process == own.process;
-            Holder::here(is_own, is_gone(process), is_own_user && is_own_host)
-        }
-        _ => Holder::Unknown,
-    }
-}
-
-// Whether there is no process of that number. One of which nothing may be known is there.
-fn is_gone(process: u32) -> bool {
-    libc::getsid(process.cast_signed()) < 0 && os::errno() == libc::ESRCH
 }
 
 // How many bytes were read of the lock file, as far as there is room. What is no plain file isn't opened, since that
@@ -100,16 +64,4 @@ fn age_of<R: Clock>(rt: &R, found: &Metadata) -> u64 {
     };
     let touched = u64::try_from(found.mtime()).unwrap_or(0);
     now.as_secs().saturating_sub(touched)
-}
-
-// How many seconds ago this host was booted; where nobody knows it never was.
-fn since_boot() -> u64 {
-    let mut time = libc::types::timespec {
-        tv_sec: 0,
-        tv_nsec: 0,
-    };
-    if libc::clock_gettime(CLOCK_BOOTTIME, &mut time) != 0 {
-        return u64::MAX;
-    }
-    u64::try_from(time.tv_sec).unwrap_or(u64::MAX)
 }

@@ -13,15 +13,15 @@ use crate::file::{FileEnd, read_end, sync_folder};
 use crate::plain::{
     Node, OpenNode, Taken, is_same, node_of, open_plain, remove_node, remove_open, system_fault,
 };
-use crate::stale::{is_stale, owner_text};
+use crate::stale::is_stale;
 use mail_world::limits::TAIL_SIZE;
-use mbox_locks::{LockKind, RangeLock};
+use mbox_locks::{LockKind, RangeLock, owner_text};
 use mbox_record::InUse;
 use std::alloc::{AllocError, Global};
 use std::fs::{FileTimes, Files, Metadata, OpenFile, OpenOptions};
 use std::io::{ErrorKind, Read, Seek, SeekFrom, Write};
 use std::os::unix::fs::{MetadataExt, OpenOptionsExt};
-use std::time::{Clock, SystemTime};
+use std::time::{Clock, SystemTime, UNIX_EPOCH};
 use std::{fs, io};
 
 /// Others read in a lock file whose it is, where the umask lets them; the service's doesn't, and they go by its age.
@@ -38,7 +38,7 @@ pub(crate) struct SystemFile<R: Files + Clock + Drop> {
     lock_path: String,
     owner: String,
     source_path: String,
-    source: Option<OpenNode<R::File>>,
+    source: Option<Source<R::File>>,
     lock_file: Held<R::File>,
 }
 
@@ -58,7 +58,7 @@ impl<R: Files + Clock + Drop> Drop for SystemFile<R> {
             lock_file: _,
         } = self;
         if let Some(source) = source {
-            let _ = remove_node(&rt, source_path.as_str(), source.node);
+            let _ = remove_node(&rt, source_path.as_str(), source.made.node);
         }
     }
 }
@@ -79,6 +79,32 @@ impl<F: Drop> Held<F> {
             Held::Linked(node) => Some(*node),
             Held::Made(own) => Some(own.node),
         }
+    }
+}
+
+// What lock files are linked from, and with them has one time.
+#[derive(Drop)]
+struct Source<F: Drop> {
+    made: OpenNode<F>,
+    // the seconds since 1970 of the time that it was given last
+    seconds: u64,
+}
+
+impl<F: OpenFile + Drop> Source<F> {
+    // Gives it the time of now, by which others judge whether a lock file is left behind. They count in seconds, so
+    // within one of these it isn't given again.
+    fn renew<C: Clock>(&mut self, clock: &C) -> io::Result<()> {
+        let now = SystemTime::now(clock)?;
+        let seconds = now
+            .duration_since(UNIX_EPOCH)
+            .map_or(0, |since| since.as_secs());
+        if seconds != self.seconds {
+            self.made
+                .file
+                .set_times(FileTimes::new().set_modified(now))?;
+            self.seconds = seconds;
+        }
+        Ok(())
     }
 }
 
@@ -127,14 +153,17 @@ where
 
     // Makes the file that lock files are linked from. One that was left behind goes; where a server has one there is
     // none for this one.
-    fn make_source(&self) -> io::Result<OpenNode<R::File>> {
+    fn make_source(&self) -> io::Result<Source<R::File>> {
         match fs::symlink_metadata(&self.rt, self.source_path.as_str()) {
             Ok(found) if self.is_left(self.source_path.as_str(), &found) => {
                 remove_node(&self.rt, self.source_path.as_str(), node_of(&found))?;
             }
             _ => {}
         }
-        self.make_file(self.source_path.as_str())
+        Ok(Source {
+            made: self.make_file(self.source_path.as_str())?,
+            seconds: 0,
+        })
     }
 
     fn is_left(&self, path: &str, found: &Metadata) -> bool {
@@ -164,16 +193,13 @@ where
         }
     }
 
-    // Links the lock file from the source, with the time of now, by which others judge whether it is left behind. None:
-    // there is no source, or no link is possible.
+    // Links the lock file from the source, whose time is that of now. None: there is no source, or no link is possible.
     fn link_lock_file(&mut self) -> Option<bool> {
-        let source = self.source.as_ref()?;
-        let now = SystemTime::now(&self.rt).ok()?;
-        let times = FileTimes::new().set_modified(now);
-        source.file.set_times(times).ok()?;
+        let source = self.source.as_mut()?;
+        source.renew(&self.rt).ok()?;
         match fs::hard_link(&self.rt, self.source_path.as_str(), self.lock_path.as_str()) {
-            Ok(()) if has_two_names(&source.file) => {
-                self.lock_file = Held::Linked(source.node);
+            Ok(()) if has_two_names(&source.made.file) => {
+                self.lock_file = Held::Linked(source.made.node);
                 Some(true)
             }
             Ok(()) => {
@@ -241,7 +267,7 @@ where
         let times = FileTimes::new().set_modified(now);
         match (&self.lock_file, &self.source) {
             (Held::Made(own), _) => own.file.set_times(times),
-            (Held::Linked(_), Some(source)) => source.file.set_times(times),
+            (Held::Linked(_), Some(source)) => source.made.file.set_times(times),
             _ => Err(none_open()),
         }
     }

@@ -6,8 +6,10 @@
 
 mod file_lock;
 mod holder;
+mod process;
 mod range_lock;
 
 pub use file_lock::FileLock;
 pub use holder::{Holder, Named, is_left_behind};
+pub use process::{holder_of, owner_text, since_boot};
 pub use range_lock::{LockKind, RangeLock};

@@ -1,6 +1,7 @@
 pub mod Taken
 pub mod Tails
 pub mod Parts
+pub mod Heads
 pub mod Rests
 pub mod Words
 pub mod Steps

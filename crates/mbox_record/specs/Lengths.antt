@@ -1,18 +1,18 @@
 -- How long the text of a message is in its record.
-use Rattle.std.specs.Prelude.{◌≡◌, ℕ, List, [], ◌∷◌, ◌++◌, length}
+use Rattle.std.specs.Prelude.{◌≡◌, ℕ, Bool, List, [], ◌∷◌, ◌++◌, length, if◌then◌else◌}
 use Rattle.mail_world.specs.Counts.{counted}
 use Rattle.mail_world.specs.Marks.{marked}
-use Rattle.mail_world.specs.Records.{quoted_text, stored_text}
-use Rattle.mail_world.specs.Site.{Site}
+use Rattle.mail_world.specs.Records.{quoted_text}
 use Rattle.mail_world.specs.Text.{lf, unix}
 use Rattle.mbox_record.specs.Quoted.{quoted_owed}
 use Rattle.mbox_record.specs.Writing.{bytes_owed}
 use Rattle.mbox_record.specs.declared.lengths.Lengths.{Lengths}
 use Rattle.mbox_record.specs.declared.lengths.LengthCounter.{LengthCounter}
 
--- what stands in the record of the site after its head: the text and an empty line
-abbrev pub after_head_text : Site → List ℕ → List ℕ
-after_head_text site message = quoted_text (stored_text site message) ++ lf ∷ []
+-- what stands in a record after its head: the text, with its marks as they are or renamed, and an empty line
+abbrev pub text_after_head : Bool → List ℕ → List ℕ
+text_after_head renames_marks message =
+    quoted_text (if renames_marks then marked (unix message) else unix message) ++ lf ∷ []
 
 -- how long that is where marks stay, and where they are renamed; a count stays at 2^64 - 1
 abbrev pub lengths_of : List ℕ → Lengths

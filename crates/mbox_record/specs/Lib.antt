@@ -11,4 +11,5 @@ pub mod Quoted
 pub mod Writing
 pub mod Steps
 pub mod Lengths
+pub mod RecordHead
 pub mod Lines

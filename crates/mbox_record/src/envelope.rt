@@ -32,9 +32,9 @@ impl Model for Envelope {
     } };
 
     ghost use Rattle.std.specs.Prelude.{◌≤◌, length};
-    ghost use Rattle.mail_world.specs.declared.limits.TheConstants.{PATH_LIMIT};
+    ghost use Rattle.mail_world.specs.declared.limits.TheConstants.{NAME_LIMIT, PATH_LIMIT};
 
-    ghost invariant = { λ e. length e.sender.items ≤ PATH_LIMIT };
+    ghost invariant = { λ e. (length e.sender.items ≤ PATH_LIMIT) × (length e.client.items ≤ NAME_LIMIT) };
 }
 
 impl Envelope {
@@ -75,7 +75,8 @@ impl Envelope {
     }
 
     pub(crate) fn client(&self) -> &[u8]
-        ensures { result.now ≡ self.now.client }
+        ensures value { result.now ≡ self.now.client }
+        ensures size { length result.now ≤ NAME_LIMIT }
     {
         self.client.as_slice()
     }

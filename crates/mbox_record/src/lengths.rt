@@ -1,11 +1,10 @@
 //! How long the text of a message is in its record, counted while it comes.
 ghost use Rattle.std.specs.Prelude.{◌≡◌, ◌≤◌, ℕ, List, [], ◌++◌, length, if◌then◌else◌};
 ghost use Rattle.mail_world.specs.Counts.{counted};
-ghost use Rattle.mbox_record.specs.Lengths.{lengths_of, after_head_text, HasCounted};
+ghost use Rattle.mbox_record.specs.Lengths.{lengths_of, text_after_head, HasCounted};
 
 use crate::quoted::QuotedText;
 use crate::record::RecordWriter;
-use lmtp_text::Site;
 use memchr::memmem;
 
 const HEAD_END: &[u8] = b"\r\n\r\n";
@@ -20,13 +19,13 @@ pub struct Lengths {
 }
 
 impl Lengths {
-    /// In a record of this site.
-    pub fn at(&self, site: &Site) -> u64
-        ensures is { result ≡ if site.now.renames_marks then self.now.marked else self.now.plain }
+    /// Of a text whose marks are renamed, or are not.
+    pub(crate) fn of_text(&self, renames_marks: bool) -> u64
+        ensures is { result ≡ if renames_marks then self.now.marked else self.now.plain }
         ensures counted { (message : List ℕ) → self.now ≡ lengths_of message
-            → result ≡ counted (length (after_head_text site.now message)) }
+            → result ≡ counted (length (text_after_head renames_marks message)) }
     {
-        if site.renames_marks() {
+        if renames_marks {
             self.marked
         } else {
             self.plain

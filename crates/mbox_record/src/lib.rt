@@ -24,6 +24,7 @@ mod turns;
 
 pub use copying::{Copied, LINES_ROOM, copy_lines};
 pub use envelope::Envelope;
+pub use head::RecordHead;
 pub use lengths::{LengthCounter, Lengths};
 pub use mbox_letters::{BadMailbox, Letter, read_mailbox};
 pub use memory::MemorySpool;

@@ -12,8 +12,9 @@ ghost use Rattle.mbox_marks.specs.Marking.{marks_owed};
 ghost use Rattle.mbox_record.specs.Writing.{bytes_owed, Writes, Fails, WritesPiece, FailsPiece};
 ghost use Rattle.mbox_marks.specs.declared.marking.Place.TheVariants.{Line, Body};
 
+use crate::append::append_all;
 use crate::envelope::Envelope;
-use crate::head::write_head;
+use crate::head::RecordHead;
 use crate::quoted::QuotedText;
 use crate::spool::{Spool, SpoolFault};
 use lmtp_text::Site;
@@ -55,8 +56,18 @@ impl RecordWriter {
         ensures err { OnErr result
             (SpoolFailed (S.state spool.old) (S.state spool.new) (head_text civil_at site.now envelope.now)) }
     {
-        write_head(spool, site, envelope)?;
-        Ok(RecordWriter::at_text(site.renames_marks()))
+        RecordWriter::after(spool, &RecordHead::of(site, envelope))
+    }
+
+    /// Writes the head, after which the message comes.
+    pub fn after<S: Spool>(spool: &mut S, head: &RecordHead) -> Result<RecordWriter, SpoolFault>
+        ensures ok { OnOk result (SpoolTook (S.state spool.old) (S.state spool.new) head.now.text) }
+        ensures new { IfOk result (λ writer. (text : List ℕ)
+            → bytes_owed writer text ≡ quoted_text (if head.now.renames_marks then marked (unix text) else unix text)) }
+        ensures err { OnErr result (SpoolFailed (S.state spool.old) (S.state spool.new) head.now.text) }
+    {
+        append_all(spool, head.text())?;
+        Ok(RecordWriter::at_text(head.renames_marks()))
     }
 
     // At the beginning of the message.
