@@ -11,7 +11,7 @@ use lmtpd_copy::{CopyFault, CopyTarget, TargetFile, copy_file};
 use lmtpd_output::{WriteFault, write_each};
 use lmtpd_setup::{Exit, Fault, mark, write_fault};
 use lmtpd_words::CopyWords;
-use mbox_rd::{MailboxFile, MailboxSource, RangeLock, StdMailboxFile};
+use mbox_rd::{MailboxFile, MailboxSource, RangeLock, StdMailboxFile, Writeback};
 use std::alloc::Global;
 use std::fs::Files;
 use std::io::Write;
@@ -31,7 +31,7 @@ pub struct Copied<'a> {
 pub fn copy_asked<'a, R>(rt: R, alloc: Global, words: &CopyWords<'a>) -> Copied<'a>
 where
     R: Files + Clock + Copy + Drop,
-    R::File: RangeLock,
+    R::File: RangeLock + Writeback,
     ensures { IsCopiedAsAsked (⟦<StdMailboxFile<R> as MailboxFile>⟧.state)
         (⟦<StdMailboxFile<R> as MailboxSource>⟧.unread) (⟦<TargetFile<'static, R> as CopyTarget>⟧.state)
         words.now result }

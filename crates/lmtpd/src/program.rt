@@ -25,7 +25,7 @@ use lmtpd_rehearse::Rehearsed;
 use lmtpd_serve::Served;
 use lmtpd_setup::{Exit, ServerLog, Stop, WaitingMailbox, report_fault};
 use lmtpd_words::{Words, read_words};
-use mbox_rd::{FileLock, MailboxFile, MailboxSource, RangeLock, Spool, StdMailboxFile};
+use mbox_rd::{FileLock, MailboxFile, MailboxSource, RangeLock, Spool, StdMailboxFile, Writeback};
 use std::env::Env;
 use std::fs::Files;
 use std::io::{Read, Write};
@@ -72,8 +72,8 @@ pub fn run_program<'a, P, H, R, W, E>(
 where
     P: AllocGlobal + Print + Eprint + Files,
     P: Net<Listener = TcpListener, Stream = TcpStream> + Env + Clock,
-    P::File: RangeLock + FileLock,
-    H::File: RangeLock + Send + 'static,
+    P::File: RangeLock + Writeback + FileLock,
+    H::File: RangeLock + Writeback + Send + 'static,
     H::Dir: Send + 'static,
     H: Threads + Wait + Clock + Files + Eprint + Copy + Drop + Send + Sync + 'static,
     R: Read + Drop + Send + 'static,
@@ -114,8 +114,8 @@ fn do_asked<'a, P, H, R, W>(
 ) -> Done<'a, R, W>
 where
     P: AllocGlobal + Files + Net<Listener = TcpListener, Stream = TcpStream> + Env + Clock,
-    P::File: RangeLock + FileLock,
-    H::File: RangeLock + Send + 'static,
+    P::File: RangeLock + Writeback + FileLock,
+    H::File: RangeLock + Writeback + Send + 'static,
     H::Dir: Send + 'static,
     H: Threads + Wait + Clock + Files + Eprint + Copy + Drop + Send + Sync + 'static,
     R: Read + Drop + Send + 'static,

@@ -6,7 +6,7 @@ use crate::copying::copy_mailbox;
 use crate::fault::CopyFault;
 use crate::target::CopyTarget;
 use crate::target_file::TargetFile;
-use mbox_rd::{MailboxFile, MailboxSource, RangeLock, StdMailboxFile};
+use mbox_rd::{MailboxFile, MailboxSource, RangeLock, StdMailboxFile, Writeback};
 use std::alloc::Global;
 use std::fs::Files;
 use std::io;
@@ -25,7 +25,7 @@ pub fn copy_file<R: Files + Clock + Copy + Drop>(
     to: &str,
 ) -> Result<(), CopyFault>
 where
-    R::File: RangeLock,
+    R::File: RangeLock + Writeback,
     ensures { OnOk result (HasCopiedFile (⟦<StdMailboxFile<R> as MailboxFile>⟧.state)
         (⟦<StdMailboxFile<R> as MailboxSource>⟧.unread) (⟦<TargetFile<'static, R> as CopyTarget>⟧.state)) }
 {

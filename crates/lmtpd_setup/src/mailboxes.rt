@@ -16,7 +16,7 @@ use lmtp_threads::Watched;
 use lmtpd_log::{LogSink, MailboxLog};
 use lmtpd_output::printable;
 use log::{Log, error};
-use mbox_rd::{FileSpool, MailboxFile, RangeLock, StdMailboxFile};
+use mbox_rd::{FileSpool, MailboxFile, RangeLock, StdMailboxFile, Writeback};
 use std::alloc::{AllocError, Global};
 use std::fs::Files;
 use std::io;
@@ -54,7 +54,7 @@ pub fn open_mailboxes<'a, R, G>(
 ) -> Result<Vec<ServedMailbox<R, G>>, Stop<'a>>
 where
     R: Files + Clock + Copy + Drop,
-    R::File: RangeLock,
+    R::File: RangeLock + Writeback,
     G: Log + Copy + Drop,
     ensures count { IfOk result (λ spools. vec_len spools ≡ length names.now) }
     ensures held { IfOk result (λ spools. map held_as spools.items ≡ map (held_at access.entry) names.now) }
@@ -81,7 +81,7 @@ fn open_mailbox<'a, R, G>(
 ) -> Result<ServedMailbox<R, G>, Stop<'a>>
 where
     R: Files + Clock + Copy + Drop,
-    R::File: RangeLock,
+    R::File: RangeLock + Writeback,
     G: Log + Drop,
     ensures ok { IfOk result (λ mailbox. held_as mailbox ≡ held_at access.entry name.entry) }
     ensures untold { IfOk result (λ mailbox. IsUntold mailbox) }
@@ -106,7 +106,7 @@ fn open_file<'a, R: Files + Clock + Copy + Drop, G: Log>(
     log: &G,
 ) -> Result<StdMailboxFile<R>, Stop<'a>>
 where
-    R::File: RangeLock,
+    R::File: RangeLock + Writeback,
     ensures path { IfOk result (λ file. file_path file ≡ path_at access.entry name.entry) }
     ensures mode { IfOk result (λ file. file_mode file ≡ Some access.entry.mode) }
     ensures err { IfErr result (IsNotOpen access.entry name.entry) }

@@ -20,7 +20,7 @@ use crate::stop::Stop;
 use lmtp_text::Site;
 use lmtpd_log::{LineSetting, LogSink, MailboxSink};
 use lmtpd_words::ServeWords;
-use mbox_rd::RangeLock;
+use mbox_rd::{RangeLock, Writeback};
 use std::alloc::Global;
 use std::env::Env;
 use std::fs::Files;
@@ -32,7 +32,7 @@ use std::time::Clock;
 pub struct ServerSetup<H>
 where
     H: Files + Clock + Eprint + Copy + Drop,
-    H::File: RangeLock,
+    H::File: RangeLock + Writeback,
     LogSink<ServerLog<H>>: MailboxSink,
 {
     pub site: Arc<Site>,
@@ -56,7 +56,7 @@ pub fn set_up<'a, P, H>(
 ) -> Result<ServerSetup<H>, Stop<'a>>
 where
     P: AllocGlobal + Files + Env,
-    H::File: RangeLock,
+    H::File: RangeLock + Writeback,
     H: Clock + Files + Eprint + Copy + Drop,
     ensures site { IfOk result (λ setup. arc_value setup.site ≡ named_site words.now.site) }
     ensures sound { IfOk result (λ setup. site_fault words.now.site ≡ None) }

@@ -5,6 +5,7 @@
 #![tactic(auto)]
 
 mod file;
+mod lock_file;
 mod mailbox_file;
 mod mailbox_source;
 mod memory_file;
@@ -17,7 +18,7 @@ mod told;
 pub use file::{FileEnd, OWNER_ONLY, sync_folder};
 pub use mailbox_file::MailboxFile;
 pub use mailbox_source::MailboxSource;
-pub use mbox_locks::{FileLock, LockKind, RangeLock};
+pub use mbox_locks::{FileLock, LockKind, RangeLock, Writeback};
 pub use memory_file::MemoryFile;
 pub use plain::remove_open;
 pub use std_file::StdMailboxFile;

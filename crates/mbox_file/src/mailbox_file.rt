@@ -58,6 +58,10 @@ pub trait MailboxFile {
         ensures ok { OnOk result (HasAppended (state self.old) (state self.new) bytes.now) }
         ensures err { OnErr result (HasNotAppended (state self.old) (state self.new) bytes.now) };
 
+    /// Has the system begin to write the last bytes that it took, so many, to the disk, and waits for nothing.
+    fn begin_writeback(&mut self, size: usize)
+        ensures { state self.new ≡ state self.old };
+
     /// Has all bytes of the open file kept through a crash.
     fn keep(&mut self) -> io::Result<()>
         ensures ok { OnOk result (KeepsFile (state self.old) (state self.new)) }

@@ -87,6 +87,8 @@ impl MailboxFile for MemoryFile {
         Ok(())
     }
 
+    fn begin_writeback(&mut self, _size: usize) {}
+
     fn keep(&mut self) -> io::Result<()> {
         self.told.add(Step::Kept);
         Ok(())

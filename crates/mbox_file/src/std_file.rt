@@ -11,7 +11,7 @@ use crate::plain::{Taken, error_of, system_fault};
 use crate::system_file::SystemFile;
 use crate::told::{Step, Told};
 use mail_world::limits::TAIL_SIZE;
-use mbox_locks::RangeLock;
+use mbox_locks::{RangeLock, Writeback};
 use mbox_record::InUse;
 use std::alloc::{AllocError, Global};
 use std::fs::Files;
@@ -27,7 +27,7 @@ pub struct StdMailboxFile<R: Files + Clock + Drop> {
 
 impl<R: Files + Clock + Drop> StdMailboxFile<R>
 where
-    R::File: RangeLock,
+    R::File: RangeLock + Writeback,
 {
     ghost use Rattle.mbox_file.specs.declared.told.Step.TheVariants.{LockFileRemoved, LockFileStays};
     ghost use Rattle.mbox_file.specs.Told.{after, at_start};
@@ -102,7 +102,7 @@ where
 
 impl<R: Files + Clock + Drop> MailboxFile for StdMailboxFile<R>
 where
-    R::File: RangeLock,
+    R::File: RangeLock + Writeback,
 {
     ghost use Rattle.std.specs.Io.{appended_bytes};
     ghost use Rattle.std.specs.Io.KnownBytes.{Appends};
@@ -219,6 +219,10 @@ where
         }
     }
 
+    fn begin_writeback(&mut self, size: usize) {
+        self.system.begin_writeback(size as u64);
+    }
+
     fn keep(&mut self) -> io::Result<()> {
         match self.system.sync() {
             Ok(()) => {
@@ -249,7 +253,7 @@ where
 
 impl<R: Files + Clock + Drop> MailboxSource for StdMailboxFile<R>
 where
-    R::File: RangeLock,
+    R::File: RangeLock + Writeback,
 {
     ghost use Rattle.std.specs.Prelude.{false};
     ghost use Rattle.mbox_file.specs.SystemFile.{known_of};

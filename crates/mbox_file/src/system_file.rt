@@ -10,18 +10,19 @@ ghost use Rattle.mbox_file.specs.SystemFile.{known_of};
 ghost use Rattle.mbox_file.specs.Told.{IsEndBy};
 
 use crate::file::{FileEnd, read_end, sync_folder};
+use crate::lock_file::{Held, LockSource};
 use crate::plain::{
     Node, OpenNode, Taken, is_same, node_of, open_plain, remove_node, remove_open, system_fault,
 };
 use crate::stale::is_stale;
 use mail_world::limits::TAIL_SIZE;
-use mbox_locks::{LockKind, RangeLock, owner_text};
+use mbox_locks::{LockKind, RangeLock, Writeback, owner_text};
 use mbox_record::InUse;
 use std::alloc::{AllocError, Global};
 use std::fs::{FileTimes, Files, Metadata, OpenFile, OpenOptions};
 use std::io::{ErrorKind, Read, Seek, SeekFrom, Write};
 use std::os::unix::fs::{MetadataExt, OpenOptionsExt};
-use std::time::{Clock, SystemTime, UNIX_EPOCH};
+use std::time::{Clock, SystemTime};
 use std::{fs, io};
 
 /// Others read in a lock file whose it is, where the umask lets them; the service's doesn't, and they go by its age.
@@ -38,7 +39,7 @@ pub(crate) struct SystemFile<R: Files + Clock + Drop> {
     lock_path: String,
     owner: String,
     source_path: String,
-    source: Option<Source<R::File>>,
+    source: Option<LockSource<R::File>>,
     lock_file: Held<R::File>,
 }
 
@@ -63,54 +64,9 @@ impl<R: Files + Clock + Drop> Drop for SystemFile<R> {
     }
 }
 
-// Its own lock file.
-#[derive(Drop)]
-enum Held<F: Drop> {
-    No,
-    /// It is another name of the source.
-    Linked(Node),
-    Made(OpenNode<F>),
-}
-
-impl<F: Drop> Held<F> {
-    fn node(&self) -> Option<Node> {
-        match self {
-            Held::No => None,
-            Held::Linked(node) => Some(*node),
-            Held::Made(own) => Some(own.node),
-        }
-    }
-}
-
-// What lock files are linked from, and with them has one time.
-#[derive(Drop)]
-struct Source<F: Drop> {
-    made: OpenNode<F>,
-    // the seconds since 1970 of the time that it was given last
-    seconds: u64,
-}
-
-impl<F: OpenFile + Drop> Source<F> {
-    // Gives it the time of now, by which others judge whether a lock file is left behind. They count in seconds, so
-    // within one of these it isn't given again.
-    fn renew<C: Clock>(&mut self, clock: &C) -> io::Result<()> {
-        let now = SystemTime::now(clock)?;
-        let seconds = now
-            .duration_since(UNIX_EPOCH)
-            .map_or(0, |since| since.as_secs());
-        if seconds != self.seconds {
-            self.made
-                .file
-                .set_times(FileTimes::new().set_modified(now))?;
-            self.seconds = seconds;
-        }
-        Ok(())
-    }
-}
-
 impl<R: Files + Clock + Drop> SystemFile<R>
 where
-    R::File: RangeLock,
+    R::File: RangeLock + Writeback,
 {
     /// The file at that path, of which nothing is touched yet.
     pub fn new(rt: R, alloc: Global, path: &str, taken: Taken) -> Result<SystemFile<R>, AllocError>
@@ -153,17 +109,14 @@ where
 
     // Makes the file that lock files are linked from. One that was left behind goes; where a server has one there is
     // none for this one.
-    fn make_source(&self) -> io::Result<Source<R::File>> {
+    fn make_source(&self) -> io::Result<LockSource<R::File>> {
         match fs::symlink_metadata(&self.rt, self.source_path.as_str()) {
             Ok(found) if self.is_left(self.source_path.as_str(), &found) => {
                 remove_node(&self.rt, self.source_path.as_str(), node_of(&found))?;
             }
             _ => {}
         }
-        Ok(Source {
-            made: self.make_file(self.source_path.as_str())?,
-            seconds: 0,
-        })
+        Ok(LockSource::of(self.make_file(self.source_path.as_str())?))
     }
 
     fn is_left(&self, path: &str, found: &Metadata) -> bool {
@@ -399,6 +352,16 @@ where
         match &mut self.open {
             Some(open) => write_on(&mut open.file, bytes),
             None => (0, Err(none_open())),
+        }
+    }
+
+    /// Has the system begin to write the last bytes, so many, to the disk.
+    pub fn begin_writeback(&mut self, size: u64) {
+        if let Some(open) = &mut self.open {
+            // a write leaves the position at the file's end
+            if let Ok(end) = open.file.seek(SeekFrom::Current(0)) {
+                open.file.begin_writeback(end.saturating_sub(size), size);
+            }
         }
     }
 

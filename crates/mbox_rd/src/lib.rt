@@ -14,7 +14,7 @@ mod turn;
 pub use file::FileSpool;
 pub use mbox_file::{
     FileEnd, FileLock, LockKind, MailboxFile, MailboxSource, MemoryFile, RangeLock, StdMailboxFile,
-    remove_open, sync_folder,
+    Writeback, remove_open, sync_folder,
 };
 pub use mbox_record::{
     BadMailbox, Envelope, InUse, Letter, MemorySpool, RecordWriter, Spool, SpoolFault, Tail, mend,

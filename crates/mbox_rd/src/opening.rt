@@ -3,7 +3,7 @@ ghost use Rattle.std.specs.Prelude.{◌≡◌, ◌↔◌};
 ghost use Rattle.std.specs.IoError.{error_kind};
 
 use crate::file::FileSpool;
-use mbox_file::{OWNER_ONLY, RangeLock, StdMailboxFile};
+use mbox_file::{OWNER_ONLY, RangeLock, StdMailboxFile, Writeback};
 use std::alloc::Global;
 use std::fs::Files;
 use std::io;
@@ -27,7 +27,7 @@ pub enum OpenFault {
 
 impl<R: Files + Clock + Copy + Drop> FileSpool<StdMailboxFile<R>, R>
 where
-    R::File: RangeLock,
+    R::File: RangeLock + Writeback,
 {
     ghost use Rattle.std.specs.Prelude.{IfOk, Some};
     ghost use Rattle.mbox_file.specs.StdFile.{file_mode, file_path};

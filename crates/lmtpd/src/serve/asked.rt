@@ -20,7 +20,7 @@ use lmtpd_log::{LaneLog, LineLog, LogSink, MailboxLog};
 use lmtpd_serve::{Conversations, Served, serve_run};
 use lmtpd_setup::{ServerLog, ServerSetup, Stop, WaitingMailbox, open_address, set_up};
 use lmtpd_words::ServeWords;
-use mbox_rd::{FileLock, RangeLock, Spool};
+use mbox_rd::{FileLock, RangeLock, Spool, Writeback};
 use std::env::Env;
 use std::fs::{Files, OpenOptions};
 use std::io::Write;
@@ -40,7 +40,7 @@ pub fn serve_asked<'a, P, H, W>(
 where
     P: AllocGlobal + Files + Net<Listener = TcpListener, Stream = TcpStream> + Env + Clock,
     P::File: FileLock,
-    H::File: RangeLock + Send + 'static,
+    H::File: RangeLock + Writeback + Send + 'static,
     H::Dir: Send + 'static,
     H: Threads + Wait + Clock + Files + Eprint + Copy + Drop + Send + Sync + 'static,
     W: Write,
@@ -76,7 +76,7 @@ fn serve_opened<'a, P, H, W>(
 where
     P: AllocGlobal + Files + Clock,
     P::File: FileLock,
-    H::File: RangeLock + Send + 'static,
+    H::File: RangeLock + Writeback + Send + 'static,
     H::Dir: Send + 'static,
     H: Threads + Wait + Clock + Files + Eprint + Copy + Drop + Send + Sync + 'static,
     W: Write,

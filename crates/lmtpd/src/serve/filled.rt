@@ -14,7 +14,7 @@ use lmtpd_log::{LaneLog, LineLog, LogSink, MailboxLog};
 use lmtpd_serve::Served;
 use lmtpd_setup::{ServerLog, Stop, WaitingMailbox, fill};
 use lmtpd_words::ServeWords;
-use mbox_rd::{FileLock, RangeLock, Spool};
+use mbox_rd::{FileLock, RangeLock, Spool, Writeback};
 use std::env::Env;
 use std::fs::Files;
 use std::io::Write;
@@ -43,7 +43,7 @@ pub fn serve_filled<'a, P, H, W>(
 where
     P: AllocGlobal + Files + Net<Listener = TcpListener, Stream = TcpStream> + Env + Clock,
     P::File: FileLock,
-    H::File: RangeLock + Send + 'static,
+    H::File: RangeLock + Writeback + Send + 'static,
     H::Dir: Send + 'static,
     H: Threads + Wait + Clock + Files + Eprint + Copy + Drop + Send + Sync + 'static,
     W: Write + Drop,

@@ -2,7 +2,7 @@
 ghost use Rattle.std.specs.Prelude.{◌≡◌, ◌≢◌, ◌<◌, ◌≤◌, ◌+◌, ℕ, [], ◌++◌, true, false, length, take};
 ghost use Rattle.std.specs.Prelude.{IfErr, OnOk, OnErr};
 ghost use Rattle.mbox_record.specs.Lines.{HasLines};
-ghost use Rattle.mbox_file.specs.MailboxFile.{IsHeld};
+ghost use Rattle.mbox_file.specs.MailboxFile.{IsHeld, HasAppended, HasNotAppended};
 ghost use Rattle.mbox_rd.specs.FileSpool.{KeepsWritten, LosesPart};
 ghost use Rattle.mbox_rd.specs.Moments.{LeavesInTurn};
 
@@ -92,7 +92,7 @@ impl<F: MailboxFile + Drop, C: Clock + Drop> FileSpool<F, C> {
             (F.state self.old.file) (F.state self.new.file) }
     {
         let tail = self.tail();
-        match self.file.write(&self.waiting) {
+        match write_piece(&mut self.file, &self.waiting) {
             Ok(()) => {
                 self.waiting.clear();
                 self.tail = tail;
@@ -131,6 +131,18 @@ impl<F: MailboxFile + Drop, C: Clock + Drop> FileSpool<F, C> {
             }
         }
     }
+}
+
+// Has the system begin to write the piece to the disk, too, while the next one is put together.
+fn write_piece<F: MailboxFile>(file: &mut F, bytes: &[u8]) -> io::Result<()>
+    requires held { IsHeld (F.state file.old) }
+    requires settled { (F.state file.old).cut_off ≡ [] }
+    ensures ok { OnOk result (HasAppended (F.state file.old) (F.state file.new) bytes.now) }
+    ensures err { OnErr result (HasNotAppended (F.state file.old) (F.state file.new) bytes.now) }
+{
+    file.write(bytes)?;
+    file.begin_writeback(bytes.len());
+    Ok(())
 }
 
 fn write_and_keep<F: MailboxFile>(file: &mut F, bytes: &[u8]) -> io::Result<()>

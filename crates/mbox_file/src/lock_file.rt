@@ -1,0 +1,56 @@
+//! A server's own lock file, and what it is linked from.
+use crate::plain::{Node, OpenNode};
+use std::fs::{FileTimes, OpenFile};
+use std::io;
+use std::time::{Clock, SystemTime, UNIX_EPOCH};
+
+/// A server's own lock file.
+#[derive(Drop)]
+pub(crate) enum Held<F: Drop> {
+    No,
+    /// It is another name of the source.
+    Linked(Node),
+    Made(OpenNode<F>),
+}
+
+impl<F: Drop> Held<F> {
+    /// Which file it is.
+    pub fn node(&self) -> Option<Node> {
+        match self {
+            Held::No => None,
+            Held::Linked(node) => Some(*node),
+            Held::Made(own) => Some(own.node),
+        }
+    }
+}
+
+/// What lock files are linked from, and with them has one time.
+#[derive(Drop)]
+pub(crate) struct LockSource<F: Drop> {
+    pub made: OpenNode<F>,
+    // the seconds since 1970 of the time that it was given last
+    seconds: u64,
+}
+
+impl<F: OpenFile + Drop> LockSource<F> {
+    /// That file, whose time wasn't given yet.
+    pub fn of(made: OpenNode<F>) -> LockSource<F> {
+        LockSource { made, seconds: 0 }
+    }
+
+    /// Gives it the time of now, by which others judge whether a lock file is left behind. They count in seconds, so
+    /// within one of these it isn't given again.
+    pub fn renew<C: Clock>(&mut self, clock: &C) -> io::Result<()> {
+        let now = SystemTime::now(clock)?;
+        let seconds = now
+            .duration_since(UNIX_EPOCH)
+            .map_or(0, |since| since.as_secs());
+        if seconds != self.seconds {
+            self.made
+                .file
+                .set_times(FileTimes::new().set_modified(now))?;
+            self.seconds = seconds;
+        }
+        Ok(())
+    }
+}
