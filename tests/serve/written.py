@@ -28,8 +28,9 @@ SIZES = [1, 100, 5_000, 200_000]  # of the letters, in bytes or more
 class Call(NamedTuple):
     name: str
     asked: bytes  # what a write was asked to write
-    size: int  # that a cut leaves
+    size: int  # that a cut leaves, or that are begun to be written back
     answer: int  # below 0: it failed
+    at: int = 0  # where these begin
 
     @classmethod
     def of(cls, line):
@@ -39,17 +40,21 @@ class Call(NamedTuple):
             asked = bytes.fromhex(text.replace("\\x", ""))
             equal(len(asked), int(count))
             return cls(name, asked, 0, int(answer))
+        if name == "fadvise64":
+            _, at, size, advice = words.split(", ")
+            equal(advice, "POSIX_FADV_DONTNEED")
+            return cls(name, b"", int(size), int(answer), int(at))
         assert name in ("ftruncate", "fdatasync"), line
         return cls(name, b"", int(words.partition(", ")[2] or 0), int(answer))
 
 
 @contextlib.contextmanager
-def calls_at(server, path, *words):
+def calls_at(server, path, *words, traced=CALLS):
     """The calls that the server makes at that path meanwhile, which are there at the end."""
     if shutil.which("strace") is None:
         raise Absent("strace")
     place = pathlib.Path(server.folder / "calls")
-    looks = ["strace", "-ff", "-qq", "-xx", "-s", "1000000", "-e", f"trace={CALLS}", "-e", "signal=none", *words]
+    looks = ["strace", "-ff", "-qq", "-xx", "-s", "1000000", "-e", f"trace={traced}", "-e", "signal=none", *words]
     looks += ["-P", str(path), "-o", str(place), "-p", str(server.process.pid)]
     calls = []
     with subprocess.Popen(looks, stdin=subprocess.DEVNULL, stderr=subprocess.DEVNULL) as tracer:
@@ -119,6 +124,25 @@ def what_is_asked_is_what_stands_there(folder):
     equal(names(calls), FIRST + ["write", "fdatasync"] * len(SIZES))
     sent = ["".join(f"{line}\n" for line in body_of(size)).encode() for size in SIZES]
     equal(letters.messages(path) == sent, True)
+
+
+@case
+def a_large_letter_is_written_back_while_it_comes(folder):
+    """the system is told of each piece of a large letter, as it is written, that its disk may begin to write just that;
+    of the last one it isn't, which a sync follows, nor of a small letter"""
+    path = folder / "anna.mbox"
+    with Server(folder, ["anna"], 1, "--lanes", 1) as server:
+        with calls_at(server, path, traced=f"{CALLS},fadvise64") as calls:
+            with Client(server.address).greet() as client:
+                for size in [100, 1_000_000]:
+                    equal(client.deliver(["anna"], *body_of(size))[1], [stored("anna")])
+                client.quit()
+            equal(server.end().status, 0)
+    stored_at_once, piece = ["write", "fdatasync"], ["write", "fadvise64"]
+    equal([it.name for it in calls], FIRST + stored_at_once + piece * 3 + stored_at_once)
+    writes = [it.answer for it in calls if it.name == "write"]
+    told = [(it.at, it.size) for it in calls if it.name == "fadvise64"]
+    equal(told, [(sum(writes[:place]), writes[place]) for place in (1, 2, 3)])
 
 
 @case
