@@ -5,7 +5,7 @@ use Rattle.std.specs.Result.{OnOk, OnErr, IfErr}
 use Rattle.mail_world.specs.Counts.{counted}
 use Rattle.mail_world.specs.Endings.{ending}
 use Rattle.mbox_record.specs.Mending.{HasMended, HasNotMended}
-use Rattle.mbox_record.specs.Spool.{SpoolState, SpoolFailed, EndsTurn}
+use Rattle.mbox_record.specs.Spool.{SpoolState, SpoolFailed}
 use Rattle.mbox_record.specs.Tail.{ending_of}
 use Rattle.mbox_record.specs.TurnState.{TurnState}
 use Rattle.mbox_record.specs.declared.tail.Tail.{Tail}
@@ -15,9 +15,9 @@ use Rattle.box_worker.specs.declared.limit.Limit.{Limit}
 use Rattle.box_worker.specs.declared.turn.TurnEnd.{TurnEnd}
 use Rattle.box_worker.specs.declared.turn.TurnEnd.TheVariants.{Over, Stored, Broke}
 use Rattle.box_worker.specs.Limits.{CountsTo, start_of, missing, IsLetIn, IsKeptOut}
-use Rattle.box_worker.specs.Stored.{MailboxState, CountedMailbox, HasKept}
+use Rattle.box_worker.specs.Stored.{CountedMailbox, HasKept}
 use Rattle.box_worker.specs.Turned.{HasKeptMended, HasNotKeptMended}
-use Rattle.box_worker.specs.Turned.{MeasuresAgain, DoesInTurn, EndsInTurn}
+use Rattle.box_worker.specs.Turned.{MeasuresAgain, DoesInTurn}
 use Rattle.box_worker.proofs.Counting.{starts_at, let_in, kept_out}
 
 -- what a worker counts at a lock

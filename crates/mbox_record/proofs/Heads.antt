@@ -1,5 +1,5 @@
 -- The head of a record, text by text, and how long the record is that begins with it.
-use Rattle.std.proofs.Common.{◌≡◌, ℕ, ◌+◌, ◌<◌, ◌≤◌, ◌^◌, arith, List, [], ◌∷◌, ◌++◌, length, take, Option, Some, None, refl, sym, ap, ◌∙◌}
+use Rattle.std.proofs.Common.{◌≡◌, ℕ, ◌+◌, ◌<◌, ◌≤◌, ◌^◌, arith, List, [], ◌∷◌, ◌++◌, length, Option, Some, None, sym, ap, ◌∙◌}
 use Rattle.std.proofs.Common.{append_assoc, length-append}
 use Rattle.std.specs.Option.{SomeIff}
 use Rattle.mail_world.specs.Counts.{counted}

@@ -1,5 +1,3 @@
-use Rattle.std.proofs.Common.{List, ℕ, subst}
-use Rattle.mbox_record.specs.RecordHead.{HasAdded}
 use Rattle.mbox_record.proofs.Heads.{added_then}
 use Rattle.mbox_record.proofs.head.RecordHead.add_origin.Goals as goal
 

@@ -1,8 +1,7 @@
-use Rattle.std.proofs.Common.{◌≡◌, ◌∙◌, Bool, List, ℕ, ◌++◌, ap, ap₂, sym}
+use Rattle.std.proofs.Common.{◌∙◌, Bool, List, ℕ, ◌++◌, ap, ap₂, sym}
 use Rattle.lmtp_text.specs.Calendar.{civil_at}
 use Rattle.mail_world.specs.Records.{protocol}
 use Rattle.mbox_record.specs.Envelope.{from_line}
-use Rattle.mbox_record.specs.RecordHead.{RecordHead}
 use Rattle.mbox_record.proofs.Heads.{added_then}
 use Rattle.mbox_record.proofs.Parts.{head_split, trace_split}
 use Rattle.mbox_record.proofs.head.RecordHead.of.Goals as goal
