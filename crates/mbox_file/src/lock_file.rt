@@ -46,9 +46,8 @@ impl<F: OpenFile + Drop> LockSource<F> {
             .duration_since(UNIX_EPOCH)
             .map_or(0, |since| since.as_secs());
         if seconds != self.seconds {
-            self.made
-                .file
-                .set_times(FileTimes::new().set_modified(now))?;
+            let times = FileTimes::new().set_modified(now);
+            self.made.file.set_times(times)?;
             self.seconds = seconds;
         }
         Ok(())

@@ -19,7 +19,7 @@ use mail_world::Txn;
 use mail_world::limits::{NAME_LIMIT, PATH_LIMIT};
 use std::marker::Model;
 
-/// Room for the longest head, which has 1,169 bytes.
+/// Room for the longest head, which has 1,159 bytes.
 const HEAD_LIMIT: usize = 1_280;
 
 /// The head of a record as a text that lies in the value itself: the From line and the trace lines (RFC 4155, Appendix
