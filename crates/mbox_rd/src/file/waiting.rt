@@ -134,14 +134,14 @@ impl<F: MailboxFile + Drop, C: Clock + Drop> FileSpool<F, C> {
 }
 
 // Has the system begin to write the piece to the disk, too, while the next one is put together.
-fn write_piece<F: MailboxFile>(file: &mut F, bytes: &[u8]) -> io::Result<()>
+fn write_piece<F: MailboxFile>(file: &mut F, piece: &[u8]) -> io::Result<()>
     requires held { IsHeld (F.state file.old) }
     requires settled { (F.state file.old).cut_off ≡ [] }
-    ensures ok { OnOk result (HasAppended (F.state file.old) (F.state file.new) bytes.now) }
-    ensures err { OnErr result (HasNotAppended (F.state file.old) (F.state file.new) bytes.now) }
+    ensures ok { OnOk result (HasAppended (F.state file.old) (F.state file.new) piece.now) }
+    ensures err { OnErr result (HasNotAppended (F.state file.old) (F.state file.new) piece.now) }
 {
-    file.write(bytes)?;
-    file.begin_writeback(bytes.len());
+    file.write(piece)?;
+    file.begin_writeback(piece.len());
     Ok(())
 }
 
