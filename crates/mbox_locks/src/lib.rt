@@ -1,5 +1,5 @@
-//! The locks that mail programs take on a mailbox: on an open file, as traits, and by a lock file, which says whose it is.
-//! What else an open file is asked beyond std's calls stands beside them.
+//! The locks that mail programs take on a mailbox: on an open file, as traits, and by a lock file, which says whose it
+//! is. What else an open file is asked beyond std's calls stands beside them.
 //!
 //! Other crates take the locks, and judge by a lock file's text, age and process whether it is left behind. No file is
 //! opened, read or removed here.
