@@ -17,17 +17,19 @@
 #   b, b10     4 connections, 20 KiB, ten recipients: of 40 mailboxes, and the same ten for all
 #   c, c4      1 and 4 connections of 1 MiB, one recipient: a mailbox each
 # usage: bench/serve.sh --build or --try, which only builds what it measures with, or
-#        bench/serve.sh [--rounds N] [--times N] [--works a,b,..] [--peers floor,ours,..] [--slow-sync]
-#                       [--picture FILE.svg]
+#        bench/serve.sh [--rounds N] [--times N | --together] [--works a,b,..] [--peers floor,ours,..]
+#                       [--slow-sync] [--picture FILE.svg]
 # 3 rounds, all works and all peers without the words. In each round each peer does each work with a fresh store. A work
 # has several times as many messages for all but Dovecot; with --times N it is N times for each work: on an uneven disk
-# many short rounds tell more than few long ones. With --slow-sync each fsync and fdatasync takes 2 ms more
-# (bench/serve/slowsync.c). Peers that aren't installed are left out, and that is said; Dovecot needs root. Prints the
-# medians, and of ours and of `plain` the medians of the ratios within a round, beside those that are asked of ours.
-# "Uneven" is the slowest connection's time over the quickest's: all have the same to do, so where it is far above 1
-# one of them waited, on a busy machine for a core. --picture draws the medians. It fails where a reply is wrong, a
-# copy isn't in its mailbox, or a ratio is below. LMTPD names a program that is built already. The stores are in a
-# folder of mktemp, so TMPDIR says on which disk.
+# many short rounds tell more than few long ones. With --together the servers of a work live side by side through all of
+# its rounds, and in each round each has one burst of about a tenth of a second, in an order of chance: what is compared
+# lies within a second, so that a disk or a machine which is slow for seconds is slow for all. With --slow-sync each
+# fsync and fdatasync takes 2 ms more (bench/serve/slowsync.c). Peers that aren't installed are left out, and that is
+# said; Dovecot needs root. Prints the medians, and of ours and of `plain` the medians of the ratios within a round,
+# beside those that are asked of ours. "Uneven" is the slowest connection's time over the quickest's: all have the same
+# to do, so where it is far above 1 one of them waited, on a busy machine for a core. --picture draws the medians. It
+# fails where a reply is wrong, a copy isn't in its mailbox, or a ratio is below. LMTPD names a program that is built
+# already. The stores are in a folder of mktemp, so TMPDIR says on which disk.
 set -euo pipefail
 cd "$(dirname "$0")/.."
 . tests/needs rustc python3

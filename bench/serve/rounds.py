@@ -1,12 +1,14 @@
-"""usage: rounds.py FOLDER [--rounds N] [--times N] [--works a,b,..] [--peers floor,ours,..] [--slow-sync]
+"""usage: rounds.py FOLDER [--rounds N] [--times N | --together] [--works a,b,..] [--peers floor,ours,..] [--slow-sync]
                  [--picture FILE.svg]
 
 The rounds and the table of bench/serve.sh, which built `load`, `floor`, `plain` and slowsync.so in FOLDER.
 """
 
 import argparse
+import contextlib
 import os
 import pathlib
+import random
 import shutil
 import signal
 import statistics
@@ -31,17 +33,18 @@ class Work:
     # Of all but Dovecot that many times as many messages, so that no run is too short to tell. A mailbox that
     # grows costs Dovecot time, so the smaller number is in its favour.
     times: int
+    burst: int  # the messages on each connection of one burst, where servers live together
     # The least ratio of ours to a peer. `before` is a program that moves 512 bytes at a time (74e1518b).
     needed: dict = field(default_factory=dict)
 
 
 WORKS = {
-    "a": Work(4, 500, 1, 2048, 4, 5, {"dovecot": 5, "smtp-sink": 0.8, "plain": 0.65, "before": 0.97}),
-    "a1": Work(4, 500, 1, 2048, 1, 5, {"dovecot": 8, "before": 0.97}),
-    "b": Work(4, 100, 10, 20480, 40, 3, {"dovecot": 5, "before": 0.97}),
-    "b10": Work(4, 100, 10, 20480, 10, 3, {"dovecot": 10, "before": 0.97}),
-    "c": Work(1, 20, 1, 1048576, 1, 5, {"dovecot": 2.5, "plain": 0.65, "before": 1.25}),
-    "c4": Work(4, 10, 1, 1048576, 4, 3, {"plain": 0.65, "before": 1.25}),
+    "a": Work(4, 500, 1, 2048, 4, 5, 200, {"dovecot": 5, "smtp-sink": 0.8, "plain": 0.65, "before": 0.97}),
+    "a1": Work(4, 500, 1, 2048, 1, 5, 200, {"dovecot": 8, "before": 0.97}),
+    "b": Work(4, 100, 10, 20480, 40, 3, 40, {"dovecot": 5, "before": 0.97}),
+    "b10": Work(4, 100, 10, 20480, 10, 3, 40, {"dovecot": 10, "before": 0.97}),
+    "c": Work(1, 20, 1, 1048576, 1, 5, 10, {"dovecot": 2.5, "plain": 0.65, "before": 1.25}),
+    "c4": Work(4, 10, 1, 1048576, 4, 3, 5, {"plain": 0.65, "before": 1.25}),
 }
 # The least ratio of ours with a word to ours without it, or to the older program with it.
 NEEDED_WITH = {
@@ -69,7 +72,9 @@ def main():
     options = argparse.ArgumentParser()
     options.add_argument("folder", type=pathlib.Path)
     options.add_argument("--rounds", type=int, default=3)
-    options.add_argument("--times", type=int)
+    lengths = options.add_mutually_exclusive_group()
+    lengths.add_argument("--times", type=int)
+    lengths.add_argument("--together", action="store_true")
     options.add_argument("--works", default=",".join(WORKS))
     options.add_argument("--peers", default=",".join(PEERS))
     options.add_argument("--slow-sync", action="store_true")
@@ -80,15 +85,15 @@ def main():
     given.folder.chmod(0o711)
     bench = Bench(given.folder, given.slow_sync, given.times)
     works, names = given.works.split(","), given.peers.split(",")
+    if given.together and "floor" in names:
+        options.error("floor is no server, and has no bursts")
     there = [name for name in names if name == "floor" or not say_absent(name)]
     say_machine(given)
+    every_run = bench.bursts if given.together else bench.fresh_runs
     runs = {}
-    for number in range(given.rounds):
-        for work in works:
-            # each round begins with another peer
-            for name in there[number % len(there) :] + there[: number % len(there)]:
-                runs[work, name, number] = bench.run(work, name)
-                say_run(number, work, name, runs[work, name, number])
+    for number, work, name, run in every_run(works, there, given.rounds):
+        runs[work, name, number] = run
+        say_run(number, work, name, run)
     if given.picture:
         given.picture.write_text(picture.drawn(works, there, medians(works, there, runs, given.rounds)))
     return print_tables(works, there, given, runs)
@@ -112,7 +117,8 @@ def say_machine(given):
     date = time.strftime("%Y-%m-%d %H:%M UTC", time.gmtime())
     slow = ", each sync 2 ms slower" if given.slow_sync else ""
     machine = f"{os.cpu_count()} cores, load {os.getloadavg()[0]:.1f}, {stat.stdout.strip()}"
-    print(f"{date}, {machine}, {given.rounds} rounds{slow}", flush=True)
+    together = " of bursts" if given.together else ""
+    print(f"{date}, {machine}, {given.rounds} rounds{together}{slow}", flush=True)
 
 
 def say_run(number, work, name, run):
@@ -130,16 +136,62 @@ class Bench:
         if is_slow and not (folder / "slowsync.so").exists():
             sys.exit("--slow-sync needs a C compiler (cc)")
 
-    def run(self, name, peer):
-        """One run of a work with a fresh store, which is gone afterwards."""
-        folder = self.folder / "peer"
+    def fresh_runs(self, works, names, rounds):
+        """Each round's runs, one after the other, each with a fresh store."""
+        for number in range(rounds):
+            for work in works:
+                # each round begins with another peer
+                for name in names[number % len(names) :] + names[: number % len(names)]:
+                    yield number, work, name, self.run(work, name)
+
+    def bursts(self, works, names, rounds):
+        """Of each work all rounds, in which servers that live together get a burst each, in an order of chance."""
+        chance = random.Random(1)
+        for work in works:
+            with contextlib.ExitStack() as stack:
+                servers = {name: stack.enter_context(self.living(WORKS[work], name)) for name in names}
+                rested = time.monotonic()
+                for number in range(rounds):
+                    for name in chance.sample(names, len(names)):
+                        yield number, work, name, self.burst(servers[name], WORKS[work])
+                    # no mailbox of ours is ever so busy that it is left alone for its readers within a burst
+                    if time.monotonic() - rested > 10:
+                        time.sleep(1.2)
+                        rested = time.monotonic()
+                for name, server in servers.items():
+                    self.check(server, name, WORKS[work], WORKS[work].burst * rounds)
+
+    @contextlib.contextmanager
+    def living(self, work, name):
+        """A server with a store of its own, which is gone afterwards."""
+        folder = self.folder / f"peer-{name}"
         folder.mkdir(mode=0o755)
         try:
-            work = WORKS[name]
-            more = 1 if peer == "dovecot" or self.is_slow else self.times or work.times
-            if peer == "floor":
-                return self.floor(work, work.messages * more, folder)
-            return self.server(work, work.messages * more, peer, folder)
+            server = peers.Server(name, folder, self.preload)
+            try:
+                self.begin(server, work)
+                yield server
+            finally:
+                server.end()
+        finally:
+            shutil.rmtree(folder)
+
+    def burst(self, server, work):
+        return self.load(server, "m", work, work.connections, work.burst, work.recipients)
+
+    def run(self, name, peer):
+        """One run of a work with a fresh store, which is gone afterwards."""
+        work = WORKS[name]
+        more = 1 if peer == "dovecot" or self.is_slow else self.times or work.times
+        if peer != "floor":
+            with self.living(work, peer) as server:
+                run = self.load(server, "m", work, work.connections, work.messages * more, work.recipients)
+                self.check(server, peer, work, work.messages * more)
+            return run
+        folder = self.folder / f"peer-{peer}"
+        folder.mkdir()
+        try:
+            return self.floor(work, work.messages * more, folder)
         finally:
             shutil.rmtree(folder)
 
@@ -147,20 +199,17 @@ class Bench:
         words = [work.connections, messages, work.recipients, work.size, work.boxes]
         return self.measure([self.folder / "floor", folder, *words], preload=self.preload)
 
-    def server(self, work, messages, peer, folder):
-        server = peers.Server(peer, folder, self.preload)
-        try:
-            # a message to all mailboxes, so that each is made, and some on as many connections
-            self.load(server, "w", work, 1, 1, work.boxes)
-            self.load(server, "w", work, work.connections, 2, work.recipients)
-            run = self.load(server, "m", work, work.connections, messages, work.recipients)
-        finally:
-            server.end()
+    def begin(self, server, work):
+        """A message to all mailboxes, so that each is made, and some on as many connections."""
+        self.load(server, "w", work, 1, 1, work.boxes)
+        self.load(server, "w", work, work.connections, 2, work.recipients)
+
+    def check(self, server, name, work, messages):
+        """That all copies of the measured messages are in the mailboxes."""
         needed = work.connections * messages * work.recipients
         stored = count_copies(server.store)
-        if peer != "smtp-sink" and stored != needed:
-            raise Fault(f"{peer}: {stored} of {needed} copies are in the mailboxes")
-        return run
+        if name != "smtp-sink" and stored != needed:
+            raise Fault(f"{name}: {stored} of {needed} copies are in the mailboxes")
 
     def load(self, server, tag, work, connections, messages, recipients):
         words = [server.address, tag, connections, 1, messages, recipients, work.size, work.boxes]
