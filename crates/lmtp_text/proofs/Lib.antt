@@ -1,6 +1,5 @@
 pub mod SiteRules
 pub mod WordSteps
-pub mod ReplyTexts
 pub mod Finds
 pub mod Users
 pub mod TextLists
@@ -8,8 +7,6 @@ pub mod CommandCuts
 pub mod ParameterLists
 pub mod ParameterTallies
 pub mod PathPrefixes
-pub mod CalendarDates
-pub mod CalendarMoments
 mod Encodings
 pub mod PathsBeyond
 pub mod MoreOffered

@@ -2,6 +2,5 @@ pub mod Seen
 pub mod Sites
 pub mod Paths
 pub mod Parameters
-pub mod Calendar
 pub mod Offers
 pub mod Readings

@@ -1,5 +1,5 @@
 -- Sites as they are passed, owned and refused.
-use Rattle.std.specs.Prelude.{ℕ, Bool, false, ◌||◌, List, map, None, Vec, codes, if◌then◌else◌}
+use Rattle.std.specs.Prelude.{ℕ, Bool, false, ◌||◌, List, map, None, Vec, codes}
 use Rattle.std.specs.declared.alloc.Global.{Global}
 use Rattle.std.specs.Borrow.{Bor}
 use Rattle.std.specs.Char.{is_ascii_alphanumeric, is_ascii_lowercase, is_ascii_digit}
@@ -36,13 +36,6 @@ is_of_host_name b = is_ascii_alphanumeric b || has_byte (codes "-.") b
 
 abbrev pub is_of_box_name : ℕ → Bool
 is_of_box_name b = is_ascii_lowercase b || is_ascii_digit b || has_byte (codes "-_.") b
-
--- what the offer says after the host's name, before the limit. `utf8`: addresses may be in UTF-8
-abbrev pub offers : Bool → List ℕ
-offers utf8 =
-    if utf8
-    then codes "\r\n250-PIPELINING\r\n250-ENHANCEDSTATUSCODES\r\n250-8BITMIME\r\n250-SMTPUTF8\r\n250 SIZE "
-    else codes "\r\n250-PIPELINING\r\n250-ENHANCEDSTATUSCODES\r\n250-8BITMIME\r\n250 SIZE "
 
 -- what is answered where a rule is broken
 abbrev pub cause : Fault → SiteFault

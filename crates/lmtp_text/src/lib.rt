@@ -1,8 +1,7 @@
-//! The texts of LMTP and of a mailbox: what a site is named and serves, commands as they are read, replies and moments
-//! as they are written.
+//! What a site is named and serves, and commands as they are read for it.
 //!
-//! The layers above use that `read_command`, `Reading::command_at`, `Site::find`, `write_reply` and the stamps each equal
-//! their definition. It never knows what came before a command, or what is done with it.
+//! The layers above use that `read_command`, `Reading::command_at` and `Site::find` each equal their definition. It never
+//! knows what came before a command, what is done with it, or what is replied.
 #![tactic(auto)]
 
 mod alphabet;
@@ -13,15 +12,10 @@ mod offers;
 mod parameters;
 mod path;
 mod reading;
-mod reply;
 mod rules;
 mod site;
-mod stamp;
-mod writing;
 
 pub use command::{Command, Target, read_command, read_command_at};
-pub use mail_world::{BadCommand, Extensions, Outcome, Reply};
+pub use mail_world::{BadCommand, Extensions};
 pub use reading::Reading;
-pub use reply::{REPLY_LIMIT, reply_code, write_reply};
 pub use site::{Site, SiteFault, is_delimiter};
-pub use stamp::{Stamp, stamp_5322, stamp_ctime};

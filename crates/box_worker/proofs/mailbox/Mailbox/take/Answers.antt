@@ -1,5 +1,5 @@
 use Rattle.std.proofs.Common.{◌≡◌, ◌∙◌, Option, false, ap, sym, subst}
-use Rattle.lmtp_text.specs.Calendar.{civil_at}
+use Rattle.mail_stamp.specs.Calendar.{civil_at}
 use Rattle.mbox_record.specs.Envelope.{record_text}
 use Rattle.mbox_record.specs.Spool.{SpoolState, standing, BeginsTurn}
 use Rattle.mbox_record.specs.TurnState.{knows_end}

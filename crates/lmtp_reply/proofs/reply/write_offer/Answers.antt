@@ -1,8 +1,8 @@
 use Rattle.std.proofs.Common.{ap, ◌∙◌, arith}
 use Rattle.std.specs.Prelude.{decimal}
-use Rattle.lmtp_text.specs.Sites.{offers}
-use Rattle.lmtp_text.proofs.ReplyTexts.{offer-put, drop-later}
-use Rattle.lmtp_text.proofs.reply.write_offer.Goals as goal
+use Rattle.lmtp_reply.specs.Offer.{offers}
+use Rattle.lmtp_reply.proofs.ReplyTexts.{offer-put, drop-later}
+use Rattle.lmtp_reply.proofs.reply.write_offer.Goals as goal
 
 pub returns-clause-text : goal.returns-clause-text
 returns-clause-text c = offer-put c.args.site.now c.host.result.now c.as_bytes-limit.result.now c.offers.result.now _ _ _ _ _

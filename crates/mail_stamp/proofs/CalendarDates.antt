@@ -9,7 +9,7 @@ use Rattle.jiff_core.specs.Date.{epoch_day}
 use Rattle.jiff_core.proofs.SignedLemmas.{signed_arith}
 use Rattle.jiff_core.proofs.CalendarLemmas.{days_from_civil-day_count, days_in_month_bounds, day_count-epoch, day_count-lt_year}
 use Rattle.jiff_core.proofs.DateLemmas.{civil, epoch_day_injective, days_from_civil-day, days_from_civil-next_month, days_from_civil-next_year}
-use Rattle.lmtp_text.specs.Calendar.{Date, next_date, date_after}
+use Rattle.mail_stamp.specs.Calendar.{Date, next_date, date_after}
 
 -- the calendar has this day, and its number is n
 pub record IsDay (n : ℕ) (d : Date) : Type 0 where

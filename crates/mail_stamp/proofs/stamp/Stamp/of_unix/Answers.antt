@@ -2,8 +2,8 @@ use Rattle.std.proofs.Common.{◌≡◌, ◌*◌, arith, pos, to_z-of_z, FitsSig
 use Rattle.jiff_core.specs.DateTime.{civil_nanos}
 use Rattle.jiff_core.specs.declared.civil.datetime.DateTime.{DateTime}
 use Rattle.jiff_core.proofs.SignedLemmas.{signed_casts, signed_arith}
-use Rattle.lmtp_text.proofs.CalendarMoments.{year_is, shown_is}
-use Rattle.lmtp_text.proofs.stamp.Stamp.of_unix.Goals as goal
+use Rattle.mail_stamp.proofs.CalendarMoments.{year_is, shown_is}
+use Rattle.mail_stamp.proofs.stamp.Stamp.of_unix.Goals as goal
 
 -- a moment from 1970 on has no negative year
 pub overflow_cast-result : goal.overflow_cast-result

@@ -7,8 +7,8 @@ use Rattle.jiff_core.proofs.SignedLemmas.{signed_arith}
 use Rattle.jiff_core.proofs.CalendarLemmas.{weekday_number-parts}
 use Rattle.jiff_core.proofs.DateTimeLemmas.{civil_nanos-parts, time_nanos_bound}
 use Rattle.mail_world.specs.Stamps.{Civil}
-use Rattle.lmtp_text.specs.Calendar.{date_after, civil_at}
-use Rattle.lmtp_text.proofs.CalendarDates.{date_is}
+use Rattle.mail_stamp.specs.Calendar.{date_after, civil_at}
+use Rattle.mail_stamp.proofs.CalendarDates.{date_is}
 
 -- what the datetime shows, with its weekday from 0 for Monday
 abbrev pub shown : DateTime → Civil

@@ -1,6 +1,6 @@
 use Rattle.std.proofs.Common.{◌∙◌, arith}
-use Rattle.lmtp_text.proofs.ReplyTexts.{drop-later}
-use Rattle.lmtp_text.proofs.reply.write_reply.Goals as goal
+use Rattle.lmtp_reply.proofs.ReplyTexts.{drop-later}
+use Rattle.lmtp_reply.proofs.reply.write_reply.Goals as goal
 
 pub returns-clause-rest : goal.returns-clause-rest
 returns-clause-rest c =

@@ -1,6 +1,6 @@
 use Rattle.std.proofs.Common.{arith}
 use Rattle.std.proofs.lemmas.Slice.{drop-put_mid}
-use Rattle.lmtp_text.proofs.writing.put.Goals as goal
+use Rattle.lmtp_reply.proofs.writing.put.Goals as goal
 
 pub returns-clause-rest : goal.returns-clause-rest
 returns-clause-rest c =

@@ -3,11 +3,11 @@
 ghost use Rattle.std.specs.Prelude.{◌≡◌, ℕ, ◌≤◌, List, ◌++◌, length, take, drop, IfSome, IfNone};
 ghost use Rattle.mail_world.specs.Text.{crlf};
 ghost use Rattle.mail_world.specs.Replies.{refusal_text, outcome_text, reply_text};
-ghost use Rattle.lmtp_text.specs.Sites.{offers};
+ghost use Rattle.lmtp_reply.specs.Offer.{offers};
 
-use crate::site::Site;
 use crate::writing::put;
 use itoa::Buffer;
+use lmtp_text::Site;
 use mail_world::limits::NAME_LIMIT;
 use mail_world::{BadCommand, Outcome, Reply};
 

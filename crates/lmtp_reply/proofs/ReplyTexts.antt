@@ -9,7 +9,7 @@ use Rattle.mail_world.specs.declared.Reply.TheVariants as replies
 use Rattle.mail_world.specs.Site.{Site}
 use Rattle.mail_world.specs.Text.{crlf}
 use Rattle.mail_world.specs.Replies.{line, reply_text}
-use Rattle.lmtp_text.specs.Sites.{offers}
+use Rattle.lmtp_reply.specs.Offer.{offers}
 
 pub greeting-is : (site : Site) (reply : Reply) → reply ≡ replies.Greeting
     → codes "220 " ++ site.host ++ codes " LMTP ready\r\n" ≡ reply_text site reply

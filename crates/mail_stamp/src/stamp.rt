@@ -1,7 +1,7 @@
 //! A moment as the texts of a mailbox show it: the form of ctime, and that of a header's date.
 ghost use Rattle.std.specs.Prelude.{◌≡◌, ◌≤◌, ◌<◌, ◌++◌, length, take, drop, codes};
 ghost use Rattle.mail_world.specs.Stamps as texts;
-ghost use Rattle.lmtp_text.specs.Calendar.{civil_at};
+ghost use Rattle.mail_stamp.specs.Calendar.{civil_at};
 
 use crate::writing::put;
 use jiff::Timestamp;

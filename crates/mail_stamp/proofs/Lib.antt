@@ -1,0 +1,2 @@
+pub mod CalendarDates
+pub mod CalendarMoments
