@@ -9,9 +9,7 @@ use crate::curfew::{Curfew, has_passed};
 use crate::drain::close;
 use crate::silence::is_silence;
 use crate::stream::ClientStream;
-use lmtp_talk::{
-    Came, Client, EndCause, Pause, Peer, PeerFault, ReadBuffer, Traffic, write_some,
-};
+use lmtp_talk::{Came, Client, EndCause, Pause, Peer, PeerFault, ReadBuffer, Traffic, write_some};
 use std::io;
 use std::io::{Error, ErrorKind, Read, Write};
 use std::sync::Arc;
