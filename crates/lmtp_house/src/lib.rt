@@ -14,7 +14,7 @@ pub use lmtp_lane::{
     lane_run_at, tcp_visits,
 };
 pub use lmtp_talk::{
-    Arrived, Bounds, Came, Client, ClientStream, Curfew, Delivery, Dialogue, EndCause, Observer,
-    Outbox, Pause, Peer, PeerFault, ReadBuffer, TcpPeer, Traffic, has_passed, serve,
+    Arrived, Came, Client, Delivery, Dialogue, EndCause, Observer, Outbox, Pause, Peer, PeerFault,
+    ReadBuffer, Traffic, serve,
 };
 pub use lmtp_threads::{Tally, Watched};

@@ -3,11 +3,11 @@ use Rattle.std.specs.Prelude.{◌≡◌, ◌+◌, ◌/◌, ◌%◌, ◌⊎◌, �
 use Rattle.std.specs.Prelude.{nat_lt, if◌then◌else◌, Option, None, is_some, IsNone, IfSome}
 use Rattle.std.specs.Arc.{arc_value}
 use Rattle.std.specs.List.{range_with_len}
-use Rattle.lmtp_talk.specs.declared.tcp.peer.Bounds.{Bounds}
-use Rattle.lmtp_talk.specs.declared.tcp.peer.TcpPeer.{TcpPeer}
+use Rattle.lmtp_tcp.specs.declared.tcp_peer.Bounds.{Bounds}
+use Rattle.lmtp_tcp.specs.declared.tcp_peer.TcpPeer.{TcpPeer}
 use Rattle.lmtp_lane.specs.declared.tcp.visits.TcpVisits.{TcpVisits}
 use Rattle.lmtp_talk.specs.Peer.{PeerState, RisesBy}
-use Rattle.lmtp_talk.specs.TcpPeer.{IsNew}
+use Rattle.lmtp_tcp.specs.TcpPeer.{IsNew}
 use Rattle.lmtp_lane.specs.Visits.{VisitsTold}
 
 -- how many conversations may still be held

@@ -10,4 +10,3 @@ pub mod Ends
 pub mod Rounds
 pub mod HandedOut
 pub mod Counting
-mod AtRestRows

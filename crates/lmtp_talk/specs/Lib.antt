@@ -2,7 +2,6 @@ pub mod Entries
 pub mod Peer
 pub mod Parties
 pub mod Pause
-pub mod AtRest
 pub mod Delivery
 pub mod Saying
 pub mod Telling
@@ -11,5 +10,3 @@ pub mod TalkState
 pub mod Steps
 pub mod Rounds
 pub mod ReadBuffer
-pub mod Silence
-pub mod TcpPeer

@@ -2,7 +2,7 @@
 use Rattle.std.specs.Prelude.{◌≡◌, ◌≤◌, ◌⊎◌, ℕ, ◌+◌, ◌-◌, ◌^◌, List, [], length, take, Option}
 use Rattle.std.specs.Io.KnownBytes.{Appends, Consumes, IsAtEnd}
 use Rattle.mail_world.specs.Failures.{Rises}
-use Rattle.lmtp_talk.specs.declared.tcp.read_buffer.TheConstants.{PIECE_LIMIT}
+use Rattle.lmtp_talk.specs.declared.read_buffer.TheConstants.{PIECE_LIMIT}
 use Rattle.lmtp_talk.specs.declared.peer.Came.{Came}
 use Rattle.lmtp_talk.specs.declared.peer.Came.TheVariants.{Bytes, End, Stop}
 

@@ -1,8 +1,8 @@
 -- What a buffer before a stream has and lends.
 use Rattle.std.specs.Prelude.{◌≡◌, ◌-◌, ◌++◌, ◌≤◌, ◌<◌, ℕ, List, [], length, take, drop, Result, MatchResult, Option}
 use Rattle.std.specs.Io.KnownBytes.{Consumes, Keeps, IsAtEnd}
-use Rattle.lmtp_talk.specs.declared.tcp.read_buffer.ReadBuffer.{ReadBuffer}
-use Rattle.lmtp_talk.specs.declared.tcp.read_buffer.TheConstants.{PIECE_LIMIT}
+use Rattle.lmtp_talk.specs.declared.read_buffer.ReadBuffer.{ReadBuffer}
+use Rattle.lmtp_talk.specs.declared.read_buffer.TheConstants.{PIECE_LIMIT}
 
 -- the bytes that were read and are still to be lent
 abbrev pub waiting : ReadBuffer → List ℕ

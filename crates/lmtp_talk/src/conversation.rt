@@ -18,7 +18,7 @@ use crate::handling::handle;
 use crate::observer::Observer;
 use crate::pause::Pause;
 use crate::peer::{Came, Peer, PeerFault};
-use crate::tcp::ReadBuffer;
+use crate::read_buffer::ReadBuffer;
 use mail_world::State;
 
 /// Serves one conversation. All that was read is handled, and its replies are written, before the next read; nothing is

@@ -6,7 +6,7 @@ ghost use Rattle.lmtp_talk.specs.Peer.{PeerState, WasRead, HasBrought, HasWritte
 
 use crate::client::Traffic;
 use crate::pause::Pause;
-use crate::tcp::ReadBuffer;
+use crate::read_buffer::ReadBuffer;
 use thiserror::Error;
 
 /// A read or a write failed, for a reason that the peer keeps to itself.

@@ -11,7 +11,7 @@ use Rattle.lmtp_threads.specs.Works.{SpoolsView}
 use Rattle.lmtp_house.specs.House.{IsSize}
 use Rattle.lmtp_house.specs.declared.house.sizes.Sizes.{Sizes}
 use Rattle.lmtpd_serve.specs.declared.served.Served.{Served}
-use Rattle.lmtp_talk.specs.declared.tcp.peer.Bounds.{Bounds}
+use Rattle.lmtp_tcp.specs.declared.tcp_peer.Bounds.{Bounds}
 use Rattle.lmtpd_serve.specs.Served.{IsServerRun, Serving}
 use Rattle.lmtp_house.specs.declared.house.fault.HouseFault.{HouseFault}
 use Rattle.lmtp_house.specs.declared.house.fault.HouseFault.TheVariants as house

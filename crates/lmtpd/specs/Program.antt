@@ -15,7 +15,7 @@ use Rattle.lmtp_threads.specs.Works.{SpoolsView}
 use Rattle.lmtp_talk.specs.Entries.{Entry}
 use Rattle.lmtp_house.specs.House.{IsSize}
 use Rattle.lmtp_house.specs.declared.house.sizes.Sizes.{Sizes}
-use Rattle.lmtp_talk.specs.declared.tcp.peer.Bounds.{Bounds}
+use Rattle.lmtp_tcp.specs.declared.tcp_peer.Bounds.{Bounds}
 use Rattle.lmtpd_words.specs.CommandLine.{program_app}
 use Rattle.lmtpd_words.specs.Words.{IsAsked, IsLacking, named_site}
 use Rattle.lmtpd_words.specs.declared.words.RehearseWords.{RehearseWords}

@@ -1,6 +1,6 @@
 //! A client's stream, be it TCP or a Unix socket.
 
-use lmtp_talk::ClientStream;
+use lmtp_tcp::ClientStream;
 use std::io;
 use std::io::{Read, Write};
 use std::net::{Shutdown, TcpStream};

@@ -1,6 +1,6 @@
 //! How many conversations a server holds.
 
-use lmtp_house::Bounds;
+use lmtp_tcp::Bounds;
 use std::sync::Arc;
 
 /// The conversations of a server.

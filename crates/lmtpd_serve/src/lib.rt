@@ -14,8 +14,6 @@ mod watching;
 
 pub use conversations::Conversations;
 pub use lines::{Trouble, write_trouble_lines};
-pub use lmtp_house::{
-    Bounds, ClientStream, Curfew, Endpoint, Listener, Sizes, Tally, WAIT_MS, Watched,
-};
+pub use lmtp_house::{Endpoint, Listener, Sizes, Tally, WAIT_MS, Watched};
 pub use run::serve_run;
 pub use served::{Served, ServerEnding};

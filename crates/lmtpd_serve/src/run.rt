@@ -15,9 +15,10 @@ use super::served::{Served, ServerEnding};
 use super::watching::watched;
 use box_worker::TurnObserver;
 use lmtp_house::{
-    ClientStream, Curfew, HouseFault, HouseReport, Listener, Sizes, SystemClock, TcpVisits,
-    Watched, has_failed, is_size, run_house, tcp_visits,
+    HouseFault, HouseReport, Listener, Sizes, SystemClock, TcpVisits, Watched, has_failed, is_size,
+    run_house, tcp_visits,
 };
+use lmtp_tcp::{ClientStream, Curfew};
 use lmtp_text::Site;
 use lmtpd_log::{LaneLogs, lane_logs};
 use mbox_record::Spool;

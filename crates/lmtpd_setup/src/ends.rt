@@ -3,7 +3,7 @@
 ghost use Rattle.std.specs.Prelude.{◌≡◌, IfOk, option_map, string_bytes};
 ghost use Rattle.lmtpd_setup.specs.Curfew.{IsCurfewOf};
 
-use lmtp_talk::{Curfew, has_passed};
+use lmtp_tcp::{Curfew, has_passed};
 use std::alloc::{AllocError, Global};
 use std::fs;
 use std::fs::Files;

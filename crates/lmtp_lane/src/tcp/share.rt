@@ -6,7 +6,7 @@ ghost use Rattle.std.specs.Arc.{arc_value};
 ghost use Rattle.lmtp_lane.specs.TcpVisits.{IsLaneOf, connections_left, conversations_ended, is_out, share, shares};
 
 use crate::tcp::visits::TcpVisits;
-use lmtp_talk::Bounds;
+use lmtp_tcp::Bounds;
 use std::alloc::{AllocError, Global};
 use std::sync::Arc;
 

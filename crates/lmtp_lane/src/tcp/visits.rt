@@ -5,7 +5,8 @@ ghost use Rattle.std.specs.Arc.{arc_value};
 
 use crate::tcp::listener::Listener;
 use crate::visits::Visits;
-use lmtp_talk::{Bounds, Client, ClientStream, Curfew, EndCause, TcpPeer, is_silence};
+use lmtp_talk::{Client, EndCause};
+use lmtp_tcp::{Bounds, ClientStream, Curfew, TcpPeer, is_silence};
 use std::io;
 use std::io::{ErrorKind, Read, Write};
 use std::sync::{Arc, Wait};

@@ -3,7 +3,8 @@
 ghost use Rattle.std.specs.Prelude.{◌≡◌};
 ghost use Rattle.lmtpd.specs.Program.{bounds_asked, connections_asked, sizes_asked};
 
-use lmtpd_serve::{Bounds, Sizes, WAIT_MS};
+use lmtp_tcp::Bounds;
+use lmtpd_serve::{Sizes, WAIT_MS};
 use lmtpd_words::ServeWords;
 
 /// Its sizes, with a slot for each lane.

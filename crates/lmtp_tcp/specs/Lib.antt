@@ -1,0 +1,3 @@
+pub mod AtRest
+pub mod Silence
+pub mod TcpPeer
