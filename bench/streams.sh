@@ -13,7 +13,7 @@ set -euo pipefail
 cd "$(dirname "$0")/.."
 . tests/needs rustc python3
 . bench/program
-make_program streams streams "mail_world lmtp_wire lmtp_text mbox_record anyhow" "${1:-}"
+make_program streams streams "mail_world lmtp_wire lmtp_text mbox_spool mbox_record anyhow" "${1:-}"
 
 python3 -B - out/streams "$folder/loops" "${RUNS:-9}" <<'PYTHON'
 import sys

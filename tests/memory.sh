@@ -41,5 +41,5 @@ refused() {
 }
 
 refused 'makers alone take memory' refused msg_depot src/tests/refused.rt
-(add_crate called "$folder/called" 'mail_world lmtp_text mbox_record box_worker lmtp_house lmtpd_rehearse')
+(add_crate called "$folder/called" 'mail_world lmtp_text mbox_spool box_worker lmtp_house lmtpd_rehearse')
 refused 'a server and a rehearsal answer for each allocation' '' called src/lib.rt src/house.rt src/rehearsal.rt

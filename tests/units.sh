@@ -10,8 +10,8 @@ needed=("$@")
 [ "$#" != 0 ] || mapfile -t needed < <(find crates -name 'tests.rt.in' | cut -d/ -f2 | sort -u)
 # shellcheck disable=SC2046
 copy_crates sources $(grep -oE '^[a-z0-9_]+' crates.txt)
-# a record is its site's, which the code of mbox_rd never names
-sed -i 's/^mbox_rd:/& lmtp_text/' "$folder/crates.txt"
+# its tests write records, which are their site's, and its code names neither
+sed -i 's/^mbox_rd:/& lmtp_text mbox_record/' "$folder/crates.txt"
 add_tests
 cd "$folder"
 

@@ -6,9 +6,9 @@ use Rattle.std.proofs.lemmas.Bool.Decides.{nat_tests}
 use Rattle.mail_world.specs.Counts.{counted}
 use Rattle.mail_world.specs.Quotas.{fits}
 use Rattle.mail_world.specs.Endings.{ending, mends, mended}
-use Rattle.mbox_record.specs.Spool.{SpoolState}
-use Rattle.mbox_record.specs.Tail.{ending_of}
-use Rattle.mbox_record.specs.declared.tail.Tail.{Tail}
+use Rattle.mbox_spool.specs.Spool.{SpoolState}
+use Rattle.mbox_spool.specs.Tail.{ending_of}
+use Rattle.mbox_spool.specs.declared.tail.Tail.{Tail}
 use Rattle.box_worker.specs.declared.limit.Limit.{Limit}
 use Rattle.box_worker.specs.Limits.{CountsTo, start_of, missing, IsLetIn, IsKeptOut}
 

@@ -21,7 +21,7 @@ use Rattle.mail_post.specs.declared.channel.Gone.TheVariants.{Closed, Lost}
 use Rattle.mail_post.specs.Copies.{envelope_of}
 use Rattle.mail_post.specs.Offered.{HaveNumber, IsOffered, any_gone}
 use Rattle.mail_post.proofs.Offered.{still_numbered, accepted_nothing, offered_more}
-use Rattle.mbox_record.specs.Spool.{SpoolState}
+use Rattle.mbox_spool.specs.Spool.{SpoolState}
 use Rattle.mbox_record.specs.Envelope.{record_text}
 use Rattle.box_worker.specs.declared.limit.Limit.{Limit}
 use Rattle.box_worker.specs.declared.turn.TurnEnd.{TurnEnd}

@@ -4,13 +4,13 @@ use Rattle.std.proofs.Common.{sym, ◌∙◌, subst}
 use Rattle.std.specs.Result.{OnOk, OnErr, IfErr}
 use Rattle.mail_world.specs.Counts.{counted}
 use Rattle.mail_world.specs.Endings.{ending}
-use Rattle.mbox_record.specs.Mending.{HasMended, HasNotMended}
-use Rattle.mbox_record.specs.Spool.{SpoolState, SpoolFailed}
-use Rattle.mbox_record.specs.Tail.{ending_of}
-use Rattle.mbox_record.specs.TurnState.{TurnState}
-use Rattle.mbox_record.specs.declared.tail.Tail.{Tail}
-use Rattle.mbox_record.proofs.Taken.{Appends-then, SpoolFailed-first, SpoolFailed-later}
-use Rattle.mbox_record.specs.declared.spool.SpoolFault.{SpoolFault}
+use Rattle.mbox_spool.specs.Mending.{HasMended, HasNotMended}
+use Rattle.mbox_spool.specs.Spool.{SpoolState, SpoolFailed}
+use Rattle.mbox_spool.specs.Tail.{ending_of}
+use Rattle.mbox_spool.specs.TurnState.{TurnState}
+use Rattle.mbox_spool.specs.declared.tail.Tail.{Tail}
+use Rattle.mbox_spool.proofs.Taken.{Appends-then, SpoolFailed-first, SpoolFailed-later}
+use Rattle.mbox_spool.specs.declared.spool.SpoolFault.{SpoolFault}
 use Rattle.box_worker.specs.declared.limit.Limit.{Limit}
 use Rattle.box_worker.specs.declared.turn.TurnEnd.{TurnEnd}
 use Rattle.box_worker.specs.declared.turn.TurnEnd.TheVariants.{Over, Stored, Broke}

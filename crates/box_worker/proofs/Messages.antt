@@ -9,10 +9,10 @@ use Rattle.mail_world.specs.Text.{lf, unix}
 use Rattle.mbox_record.specs.Envelope.{Envelope, record_text, head_text}
 use Rattle.mbox_record.specs.Lengths.{text_after_head}
 use Rattle.mbox_record.specs.RecordHead.{RecordHead, record_after}
-use Rattle.mbox_record.specs.Spool.{SpoolState, SpoolTook, SpoolFailed, HasNotSynced}
+use Rattle.mbox_spool.specs.Spool.{SpoolState, SpoolTook, SpoolFailed, HasNotSynced}
 use Rattle.mbox_record.specs.Writing.{Writer, bytes_owed, WritesPiece, FailsPiece}
 use Rattle.mbox_record.proofs.Parts.{record_split}
-use Rattle.mbox_record.proofs.Taken.{SpoolTook-then, SpoolTook-as, SpoolFailed-first, SpoolFailed-later, SpoolFailed-as}
+use Rattle.mbox_spool.proofs.Taken.{SpoolTook-then, SpoolTook-as, SpoolFailed-first, SpoolFailed-later, SpoolFailed-as}
 use Rattle.mbox_record.proofs.Wholes.{WritesPiece-then, FailsPiece-then}
 use Rattle.mail_world.specs.Site.{Site}
 

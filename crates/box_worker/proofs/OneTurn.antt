@@ -12,8 +12,8 @@ use Rattle.mail_world.specs.Records.{record_of}
 use Rattle.mail_world.specs.Endings.{mended}
 use Rattle.mail_world.specs.Prefixes.{IsPrefix}
 use Rattle.mail_world.specs.Turns.{Standing, Turn, NotHad, Had, IsTurn, KeepsInTurn, breaks_last}
-use Rattle.mbox_record.specs.TurnState.{TurnState, knows_end, had}
-use Rattle.mbox_record.specs.Spool.{SpoolState, IsWithin, IsFull, LeavesPart, KeepsSince, standing, BeginsTurn, EndsTurn}
+use Rattle.mbox_spool.specs.TurnState.{TurnState, knows_end, had}
+use Rattle.mbox_spool.specs.Spool.{SpoolState, IsWithin, IsFull, LeavesPart, KeepsSince, standing, BeginsTurn, EndsTurn}
 use Rattle.box_worker.specs.declared.turn.TurnEnd.{TurnEnd}
 use Rattle.box_worker.specs.declared.turn.TurnEnd.TheVariants.{Missed, Over, Stored, Broke}
 use Rattle.box_worker.specs.Limits.{Setting}

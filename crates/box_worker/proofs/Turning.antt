@@ -7,7 +7,7 @@ use Rattle.mail_world.specs.declared.Note.{Note}
 use Rattle.mail_world.specs.Counts.{counted}
 use Rattle.mail_world.specs.Turns.{Standing, Turn, Told, IsTurn, HaveTurns, KeepsInTurn, breaks_last, last_broke}
 use Rattle.mail_world.proofs.GivenAway.{count-append}
-use Rattle.mbox_record.specs.Spool.{standing}
+use Rattle.mbox_spool.specs.Spool.{standing}
 use Rattle.box_worker.specs.Limits.{Setting}
 use Rattle.box_worker.specs.Turned.{Manner, TurnedMailbox, IsFound, AreFound, is_not_had, AreRefused, IsFullWhereBroken, HasTurned}
 use Rattle.box_worker.proofs.OneTurn.{IsToldOnce}

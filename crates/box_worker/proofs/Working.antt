@@ -11,7 +11,7 @@ use Rattle.mail_world.specs.Slips.{slip_of}
 use Rattle.mail_runs.specs.Courses.{outcomes_in}
 use Rattle.mail_runs.specs.Deeds.{Deed, Took, Told, turns_of}
 use Rattle.mail_runs.specs.Timed.{TimedDeed, whats}
-use Rattle.mbox_record.specs.Spool.{SpoolState}
+use Rattle.mbox_spool.specs.Spool.{SpoolState}
 use Rattle.mail_post.specs.Channel.{Sender, Inbox, taken, IsTimed, HasSameTimes}
 use Rattle.mail_post.specs.InTime.{Ends, clock_of, AreInTime}
 use Rattle.mail_post.specs.Offered.{IsPart, HaveNumber, IsOffered, any_gone}

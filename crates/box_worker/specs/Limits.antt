@@ -5,9 +5,9 @@ use Rattle.mail_world.specs.Endings.{mends, mended}
 use Rattle.mail_world.specs.Records.{Calendar}
 use Rattle.mail_world.specs.Site.{Site}
 use Rattle.mail_stamp.specs.Calendar.{civil_at}
-use Rattle.mbox_record.specs.Spool.{SpoolState}
-use Rattle.mbox_record.specs.declared.tail.Tail.{Tail}
-use Rattle.mbox_record.specs.Tail.{ending_of}
+use Rattle.mbox_spool.specs.Spool.{SpoolState}
+use Rattle.mbox_spool.specs.declared.tail.Tail.{Tail}
+use Rattle.mbox_spool.specs.Tail.{ending_of}
 use Rattle.box_worker.specs.declared.limit.Limit.{Limit}
 
 -- what stays while a worker runs: the calendar and the site of its records, the limit of bytes for its mailbox, and its

@@ -9,8 +9,8 @@ use Rattle.mail_world.specs.Counts.{counted}
 use Rattle.mail_world.specs.Endings.{mended}
 use Rattle.mail_world.specs.Quotas.{fits}
 use Rattle.mail_world.specs.Turns.{Standing, Turn, NotHad, Had, Told, HaveTurns, AllKeep, breaks_last, last_broke}
-use Rattle.mbox_record.specs.Spool.{SpoolState, IsFull, SpoolFailed, standing, BeginsTurn, MissesTurn, EndsTurn}
-use Rattle.mbox_record.specs.TurnState.{knows_end}
+use Rattle.mbox_spool.specs.Spool.{SpoolState, IsFull, SpoolFailed, standing, BeginsTurn, MissesTurn, EndsTurn}
+use Rattle.mbox_spool.specs.TurnState.{knows_end}
 use Rattle.box_worker.specs.declared.limit.Limit.{Limit}
 use Rattle.box_worker.specs.declared.turn.TurnEnd.{TurnEnd}
 use Rattle.box_worker.specs.declared.turn.TurnEnd.TheVariants.{Missed, Over, Stored, Broke}

@@ -6,7 +6,7 @@ use Rattle.mail_world.specs.declared.Slip.{Slip}
 use Rattle.mail_world.specs.Counts.{counted}
 use Rattle.mail_world.specs.Turns.{Told}
 use Rattle.mail_runs.specs.Courses.{outcomes_in}
-use Rattle.mbox_record.specs.Spool.{SpoolState}
+use Rattle.mbox_spool.specs.Spool.{SpoolState}
 use Rattle.mail_post.specs.Channel.{Sender, Inbox, taken}
 use Rattle.mail_post.specs.InTime.{Ends}
 use Rattle.mail_post.specs.Offered.{HaveNumber, HaveAccepted, any_gone}

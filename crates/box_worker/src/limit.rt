@@ -4,7 +4,7 @@ ghost use Rattle.std.specs.Prelude.{◌≡◌, ◌+◌, ◌<◌, ◌^◌, ℕ, S
 ghost use Rattle.mail_world.specs.Counts.{counted};
 ghost use Rattle.box_worker.specs.Limits.{Admits, missing};
 
-use mbox_record::{Tail, what_mends};
+use mbox_spool::{Tail, what_mends};
 
 /// A quota of bytes, and how many stand in the mailbox by the worker's own count, which stays at 2^64 - 1.
 #[derive(Clone, Copy, Debug, PartialEq, Eq)]

@@ -3,7 +3,7 @@
 use crate::gate::Gate;
 use crate::turn::TurnObserver;
 use mail_post::{Receiver, SlipSender};
-use mbox_record::Spool;
+use mbox_spool::Spool;
 use msg_depot::DepotName;
 use std::marker::Model;
 

@@ -3,13 +3,14 @@
 ghost use Rattle.std.specs.Prelude.{◌≡◌, [], ◌∷◌, ◌++◌, OnOk, OnErr, IfOk};
 ghost use Rattle.mail_world.specs.Text.{lf};
 ghost use Rattle.mbox_record.specs.RecordHead.{record_after};
-ghost use Rattle.mbox_record.specs.Spool.{SpoolTook, SpoolFailed};
+ghost use Rattle.mbox_spool.specs.Spool.{SpoolTook, SpoolFailed};
 ghost use Rattle.mbox_record.specs.Writing.{bytes_owed, WritesPiece, FailsPiece};
 ghost use Rattle.box_worker.specs.Stored.{HasKept};
 ghost use Rattle.box_worker.specs.Turned.{HasKeptMended, HasNotKeptMended};
 
 use mail_world::limits::WORKER_BUFFER_SIZE;
-use mbox_record::{RecordHead, RecordWriter, Spool, SpoolFault, mend};
+use mbox_record::{RecordHead, RecordWriter};
+use mbox_spool::{Spool, SpoolFault, mend};
 use msg_depot::{Depot, DepotName, Hold};
 use std::sync::Wait;
 

@@ -4,7 +4,7 @@ ghost use Rattle.std.specs.Prelude.{◌≡◌, List, [], ◌∷◌, Option, None
 ghost use Rattle.box_worker.specs.TurnEnds.{outcome_of, with_ends};
 
 use mail_world::Outcome;
-use mbox_record::{InUse, SpoolFault};
+use mbox_spool::{InUse, SpoolFault};
 
 /// What became of a turn at a mailbox.
 #[derive(Clone, Copy, Debug, PartialEq, Eq)]

@@ -18,7 +18,7 @@ use crate::report::WorkerReport;
 use crate::turn::TurnObserver;
 use lmtp_text::Site;
 use mail_post::{Gone, Moment, Parts, Post, Receiver, SlipSender};
-use mbox_record::Spool;
+use mbox_spool::Spool;
 use msg_depot::{Depot, DepotName};
 use std::marker::Brand;
 use std::sync::Wait;

@@ -8,7 +8,7 @@ use Rattle.mail_world.specs.Slips.{of_worker}
 use Rattle.mail_world.specs.Lists.{of_lane, due}
 use Rattle.mail_world.specs.Turns.{Standing, Turn, NotHad, Had, Told, BeginsAt, AreAlone, left_after, left_by}
 use Rattle.mail_runs.specs.Courses.{outcomes_in, IsCourse}
-use Rattle.mbox_record.specs.Spool.{standing}
+use Rattle.mbox_spool.specs.Spool.{standing}
 use Rattle.box_worker.specs.Told.{owed_to}
 use Rattle.box_worker.specs.Turned.{IsFound, AreFound}
 use Rattle.lmtp_lane.specs.Visits.{conversations_of}

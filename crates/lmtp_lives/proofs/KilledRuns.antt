@@ -31,8 +31,8 @@ use Rattle.mail_lives.specs.Lives.{Gap, LivesLeave, stored_of}
 use Rattle.mail_lives.proofs.Lists.{taken}
 use Rattle.mail_lives.proofs.MailedDue.{due_mailed}
 use Rattle.mail_lives.proofs.Stepping.{steps_read}
-use Rattle.mbox_record.specs.Spool.{SpoolState}
-use Rattle.mbox_record.specs.declared.spool.SpoolFault.TheVariants.{Other}
+use Rattle.mbox_spool.specs.Spool.{SpoolState}
+use Rattle.mbox_spool.specs.declared.spool.SpoolFault.TheVariants.{Other}
 use Rattle.box_worker.specs.declared.turn.TurnEnd.{TurnEnd}
 use Rattle.box_worker.specs.declared.turn.TurnEnd.TheVariants as ends
 use Rattle.box_worker.specs.Told.{is_stored, says_over_quota, owed_to}

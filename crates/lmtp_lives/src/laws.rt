@@ -16,7 +16,7 @@ ghost use Rattle.lmtp_lives.specs.ReadBack.{AreReadBack};
 use box_worker::TurnObserver;
 use lmtp_lane::{Clock, Visits};
 use lmtp_talk::Observer;
-use mbox_record::Spool;
+use mbox_spool::Spool;
 
 /// The copies of which a lane's clients were told that they are stored are just those of the lane whose turns stored.
 pub fn told_is_stored<V: Visits, O: Observer, S: Spool, T: TurnObserver, C: Clock>()

@@ -6,7 +6,7 @@ use Rattle.std.proofs.lemmas.Option.{slice_get_within}
 use Rattle.mail_world.specs.declared.Note.{Note}
 use Rattle.mail_world.specs.declared.Slip.{Slip}
 use Rattle.mail_world.specs.Site.{Site}
-use Rattle.mbox_record.specs.Spool.{SpoolState}
+use Rattle.mbox_spool.specs.Spool.{SpoolState}
 use Rattle.mail_runs.specs.Courses.{outcomes_in}
 use Rattle.mail_runs.specs.Deeds.{turns_of}
 use Rattle.mail_runs.specs.Timed.{TimedDeed, whats}

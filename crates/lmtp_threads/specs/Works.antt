@@ -8,7 +8,7 @@ use Rattle.mail_world.specs.Counts.{counted}
 use Rattle.mail_world.specs.Turns.{Standing, Told}
 use Rattle.mail_runs.specs.Courses.{outcomes_in}
 use Rattle.mail_stamp.specs.Calendar.{civil_at}
-use Rattle.mbox_record.specs.Spool.{SpoolState}
+use Rattle.mbox_spool.specs.Spool.{SpoolState}
 use Rattle.box_worker.specs.declared.turn.TurnEnd.{TurnEnd}
 use Rattle.box_worker.specs.Limits.{Setting}
 use Rattle.box_worker.specs.Told.{is_stored, says_over_quota}

@@ -21,7 +21,7 @@ use crate::watched::Watched;
 use box_worker::{Gate, TurnObserver, WorkerReport, worker_run};
 use lmtp_text::Site;
 use mail_post::{Receiver, SlipSender};
-use mbox_record::Spool;
+use mbox_spool::Spool;
 use msg_depot::{Depot, DepotName};
 use std::alloc::AllocError;
 use std::marker::Model;

@@ -1,7 +1,7 @@
 -- Worked rows of the lines that are owed for turns.
 use Rattle.std.proofs.Common.{◌≡◌, [], ◌∷◌, refl}
-use Rattle.mbox_record.specs.declared.spool.InUse.{InUse as Reason}
-use Rattle.mbox_record.specs.declared.spool.SpoolFault.{SpoolFault}
+use Rattle.mbox_spool.specs.declared.spool.InUse.{InUse as Reason}
+use Rattle.mbox_spool.specs.declared.spool.SpoolFault.{SpoolFault}
 use Rattle.box_worker.specs.declared.turn.TurnEnd.TheVariants.{Missed, Over, Stored, Broke}
 use Rattle.lmtpd_log.specs.declared.mailbox_line.MailboxLine.TheVariants.{InUse, FreeAgain, Failed, StoresAgain}
 use Rattle.lmtpd_log.specs.TurnLines.{turn_lines}

@@ -1,7 +1,7 @@
 //! The lines of a mailbox's log: what each begins with, and its pairs in their order.
 
 use log::kv::{Error, Source, ToValue, Value, VisitSource};
-use mbox_record::{InUse, SpoolFault};
+use mbox_spool::{InUse, SpoolFault};
 use std::io;
 
 /// A line of a mailbox's log.

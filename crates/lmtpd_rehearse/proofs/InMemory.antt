@@ -17,7 +17,7 @@ use Rattle.mail_world.specs.Deliveries.{IsTorn}
 use Rattle.mail_world.specs.Turns.{Turn, NotHad, Had, Told, addition, has_room, IsTurn, HaveTurns, left_after, left_by, BeginsAt, AreAlone, breaks_last, last_broke}
 use Rattle.mail_world.proofs.MendedRecords.{mended_record}
 use Rattle.mail_runs.specs.Courses.{outcomes_in}
-use Rattle.mbox_record.specs.Spool.{IsFull}
+use Rattle.mbox_spool.specs.Spool.{IsFull}
 use Rattle.box_worker.specs.Turned.{is_not_had, AreRefused, IsFullWhereBroken}
 use Rattle.lmtpd_rehearse.specs.Copies.{HoldsCopies}
 

@@ -3,7 +3,7 @@ use Rattle.std.specs.Prelude.{◌≡◌, ◌<◌, ◌*◌, max, ℕ, Bool, false
 use Rattle.std.specs.Prelude.{codes, decimal}
 use Rattle.mail_world.specs.Text.{lf}
 use Rattle.mail_world.specs.Site.{Site}
-use Rattle.mbox_record.specs.MemorySpool.{MemorySpool, unused}
+use Rattle.mbox_spool.specs.MemorySpool.{MemorySpool, unused}
 use Rattle.lmtp_threads.specs.declared.tally.Tally.{Tally}
 use Rattle.lmtp_threads.specs.declared.watched.Watched.{Watched}
 use Rattle.lmtpd_output.specs.Output.{pair_texts}

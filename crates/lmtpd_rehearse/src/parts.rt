@@ -7,7 +7,7 @@ use box_worker::OpenGate;
 use lmtp_house::{Sizes, Watched};
 use lmtp_text::Site;
 use lmtpd_words::DEFAULT_CAPACITY;
-use mbox_record::MemorySpool;
+use mbox_spool::MemorySpool;
 use std::alloc::{AllocError, Global};
 
 /// The bytes that a mailbox of a rehearsal has room for at least.

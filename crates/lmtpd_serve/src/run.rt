@@ -21,7 +21,7 @@ use lmtp_house::{
 use lmtp_tcp::{ClientStream, Curfew};
 use lmtp_text::Site;
 use lmtpd_log::{LaneLogs, lane_logs};
-use mbox_record::Spool;
+use mbox_spool::Spool;
 use std::alloc::{AllocError, Global};
 use std::io::{Read, Write};
 use std::sync::{Arc, Wait};

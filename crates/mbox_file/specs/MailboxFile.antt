@@ -7,7 +7,7 @@ use Rattle.mail_world.specs.Prefixes.{IsPrefix}
 use Rattle.mbox_file.specs.Moment.{Moment}
 use Rattle.mbox_file.specs.declared.file.FileEnd.{FileEnd}
 use Rattle.mail_world.specs.Endings.{ending}
-use Rattle.mbox_record.specs.Tail.{ending_of}
+use Rattle.mbox_spool.specs.Tail.{ending_of}
 
 -- Other programs change the file, and what the path names, only while a lock isn't held. Contracts see it in the calls
 -- that ask for a lock or open the path again.

@@ -1,7 +1,7 @@
 -- What a file of the system's tells: computed from what it was asked and what was answered, and from nothing else.
 use Rattle.std.specs.Prelude.{◌≡◌, ℕ, ◌+◌, ◌-◌, ◌≤◌, true, false, min, List, [], ◌∷◌, ◌++◌, length, take, replicate}
 use Rattle.mail_world.specs.Endings.{ending}
-use Rattle.mbox_record.specs.Tail.{ending_of}
+use Rattle.mbox_spool.specs.Tail.{ending_of}
 use Rattle.mbox_file.specs.MailboxFile.{FileState, at_now, at_write, at_cut}
 use Rattle.mbox_file.specs.declared.file.FileEnd.{FileEnd}
 use Rattle.mbox_file.specs.declared.told.Step.{Step}

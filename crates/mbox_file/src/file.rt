@@ -2,11 +2,11 @@
 ghost use Rattle.std.specs.Prelude.{◌≡◌, ◌==◌, if◌then◌else◌, IfOk, IfSome, length, min};
 ghost use Rattle.mail_world.specs.Endings.{Empty, OneLf, TwoLf, ending};
 ghost use Rattle.mail_world.specs.Text.{lf};
-ghost use Rattle.mbox_record.specs.Tail.{ending_of};
+ghost use Rattle.mbox_spool.specs.Tail.{ending_of};
 ghost use Rattle.mbox_file.specs.Told.{IsEndBy, bytes_ending};
 
 use mail_world::limits::TAIL_SIZE;
-use mbox_record::{Tail, tail_of, tail_of_last};
+use mbox_spool::{Tail, tail_of, tail_of_last};
 use std::fs::{File, Files, OpenFile, OpenOptions, Permissions};
 use std::io;
 use std::io::{ErrorKind, Read, Seek, SeekFrom};

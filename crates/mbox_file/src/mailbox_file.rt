@@ -6,7 +6,7 @@ ghost use Rattle.mbox_file.specs.MailboxFile.{HasMeasured, HasAppended, HasNotAp
 ghost use Rattle.mbox_file.specs.MailboxFile.{HasNotCut, IsHeld};
 
 use crate::file::FileEnd;
-use mbox_record::InUse;
+use mbox_spool::InUse;
 use std::io;
 
 /// A mailbox's file that other programs read and empty too, open at one file, and beside it the lock file `PATH.lock`.

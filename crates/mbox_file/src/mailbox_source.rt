@@ -6,7 +6,7 @@ ghost use Rattle.mbox_file.specs.MailboxFile.{HasRefused, IsHeld};
 ghost use Rattle.mbox_file.specs.MailboxSource.{HasNotRead};
 
 use crate::mailbox_file::MailboxFile;
-use mbox_record::InUse;
+use mbox_spool::InUse;
 use std::io;
 
 /// A mailbox's file that is read from its beginning. Nothing is said of what a read gives while a lock isn't held,

@@ -5,7 +5,7 @@ use crate::file::FileEnd;
 use crate::mailbox_file::MailboxFile;
 use crate::mailbox_source::MailboxSource;
 use crate::told::{Step, Told};
-use mbox_record::{InUse, tail_of};
+use mbox_spool::{InUse, tail_of};
 use std::alloc::{AllocError, Global};
 use std::io;
 

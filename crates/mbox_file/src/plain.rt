@@ -1,7 +1,7 @@
 //! Which files a mailbox may be: plain ones, so that nobody who may write the folder has letters appended to a file
 //! that a link leads to.
 use crate::file::open_or_make;
-use mbox_record::InUse;
+use mbox_spool::InUse;
 use std::fs::{Files, Metadata, OpenFile, OpenOptions};
 use std::io::ErrorKind;
 use std::os::unix::fs::MetadataExt;

@@ -12,7 +12,7 @@ use crate::system_file::SystemFile;
 use crate::told::{Step, Told};
 use mail_world::limits::TAIL_SIZE;
 use mbox_locks::{RangeLock, Writeback};
-use mbox_record::InUse;
+use mbox_spool::InUse;
 use std::alloc::{AllocError, Global};
 use std::fs::Files;
 use std::io;

@@ -17,7 +17,7 @@ use crate::plain::{
 use crate::stale::is_stale;
 use mail_world::limits::TAIL_SIZE;
 use mbox_locks::{LockKind, RangeLock, Writeback, owner_text};
-use mbox_record::InUse;
+use mbox_spool::InUse;
 use std::alloc::{AllocError, Global};
 use std::fs::{FileTimes, Files, Metadata, OpenFile, OpenOptions};
 use std::io::{ErrorKind, Read, Seek, SeekFrom, Write};

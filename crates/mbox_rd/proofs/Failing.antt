@@ -4,11 +4,11 @@ use Rattle.std.proofs.Common.{subst, arith, inl, append-nil as append_nil}
 use Rattle.mail_world.specs.Failures.{Rises}
 use Rattle.mail_world.specs.Turns.{Standing}
 use Rattle.mbox_file.specs.MailboxFile.{FileState}
-use Rattle.mbox_record.specs.Spool.{SpoolFailed, EndsTurn}
-use Rattle.mbox_record.specs.TurnLog.{TurnLog, ended_at}
-use Rattle.mbox_record.specs.TurnState.{TurnState}
+use Rattle.mbox_spool.specs.Spool.{SpoolFailed, EndsTurn}
+use Rattle.mbox_spool.specs.TurnLog.{TurnLog, ended_at}
+use Rattle.mbox_spool.specs.TurnState.{TurnState}
 use Rattle.mail_world.specs.Endings.{Ending, ending, ending_from}
-use Rattle.mbox_record.specs.Tail.{ending_of}
+use Rattle.mbox_spool.specs.Tail.{ending_of}
 use Rattle.mbox_rd.specs.Turn.{HasEndedTurn}
 use Rattle.mbox_rd.specs.FileSpool.{FileSpool, standing_of, IsInOrder, LosesPart, Breaks, failed_again, state_of, contents_of}
 use Rattle.mbox_rd.proofs.Tails.{goes_on}

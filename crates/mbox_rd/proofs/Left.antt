@@ -5,7 +5,7 @@ use Rattle.std.proofs.lemmas.List.{take-append-drop}
 use Rattle.mail_world.specs.Prefixes.{IsPrefix}
 use Rattle.mail_world.specs.Turns.{Standing}
 use Rattle.mbox_file.specs.MailboxFile.{FileState}
-use Rattle.mbox_record.specs.Spool.{IsWithin, LeavesPart, KeepsSince}
+use Rattle.mbox_spool.specs.Spool.{IsWithin, LeavesPart, KeepsSince}
 use Rattle.mbox_rd.specs.Turn.{HasEndedTurn}
 use Rattle.mbox_rd.specs.FileSpool.{StandsOn}
 

@@ -5,13 +5,13 @@ use Rattle.mail_world.specs.Counts.{counted}
 use Rattle.mail_world.specs.Failures.{Rises}
 use Rattle.mail_world.specs.Prefixes.{IsPrefix}
 use Rattle.mail_world.specs.Turns.{Standing}
-use Rattle.mbox_record.specs.Lines.{CopiesLines}
-use Rattle.mbox_record.specs.Spool.{SpoolState}
-use Rattle.mbox_record.specs.TurnLog.{TurnLog, no_turns, begun_at, missed, ended_at}
-use Rattle.mbox_record.specs.declared.tail.Tail.{Tail}
+use Rattle.mbox_spool.specs.Lines.{CopiesLines}
+use Rattle.mbox_spool.specs.Spool.{SpoolState}
+use Rattle.mbox_spool.specs.TurnLog.{TurnLog, no_turns, begun_at, missed, ended_at}
+use Rattle.mbox_spool.specs.declared.tail.Tail.{Tail}
 use Rattle.mbox_file.specs.MailboxFile.{FileState, IsHeld}
 use Rattle.mail_world.specs.Endings.{ending}
-use Rattle.mbox_record.specs.Tail.{ending_of}
+use Rattle.mbox_spool.specs.Tail.{ending_of}
 use Rattle.mbox_rd.specs.Turn.{HasEndedTurn}
 
 pub record FileSpool (F : Type 0) : Type 0 where

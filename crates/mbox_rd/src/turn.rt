@@ -9,7 +9,7 @@ ghost use Rattle.mbox_rd.specs.Moments.{LeavesInTurn};
 
 use crate::patience::Patience;
 use mbox_file::{FileEnd, MailboxFile};
-use mbox_record::InUse;
+use mbox_spool::InUse;
 use std::time::Clock;
 
 /// How many files are looked at in one try, where the path names another one each time.

@@ -2,8 +2,9 @@
 use Rattle.std.proofs.Common.{◌≡◌, ℕ, ◌+◌, ◌-◌, ◌^◌, min, List, [], ◌∷◌, ◌++◌, length, sym, ap, ◌∙◌, append_assoc, append-nil}
 use Rattle.mail_world.specs.Counts.{counted}
 use Rattle.mail_world.specs.Text.{lf}
-use Rattle.mbox_record.specs.Lengths.{Counts}
-use Rattle.mbox_record.proofs.Counted.{counts_then, counts_both}
+use Rattle.mbox_spool.specs.Writing.{Counts}
+use Rattle.mbox_spool.proofs.Counts.{counts_both}
+use Rattle.mbox_record.proofs.Counted.{counts_then}
 
 -- what the record has of a text that begins so
 module _ (owed : List ℕ → List ℕ) (begun : List ℕ) (count : ℕ) (now : List ℕ → List ℕ) (x : Counts count (λ rest. owed (begun ++ rest)) now) where

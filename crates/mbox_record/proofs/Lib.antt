@@ -1,17 +1,7 @@
-pub mod Taken
-pub mod Tails
 pub mod Parts
 pub mod Heads
-pub mod Rests
-pub mod Words
-pub mod Steps
-pub mod Ends
-pub mod Runs
-pub mod Pieces
 pub mod Onward
 pub mod Written
 pub mod Wholes
 pub mod Counted
 pub mod Lengthened
-pub mod Blocks
-pub mod Copies

@@ -1,9 +1,9 @@
 -- Texts that are owed, written one after another.
 use Rattle.std.proofs.Common.{◌≡◌, ℕ, List, ◌++◌, sym, ap, ◌∙◌, append_assoc}
-use Rattle.mbox_record.specs.Spool.{SpoolState}
-use Rattle.mbox_record.specs.Quoted.{Pending, quoted_owed}
-use Rattle.mbox_record.specs.Writing.{Writes, Fails}
-use Rattle.mbox_record.proofs.Taken.{SpoolTook-then, SpoolFailed-later}
+use Rattle.mbox_spool.specs.Spool.{SpoolState}
+use Rattle.mbox_spool.specs.Quoted.{Pending, quoted_owed}
+use Rattle.mbox_spool.specs.Writing.{Writes, Fails}
+use Rattle.mbox_spool.proofs.Taken.{SpoolTook-then, SpoolFailed-later}
 
 -- The spool took a text, and then a piece that was owed, or failed within it.
 module _ (s t u : SpoolState) (first : List ℕ → List ℕ) (a : Pending) (piece : List ℕ) (owed then : List ℕ → List ℕ)

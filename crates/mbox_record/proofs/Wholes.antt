@@ -1,8 +1,8 @@
 -- What a writer writes of two pieces, one after the other.
 use Rattle.std.proofs.Common.{ℕ, List, ◌++◌, sym, ap, ◌∙◌, append_assoc}
-use Rattle.mbox_record.specs.Spool.{SpoolState}
+use Rattle.mbox_spool.specs.Spool.{SpoolState}
 use Rattle.mbox_record.specs.Writing.{Writer, bytes_owed, WritesPiece, FailsPiece}
-use Rattle.mbox_record.proofs.Taken.{SpoolTook-then, SpoolFailed-later}
+use Rattle.mbox_spool.proofs.Taken.{SpoolTook-then, SpoolFailed-later}
 
 pub WritesPiece-then : (s t u : SpoolState) (a b c : Writer) (p q : List ℕ) → WritesPiece s t a b p → WritesPiece t u b c q → WritesPiece s u a c (p ++ q)
 WritesPiece-then s t u a b c p q x y = record {

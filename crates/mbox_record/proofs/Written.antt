@@ -4,14 +4,15 @@ use Rattle.std.proofs.lemmas.List.{take_rest}
 use Rattle.mail_world.specs.Text.{lf, unix}
 use Rattle.mail_world.specs.Records.{quoted_text}
 use Rattle.mail_world.specs.Marks.{was, marked}
-use Rattle.mbox_record.specs.Spool.{SpoolState, SpoolFailed}
+use Rattle.mbox_spool.specs.Spool.{SpoolState, SpoolFailed}
 use Rattle.mbox_marks.specs.declared.marking.Place.TheVariants.{Line, Inside, Body}
 use Rattle.mbox_marks.specs.declared.marking.Found.{Found}
-use Rattle.mbox_record.specs.Quoted.{Pending, quoted_owed}
+use Rattle.mbox_spool.specs.Quoted.{Pending, quoted_owed}
 use Rattle.mbox_marks.specs.Marking.{Place, marks_owed}
 use Rattle.mbox_marks.specs.Marked.{FindsMark, MayBeHeld}
-use Rattle.mbox_record.specs.Writing.{Writes, Fails, Writer, IsWriter, bytes_owed}
-use Rattle.mbox_record.proofs.Taken.{SpoolFailed-first, SpoolFailed-later, SpoolFailed-as}
+use Rattle.mbox_spool.specs.Writing.{Writes, Fails}
+use Rattle.mbox_record.specs.Writing.{Writer, IsWriter, bytes_owed}
+use Rattle.mbox_spool.proofs.Taken.{SpoolFailed-first, SpoolFailed-later, SpoolFailed-as}
 use Rattle.mbox_marks.proofs.Renamed.{stored_by}
 use Rattle.mbox_record.proofs.Onward.{Writes-on, Fails-on, Writes-then, Fails-then}
 

@@ -4,7 +4,7 @@ use Rattle.mail_world.specs.Counts.{counted}
 use Rattle.mail_world.specs.Marks.{marked}
 use Rattle.mail_world.specs.Records.{quoted_text}
 use Rattle.mail_world.specs.Text.{lf, unix}
-use Rattle.mbox_record.specs.Quoted.{quoted_owed}
+use Rattle.mbox_spool.specs.Quoted.{quoted_owed}
 use Rattle.mbox_record.specs.Writing.{bytes_owed}
 use Rattle.mbox_record.specs.declared.lengths.Lengths.{Lengths}
 use Rattle.mbox_record.specs.declared.lengths.LengthCounter.{LengthCounter}
@@ -20,13 +20,6 @@ lengths_of message = record {
   plain = counted (length (quoted_text (unix message) ++ lf ∷ []));
   marked = counted (length (quoted_text (marked (unix message)) ++ lf ∷ []));
 }
-
--- The count is the length of a text, and what was owed before, whatever the rest is, is that text and what is owed
--- after it.
-pub record Counts (count : ℕ) (before after : List ℕ → List ℕ) : Type 0 where
-  pub text : List ℕ
-  pub is : count ≡ counted (length text)
-  pub goes : (rest : List ℕ) → text ++ after rest ≡ before rest
 
 -- both lengths are counted as far as this beginning of a message tells
 pub record HasCounted (counter : LengthCounter) (begun : List ℕ) : Type 0 where

@@ -1,15 +1,5 @@
 pub mod Envelope
-pub mod Fault
-pub mod TurnState
-pub mod TurnLog
-pub mod Spool
-pub mod Tail
-pub mod MemorySpool
-pub mod Mending
 pub mod Parts
-pub mod Quoted
 pub mod Writing
-pub mod Steps
 pub mod Lengths
 pub mod RecordHead
-pub mod Lines

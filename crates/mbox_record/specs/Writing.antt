@@ -1,22 +1,10 @@
 -- A record that is written while the message comes: what the writer still owes.
-use Rattle.std.specs.Prelude.{◌≡◌, ℕ, List, ◌++◌}
-use Rattle.mail_world.specs.Prefixes.{IsPrefix}
-use Rattle.mbox_record.specs.Spool.{SpoolState, SpoolTook, SpoolFailed}
-use Rattle.mbox_record.specs.Quoted.{Pending, quoted_owed}
+use Rattle.std.specs.Prelude.{ℕ, List, ◌++◌}
+use Rattle.mbox_spool.specs.Spool.{SpoolState}
+use Rattle.mbox_spool.specs.Quoted.{Pending, quoted_owed}
+use Rattle.mbox_spool.specs.Writing.{Writes, Fails}
 use Rattle.mbox_marks.specs.Marking.{Place, marks_owed}
 use Rattle.mbox_marks.specs.Marked.{MayBeHeld}
-
--- The spool took a text, and what was owed before, whatever the rest is, is that text and what is owed after it.
-pub record Writes (old new : SpoolState) (before after : List ℕ → List ℕ) : Type 0 where
-  pub text : List ℕ
-  pub taken : SpoolTook old new text
-  pub goes : (rest : List ℕ) → text ++ after rest ≡ before rest
-
--- The spool failed within a text that was owed, whatever the rest is.
-pub record Fails (old new : SpoolState) (before : List ℕ → List ℕ) : Type 0 where
-  pub text : List ℕ
-  pub failed : SpoolFailed old new text
-  pub sure : (rest : List ℕ) → IsPrefix text (before rest)
 
 -- what a writer has under way: how far the text is quoted, where in the message it stands, what it holds back of that
 pub record Writer : Type 0 where

@@ -3,8 +3,8 @@ ghost use Rattle.std.specs.Prelude.{◌≡◌, ◌≤◌, ℕ, List, [], ◌++�
 ghost use Rattle.mail_world.specs.Counts.{counted};
 ghost use Rattle.mbox_record.specs.Lengths.{lengths_of, text_after_head, HasCounted};
 
-use crate::quoted::QuotedText;
 use crate::record::RecordWriter;
+use mbox_spool::QuotedText;
 use memchr::memmem;
 
 const HEAD_END: &[u8] = b"\r\n\r\n";

@@ -1,35 +1,18 @@
-//! The record of a delivered message in the mboxrd format (RFC 4155), and the spool that takes it.
+//! The record of a delivered message in the mboxrd format (RFC 4155).
 //!
-//! A `RecordWriter` writes a record to any `Spool` while its message comes, a `LengthCounter` counts how long its text
-//! will be there, `mend` writes what an old mailbox lacks at its end. The layer above stores by these, or is a spool
-//! itself.
-//! What a spool is made of is never asked here: the one that stands here is in memory, and nobody else changes it.
+//! A `RecordHead` is what stands in it before the message of an `Envelope`, a `RecordWriter` writes it to any spool while
+//! the message comes, and a `LengthCounter` counts how long its text will be there. The layer above stores by these, and
+//! has the names of what reads a mailbox back from here too.
+//! In which turn a record is written, and what becomes of it after a fault, is never known here.
 #![tactic(auto)]
 
-mod append;
-mod copying;
 mod envelope;
-mod from_line;
 mod head;
 mod lengths;
-mod lines;
-mod memory;
-mod mending;
-mod pending;
-mod quoted;
 mod record;
-mod spool;
-mod tail;
-mod turns;
 
-pub use copying::{Copied, LINES_ROOM, copy_lines};
 pub use envelope::Envelope;
 pub use head::RecordHead;
 pub use lengths::{LengthCounter, Lengths};
 pub use mbox_letters::{BadMailbox, Letter, read_mailbox};
-pub use memory::MemorySpool;
-pub use mending::mend;
 pub use record::RecordWriter;
-pub use spool::{InUse, Spool, SpoolFault};
-pub use tail::{Tail, tail_after, tail_of, tail_of_last, what_mends};
-pub use turns::{Listed, Turns};

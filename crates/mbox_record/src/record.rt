@@ -6,19 +6,18 @@ ghost use Rattle.mail_world.specs.Marks.{marked};
 ghost use Rattle.mail_world.specs.Text.{lf, unix};
 ghost use Rattle.mail_stamp.specs.Calendar.{civil_at};
 ghost use Rattle.mbox_record.specs.Envelope.{head_text};
-ghost use Rattle.mbox_record.specs.Spool.{SpoolTook, SpoolFailed};
-ghost use Rattle.mbox_record.specs.Quoted.{quoted_owed};
+ghost use Rattle.mbox_spool.specs.Spool.{SpoolTook, SpoolFailed};
+ghost use Rattle.mbox_spool.specs.Quoted.{quoted_owed};
 ghost use Rattle.mbox_marks.specs.Marking.{marks_owed};
-ghost use Rattle.mbox_record.specs.Writing.{bytes_owed, Writes, Fails, WritesPiece, FailsPiece};
+ghost use Rattle.mbox_spool.specs.Writing.{Writes, Fails};
+ghost use Rattle.mbox_record.specs.Writing.{bytes_owed, WritesPiece, FailsPiece};
 ghost use Rattle.mbox_marks.specs.declared.marking.Place.TheVariants.{Line, Body};
 
-use crate::append::append_all;
 use crate::envelope::Envelope;
 use crate::head::RecordHead;
-use crate::quoted::QuotedText;
-use crate::spool::{Spool, SpoolFault};
 use lmtp_text::Site;
 use mbox_marks::{Held, Place, WAS, find_mark};
+use mbox_spool::{QuotedText, Spool, SpoolFault, append_all};
 use std::marker::Model;
 
 mod counting;

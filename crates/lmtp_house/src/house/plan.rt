@@ -15,7 +15,7 @@ use box_worker::{Gate, TurnObserver};
 use lmtp_lane::{Clock, Visits};
 use lmtp_talk::Observer;
 use lmtp_threads::{Lanes, Shared, WorkerReports, Workers, settle_all};
-use mbox_record::Spool;
+use mbox_spool::Spool;
 use msg_depot::{Depot, DepotName};
 use std::alloc::AllocError;
 use std::marker::Model;

@@ -19,7 +19,7 @@ use lmtp_lane::{Clock, Visits};
 use lmtp_talk::Observer;
 use lmtp_text::Site;
 use lmtp_threads::{Shared, Watched};
-use mbox_record::Spool;
+use mbox_spool::Spool;
 use msg_depot::DepotName;
 use std::alloc::Global;
 use std::marker::Brand;

@@ -10,7 +10,7 @@ use box_worker::{Gate, TurnObserver};
 use lmtp_lane::{Clock, Visits};
 use lmtp_talk::Observer;
 use lmtp_threads::{LaneColumns, Lanes, Workers, Working};
-use mbox_record::Spool;
+use mbox_spool::Spool;
 use msg_depot::DepotName;
 use std::sync::Wait;
 use std::thread::Threads;

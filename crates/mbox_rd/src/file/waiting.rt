@@ -1,14 +1,14 @@
 //! What a turn took and the file hasn't: how much of it may wait, and how it is written and kept.
 ghost use Rattle.std.specs.Prelude.{◌≡◌, ◌≢◌, ◌<◌, ◌≤◌, ◌+◌, ℕ, [], ◌++◌, true, false, length, take};
 ghost use Rattle.std.specs.Prelude.{IfErr, OnOk, OnErr};
-ghost use Rattle.mbox_record.specs.Lines.{HasLines};
+ghost use Rattle.mbox_spool.specs.Lines.{HasLines};
 ghost use Rattle.mbox_file.specs.MailboxFile.{IsHeld, HasAppended, HasNotAppended};
 ghost use Rattle.mbox_rd.specs.FileSpool.{KeepsWritten, LosesPart};
 ghost use Rattle.mbox_rd.specs.Moments.{LeavesInTurn};
 
 use super::FileSpool;
 use mbox_file::MailboxFile;
-use mbox_record::{LINES_ROOM, Spool, SpoolFault, copy_lines};
+use mbox_spool::{LINES_ROOM, Spool, SpoolFault, copy_lines};
 use std::io;
 use std::time::Clock;
 

@@ -3,13 +3,13 @@ ghost use Rattle.std.specs.Prelude.{◌≡◌, ℕ, List, [], ◌∷◌, ◌++�
 ghost use Rattle.mail_world.specs.Counts.{counted};
 ghost use Rattle.mail_world.specs.Text.{lf};
 ghost use Rattle.mbox_marks.specs.Marking.{marks_owed};
-ghost use Rattle.mbox_record.specs.Lengths.{Counts};
-ghost use Rattle.mbox_record.specs.Quoted.{quoted_owed};
+ghost use Rattle.mbox_spool.specs.Writing.{Counts};
+ghost use Rattle.mbox_spool.specs.Quoted.{quoted_owed};
 ghost use Rattle.mbox_record.specs.Writing.{bytes_owed};
 
 use super::RecordWriter;
-use crate::quoted::QuotedText;
 use mbox_marks::{Held, Place, WAS, find_mark};
+use mbox_spool::QuotedText;
 
 impl RecordWriter {
     // Counts what `piece` writes.

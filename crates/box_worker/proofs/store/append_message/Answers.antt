@@ -1,7 +1,7 @@
 use Rattle.std.proofs.Common.{◌≡◌, ℕ, ◌+◌, ◌-◌, min, length, take, drop, ap, ◌∙◌}
 use Rattle.mail_world.specs.declared.limits.TheConstants.{WORKER_BUFFER_SIZE}
 use Rattle.msg_depot.specs.declared.view.Claim.{Claim}
-use Rattle.mbox_record.proofs.Taken.{OnErr-any}
+use Rattle.mbox_spool.proofs.Taken.{OnErr-any}
 use Rattle.box_worker.proofs.Messages.{writes_next, fails_next}
 use Rattle.box_worker.proofs.store.append_message.Goals as goal
 

@@ -1,4 +1,4 @@
-use Rattle.mbox_record.proofs.Taken.{OnErr-any, OnOk-map, OnErr-map}
+use Rattle.mbox_spool.proofs.Taken.{OnErr-any, OnOk-map, OnErr-map}
 use Rattle.box_worker.proofs.Messages.{head_failed, record_took, record_failed}
 use Rattle.box_worker.proofs.store.append_record.Goals as goal
 

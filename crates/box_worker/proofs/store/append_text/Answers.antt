@@ -1,4 +1,4 @@
-use Rattle.mbox_record.proofs.Taken.{OnErr-any, OnOk-map, OnErr-map}
+use Rattle.mbox_spool.proofs.Taken.{OnErr-any, OnOk-map, OnErr-map}
 use Rattle.box_worker.proofs.Messages.{text_taken, text_failed, text_failed_at_end}
 use Rattle.box_worker.proofs.store.append_text.Goals as goal
 

@@ -1,4 +1,4 @@
-use Rattle.mbox_record.proofs.Taken.{OnErr-any, OnOk-map, OnErr-map}
+use Rattle.mbox_spool.proofs.Taken.{OnErr-any, OnOk-map, OnErr-map}
 use Rattle.box_worker.proofs.Measuring.{mended_and_kept, mended_and_lost, not_mended}
 use Rattle.box_worker.proofs.store.mend_and_store.Goals as goal
 

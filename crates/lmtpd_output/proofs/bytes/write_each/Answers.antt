@@ -1,4 +1,4 @@
-use Rattle.mbox_record.proofs.Taken.{OnErr-any}
+use Rattle.mbox_spool.proofs.Taken.{OnErr-any}
 use Rattle.lmtpd_output.proofs.Written.{writes_text, breaks_text}
 use Rattle.lmtpd_output.proofs.bytes.write_each.Goals as goal
 

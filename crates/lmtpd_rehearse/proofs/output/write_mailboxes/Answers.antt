@@ -1,5 +1,5 @@
 use Rattle.std.proofs.Common.{◌<◌, length, arith}
-use Rattle.mbox_record.proofs.Taken.{OnErr-any}
+use Rattle.mbox_spool.proofs.Taken.{OnErr-any}
 use Rattle.lmtpd_rehearse.specs.Mailboxes.{bytes_of_all, mailbox_output}
 use Rattle.lmtpd_rehearse.proofs.Listed.{mailbox_at}
 use Rattle.lmtpd_output.proofs.Listed.{pair_written, pair_broken}

@@ -1,6 +1,6 @@
 use Rattle.std.proofs.Common.{◌<◌, arith, length}
 use Rattle.std.specs.Arc.{arc_value}
-use Rattle.mbox_record.proofs.Taken.{OnErr-any}
+use Rattle.mbox_spool.proofs.Taken.{OnErr-any}
 use Rattle.lmtpd_output.proofs.Listed.{pair_written, pair_broken}
 use Rattle.lmtpd_serve.specs.Served.{trouble_told}
 use Rattle.lmtpd_serve.proofs.TroubleLines.{told_at}

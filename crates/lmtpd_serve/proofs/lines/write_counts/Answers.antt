@@ -1,5 +1,5 @@
 use Rattle.std.proofs.Common.{◌<◌, length, arith}
-use Rattle.mbox_record.proofs.Taken.{OnErr-any}
+use Rattle.mbox_spool.proofs.Taken.{OnErr-any}
 use Rattle.lmtpd_serve.specs.Served.{count_line}
 use Rattle.lmtpd_output.proofs.Listed.{pair_at, pair_written, pair_broken}
 use Rattle.lmtpd_serve.proofs.lines.write_counts.Goals as goal

@@ -1,4 +1,4 @@
-use Rattle.mbox_record.proofs.Taken.{OnErr-any}
+use Rattle.mbox_spool.proofs.Taken.{OnErr-any}
 use Rattle.mbox_rd.proofs.Trying.{between-start, between-missed, begun-then, missed-then, tried-some, tried-none}
 use Rattle.mbox_rd.proofs.turn.begin_turn.Goals as goal
 

@@ -1,6 +1,6 @@
 use Rattle.std.proofs.Common.{◌≡◌, drop, ◌∙◌, refl}
 use Rattle.std.proofs.lemmas.List.{take_rest}
-use Rattle.mbox_record.proofs.Taken.{OnErr-any}
+use Rattle.mbox_spool.proofs.Taken.{OnErr-any}
 use Rattle.mbox_record.proofs.Written.{begins, up_to, up_to_fails, with_was, with_was_fails, looks_on, holds}
 use Rattle.mbox_record.proofs.record.write_bytes.Goals as goal
 

@@ -1,8 +1,8 @@
 use Rattle.std.proofs.Common.{◌≡◌, ◌∙◌, Option, Some, true, ap, sym, subst}
 use Rattle.mail_world.specs.Endings.{ending}
-use Rattle.mbox_record.specs.Spool.{SpoolState}
-use Rattle.mbox_record.specs.Tail.{ending_of}
-use Rattle.mbox_record.specs.TurnState.{knows_end}
+use Rattle.mbox_spool.specs.Spool.{SpoolState}
+use Rattle.mbox_spool.specs.Tail.{ending_of}
+use Rattle.mbox_spool.specs.TurnState.{knows_end}
 use Rattle.box_worker.specs.declared.limit.Limit.{Limit}
 use Rattle.box_worker.specs.Stored.{CountedMailbox}
 use Rattle.box_worker.specs.Turned.{MeasuresAgain}

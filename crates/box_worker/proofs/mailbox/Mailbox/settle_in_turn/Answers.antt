@@ -2,7 +2,7 @@ use Rattle.std.proofs.Common.{◌≡◌, ◌∙◌, ℕ, List, length, Option, a
 use Rattle.std.specs.Result.{OnOk, OnErr}
 use Rattle.mail_stamp.specs.Calendar.{civil_at}
 use Rattle.mbox_record.specs.Envelope.{record_text}
-use Rattle.mbox_record.specs.Spool.{SpoolState}
+use Rattle.mbox_spool.specs.Spool.{SpoolState}
 use Rattle.box_worker.specs.declared.limit.Limit.{Limit}
 use Rattle.box_worker.specs.Limits.{IsLetIn}
 use Rattle.box_worker.specs.Stored.{MailboxState, CountedMailbox, mailbox_of}

@@ -1,8 +1,8 @@
 use Rattle.std.proofs.Common.{◌≡◌, ◌∙◌, Option, false, ap, sym, subst}
 use Rattle.mail_stamp.specs.Calendar.{civil_at}
 use Rattle.mbox_record.specs.Envelope.{record_text}
-use Rattle.mbox_record.specs.Spool.{SpoolState, standing, BeginsTurn}
-use Rattle.mbox_record.specs.TurnState.{knows_end}
+use Rattle.mbox_spool.specs.Spool.{SpoolState, standing, BeginsTurn}
+use Rattle.mbox_spool.specs.TurnState.{knows_end}
 use Rattle.box_worker.specs.declared.limit.Limit.{Limit}
 use Rattle.box_worker.specs.Stored.{CountedMailbox}
 use Rattle.box_worker.specs.Turned.{Manner, manner_of, MeasuresAgain}

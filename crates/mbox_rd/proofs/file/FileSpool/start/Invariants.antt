@@ -1,4 +1,4 @@
-use Rattle.mbox_record.specs.TurnLog.{begun_at}
+use Rattle.mbox_spool.specs.TurnLog.{begun_at}
 use Rattle.mbox_rd.specs.FileSpool.{standing_of}
 use Rattle.mbox_rd.proofs.file.FileSpool.start.Given as goal
 

@@ -1,5 +1,5 @@
 use Rattle.std.proofs.Common.{rules, subst}
-use Rattle.mbox_record.specs.Tail.{ending_of}
+use Rattle.mbox_spool.specs.Tail.{ending_of}
 use Rattle.mbox_rd.specs.FileSpool.{IsInOrder}
 use Rattle.mbox_rd.proofs.Failing.{knows_tail}
 use Rattle.mbox_rd.proofs.file.FileSpoolSpool.tail.Goals as goal

@@ -1,4 +1,4 @@
-use Rattle.mbox_record.specs.TurnLog.{ended_at}
+use Rattle.mbox_spool.specs.TurnLog.{ended_at}
 use Rattle.mbox_rd.specs.FileSpool.{standing_of}
 use Rattle.mbox_rd.proofs.file.FileSpoolSpool.unlock.Given as goal
 

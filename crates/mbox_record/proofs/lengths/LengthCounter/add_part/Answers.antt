@@ -2,7 +2,7 @@ use Rattle.std.proofs.Common.{List, ℕ}
 use Rattle.mail_world.specs.Marks.{marked}
 use Rattle.mail_world.specs.Records.{quoted_text}
 use Rattle.mail_world.specs.Text.{unix}
-use Rattle.mbox_record.specs.Quoted.{quoted_owed}
+use Rattle.mbox_spool.specs.Quoted.{quoted_owed}
 use Rattle.mbox_record.specs.Writing.{bytes_owed}
 use Rattle.mbox_record.proofs.Lengthened.{counts_piece}
 use Rattle.mbox_record.proofs.lengths.LengthCounter.add_part.Goals as goal

@@ -2,7 +2,7 @@ use Rattle.std.proofs.Common.{List, ℕ, ap₂}
 use Rattle.mail_world.specs.Marks.{marked}
 use Rattle.mail_world.specs.Records.{quoted_text}
 use Rattle.mail_world.specs.Text.{unix}
-use Rattle.mbox_record.specs.Quoted.{quoted_owed}
+use Rattle.mbox_spool.specs.Quoted.{quoted_owed}
 use Rattle.mbox_record.specs.Writing.{bytes_owed}
 use Rattle.mbox_record.specs.declared.lengths.Lengths.{Lengths}
 use Rattle.mbox_record.proofs.Lengthened.{counts_end}

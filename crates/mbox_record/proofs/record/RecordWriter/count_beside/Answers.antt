@@ -1,5 +1,5 @@
 use Rattle.std.proofs.Common.{◌++◌}
-use Rattle.mbox_record.specs.Quoted.{quoted_owed}
+use Rattle.mbox_spool.specs.Quoted.{quoted_owed}
 use Rattle.mbox_record.specs.Writing.{bytes_owed}
 use Rattle.mbox_record.proofs.Counted.{counts_alike}
 use Rattle.mbox_record.proofs.record.RecordWriter.count_beside.Goals as goal

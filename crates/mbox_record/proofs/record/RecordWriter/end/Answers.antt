@@ -1,5 +1,5 @@
 use Rattle.mbox_record.specs.Writing.{Writer}
-use Rattle.mbox_record.proofs.Taken.{OnErr-any, OnErr-map}
+use Rattle.mbox_spool.proofs.Taken.{OnErr-any, OnErr-map}
 use Rattle.mbox_record.proofs.Written.{end_fails, held_fails}
 use Rattle.mbox_record.proofs.record.RecordWriter.end.Goals as goal
 

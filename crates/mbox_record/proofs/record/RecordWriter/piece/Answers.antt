@@ -2,7 +2,7 @@ use Rattle.std.proofs.Common.{rules, ◌≡◌, ◌<◌, length, drop, Result, O
 use Rattle.std.specs.Result.{IfOk}
 use Rattle.mbox_record.specs.Writing.{Writer}
 use Rattle.mbox_record.proofs.Onward.{Writes-then, Fails-then}
-use Rattle.mbox_record.proofs.Taken.{OnErr-any, OnErr-map}
+use Rattle.mbox_spool.proofs.Taken.{OnErr-any, OnErr-map}
 use Rattle.mbox_record.proofs.Written.{one_more, writes_held, fails_held, next_rest, none_held}
 use Rattle.mbox_record.proofs.record.RecordWriter.piece.Goals as goal
 

@@ -1,5 +1,6 @@
 use Rattle.std.proofs.Common.{◌++◌, length}
-use Rattle.mbox_record.specs.Writing.{Writes, bytes_owed}
+use Rattle.mbox_spool.specs.Writing.{Writes}
+use Rattle.mbox_record.specs.Writing.{bytes_owed}
 use Rattle.mbox_record.proofs.record.RecordWriter.piece.Given as goal
 
 abbrev pub invariant-loop-rest : goal.invariant-loop-rest

@@ -1,6 +1,6 @@
 use Rattle.std.proofs.Common.{◌+◌, ◌-◌, ◌*◌, length}
 use Rattle.std.specs.Prelude.{if◌then◌else◌}
-use Rattle.mbox_record.proofs.Counted.{InSpool, nothing}
+use Rattle.mbox_spool.proofs.Counts.{InSpool, nothing}
 use Rattle.mbox_record.proofs.Written.{HasWritten}
 use Rattle.mbox_record.proofs.record.counting.count_bytes.Given as goal
 

@@ -1,0 +1,11 @@
+pub mod Taken
+pub mod Tails
+pub mod Rests
+pub mod Words
+pub mod Steps
+pub mod Ends
+pub mod Runs
+pub mod Pieces
+pub mod Counts
+pub mod Blocks
+pub mod Copies

@@ -1,0 +1,11 @@
+pub mod Fault
+pub mod TurnState
+pub mod TurnLog
+pub mod Spool
+pub mod Tail
+pub mod MemorySpool
+pub mod Mending
+pub mod Quoted
+pub mod Writing
+pub mod Steps
+pub mod Lines
