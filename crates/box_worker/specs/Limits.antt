@@ -4,7 +4,7 @@ use Rattle.mail_world.specs.Counts.{counted}
 use Rattle.mail_world.specs.Endings.{mends, mended}
 use Rattle.mail_world.specs.Records.{Calendar}
 use Rattle.mail_world.specs.Site.{Site}
-use Rattle.mail_stamp.specs.Calendar.{civil_at}
+use Rattle.mail_writing.specs.Calendar.{civil_at}
 use Rattle.mbox_spool.specs.Spool.{SpoolState}
 use Rattle.mbox_spool.specs.declared.tail.Tail.{Tail}
 use Rattle.mbox_spool.specs.Tail.{ending_of}

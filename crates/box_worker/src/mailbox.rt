@@ -1,7 +1,7 @@
 //! A mailbox: its spool, how many copies it has, and whether its last turn broke.
 
 ghost use Rattle.std.specs.Prelude.{◌≡◌, ◌+◌, ℕ, List, true, false, length, OnOk, IfErr};
-ghost use Rattle.mail_stamp.specs.Calendar.{civil_at};
+ghost use Rattle.mail_writing.specs.Calendar.{civil_at};
 ghost use Rattle.mail_world.specs.Counts.{counted};
 ghost use Rattle.mail_world.specs.Site.{Site};
 ghost use Rattle.mbox_record.specs.Envelope.{Envelope, record_text};

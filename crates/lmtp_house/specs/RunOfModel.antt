@@ -9,7 +9,7 @@ use Rattle.mail_world.specs.Turns.{Standing, Told, AreAlone, left_by}
 use Rattle.mail_runs.specs.Courses.{Server, Course}
 use Rattle.mail_runs.specs.Histories.{Threads}
 use Rattle.mail_runs.specs.Ordered.{IsOrderlyRunOf}
-use Rattle.mail_stamp.specs.Calendar.{civil_at}
+use Rattle.mail_writing.specs.Calendar.{civil_at}
 use Rattle.mbox_spool.specs.Spool.{SpoolState}
 use Rattle.box_worker.specs.Turned.{Manner}
 use Rattle.lmtp_lane.specs.Visits.{conversations_of}

@@ -38,7 +38,7 @@ use Rattle.box_worker.specs.declared.turn.TurnEnd.TheVariants as ends
 use Rattle.box_worker.specs.Told.{is_stored, says_over_quota, owed_to}
 use Rattle.box_worker.specs.Turned.{IsFullWhereBroken}
 use Rattle.box_worker.specs.TurnEnds.{IsEndOf, TellsTurns}
-use Rattle.mail_stamp.specs.Calendar.{civil_at}
+use Rattle.mail_writing.specs.Calendar.{civil_at}
 use Rattle.lmtp_talk.specs.declared.ending.EndCause.TheVariants.{WriteFault}
 use Rattle.lmtp_talk.specs.Entries.{Entry, with_entries}
 use Rattle.lmtp_talk.specs.Peer.{PeerState}

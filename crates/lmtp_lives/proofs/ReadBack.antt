@@ -17,7 +17,7 @@ use Rattle.mail_lives.proofs.Lists.{all_front, all_back, all_both}
 use Rattle.mail_lives.proofs.MailedDue.{due_mailed}
 use Rattle.mail_lives.proofs.Lived.{lives_read, lives_do}
 use Rattle.mail_lives.proofs.Stays.{stored_stay}
-use Rattle.mail_stamp.specs.Calendar.{civil_at}
+use Rattle.mail_writing.specs.Calendar.{civil_at}
 use Rattle.lmtp_threads.specs.Works.{VisitsView, SpoolsView}
 use Rattle.lmtp_lives.specs.Runs.{ServerRun, life_at, lives_at, told_in_run}
 use Rattle.lmtp_lives.specs.ReadBack.{AreReadBack}

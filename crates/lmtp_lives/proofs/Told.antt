@@ -15,7 +15,7 @@ use Rattle.mail_world.specs.Lists.{OutcomesAreAnswers}
 use Rattle.mail_world.specs.Site.{Site}
 use Rattle.mail_world.specs.Slips.{of_worker, slip_of}
 use Rattle.mail_world.specs.Turns.{HaveTurns}
-use Rattle.mail_stamp.specs.Calendar.{civil_at}
+use Rattle.mail_writing.specs.Calendar.{civil_at}
 use Rattle.lmtp_house.specs.RunOfModel.{server_of}
 use Rattle.mail_lives.specs.Lives.{if_stored, stored_of, told_in}
 use Rattle.mail_runs.specs.Courses.{outcomes_in}

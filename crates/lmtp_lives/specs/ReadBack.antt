@@ -6,7 +6,7 @@ use Rattle.mail_world.specs.Site.{Site}
 use Rattle.mail_lives.specs.Steps.{StepsComeTo}
 use Rattle.mail_lives.specs.Lives.{lives_steps, told_through, broken_through}
 use Rattle.mail_lives.specs.ReadBack.{stored_in, torn_in, IsReadBack}
-use Rattle.mail_stamp.specs.Calendar.{civil_at}
+use Rattle.mail_writing.specs.Calendar.{civil_at}
 use Rattle.lmtp_threads.specs.Works.{VisitsView, SpoolsView}
 use Rattle.lmtp_lives.specs.Runs.{ServerRun, lives_at, told_in_run}
 

@@ -7,7 +7,7 @@ use Rattle.mail_world.specs.Conversation.{Conversation, conversation}
 use Rattle.mail_world.specs.Rows.{site_with, delivery, hello, whole}
 use Rattle.mail_world.specs.Site.{Site}
 use Rattle.mail_world.specs.Turns.{Standing, Had, addition}
-use Rattle.mail_stamp.specs.Calendar.{civil_at}
+use Rattle.mail_writing.specs.Calendar.{civil_at}
 use Rattle.mbox_spool.specs.Spool.{SpoolState}
 use Rattle.box_worker.specs.declared.turn.TurnEnd.{TurnEnd}
 use Rattle.lmtp_talk.specs.Entries.{Entry}

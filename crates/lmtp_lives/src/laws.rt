@@ -8,7 +8,7 @@ ghost use Rattle.mail_world.specs.Site.{Site};
 ghost use Rattle.mail_world.specs.Text.{IsOneLine};
 ghost use Rattle.mail_lives.specs.ReadAs.{IsReadAs};
 ghost use Rattle.mail_lives.specs.Lives.{HaveLived, LivesLeave, taken_through, told_in};
-ghost use Rattle.mail_stamp.specs.Calendar.{civil_at};
+ghost use Rattle.mail_writing.specs.Calendar.{civil_at};
 ghost use Rattle.lmtp_threads.specs.Works.{visits_view, spools_view};
 ghost use Rattle.lmtp_lives.specs.Runs.{ServerRun, life_at, lives_at, told_in_run};
 ghost use Rattle.lmtp_lives.specs.ReadBack.{AreReadBack};

@@ -4,7 +4,7 @@ ghost use Rattle.std.specs.Prelude.{◌≡◌, ℕ, List, [], ◌∷◌};
 ghost use Rattle.mail_world.specs.Reading.{Letter};
 ghost use Rattle.mail_lives.specs.ReadAs.{IsReadAs};
 ghost use Rattle.mail_lives.specs.Lives.{LivesLeave};
-ghost use Rattle.mail_stamp.specs.Calendar.{civil_at};
+ghost use Rattle.mail_writing.specs.Calendar.{civil_at};
 ghost use Rattle.lmtp_lives.specs.Runs.{lives_at, told_in_run};
 ghost use Rattle.lmtp_lives.specs.Rows.{Run, site, note, IsKilledAt};
 

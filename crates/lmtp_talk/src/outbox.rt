@@ -11,7 +11,7 @@ ghost use Rattle.lmtp_talk.specs.declared.outbox.TheConstants.{OUTBOX_SIZE};
 use crate::observer::Observer;
 use crate::peer::{Peer, PeerFault};
 use crate::telling::{Asked, tell_all};
-use lmtp_reply::{REPLY_LIMIT, write_reply};
+use mail_writing::{REPLY_LIMIT, write_reply};
 use lmtp_session::{Act, Session};
 use lmtp_text::Site;
 use mail_world::Reply;

@@ -7,7 +7,7 @@ use Rattle.mail_world.specs.Site.{Site}
 use Rattle.mail_world.specs.Counts.{counted}
 use Rattle.mail_world.specs.Turns.{Standing, Told}
 use Rattle.mail_runs.specs.Courses.{outcomes_in}
-use Rattle.mail_stamp.specs.Calendar.{civil_at}
+use Rattle.mail_writing.specs.Calendar.{civil_at}
 use Rattle.mbox_spool.specs.Spool.{SpoolState}
 use Rattle.box_worker.specs.declared.turn.TurnEnd.{TurnEnd}
 use Rattle.box_worker.specs.Limits.{Setting}

@@ -4,7 +4,7 @@ use crate::naming::{Address, address_in};
 use crate::pairs::{CopyLine, EndLine, Envelope, Id, Line, RefusedLine, Seconds};
 use crate::verb::verb_of;
 use crate::words::is_refusal;
-use lmtp_reply::reply_code;
+use mail_writing::reply_code;
 use lmtp_talk::{Arrived, EndCause, Traffic};
 use lmtp_text::{Reading, Site};
 use mail_head::Text;

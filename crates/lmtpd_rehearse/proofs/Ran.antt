@@ -22,7 +22,7 @@ use Rattle.mail_world.proofs.Accounts.{account_told}
 use Rattle.mail_runs.specs.Courses.{Course, outcomes_in}
 use Rattle.mail_runs.proofs.OneLane.{many}
 use Rattle.box_worker.specs.Told.{owed_to}
-use Rattle.mail_stamp.specs.Calendar.{civil_at}
+use Rattle.mail_writing.specs.Calendar.{civil_at}
 use Rattle.mbox_spool.specs.MemorySpool.{state_of}
 use Rattle.mbox_spool.specs.Spool.{SpoolState}
 use Rattle.lmtp_talk.specs.declared.ending.EndCause.{EndCause}

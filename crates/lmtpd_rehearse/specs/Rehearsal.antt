@@ -17,7 +17,7 @@ use Rattle.mail_runs.specs.Courses.{Server, Course, outcomes_in}
 use Rattle.mail_runs.specs.Histories.{Threads}
 use Rattle.mail_runs.specs.Ordered.{IsOrderlyRunOf}
 use Rattle.box_worker.specs.Turned.{AreRefused}
-use Rattle.mail_stamp.specs.Calendar.{civil_at}
+use Rattle.mail_writing.specs.Calendar.{civil_at}
 use Rattle.lmtp_talk.specs.declared.ending.EndCause.{EndCause}
 use Rattle.lmtp_talk.specs.declared.ending.EndCause.TheVariants.{Quit, EndOfInput, WriteFault, Stopped, ReadBound}
 use Rattle.lmtp_talk.specs.Served.{IsWritten, has_quit}

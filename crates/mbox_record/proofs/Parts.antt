@@ -5,7 +5,7 @@ use Rattle.mail_world.specs.declared.Txn.{Txn}
 use Rattle.mail_world.specs.Text.{lf, tab, with_lf}
 use Rattle.mail_world.specs.Stamps.{Civil, date_time}
 use Rattle.mail_world.specs.Records.{Calendar, record_of, protocol, quoted_text, stored_text}
-use Rattle.mail_stamp.specs.Calendar.{civil_at}
+use Rattle.mail_writing.specs.Calendar.{civil_at}
 use Rattle.mbox_record.specs.Envelope.{Envelope, record_text, from_line, trace_lines, head_text}
 use Rattle.mbox_record.specs.Parts.{origin, id_text, date_line}
 use Rattle.mail_world.specs.Site.{Site}

@@ -4,7 +4,7 @@ ghost use Rattle.std.specs.Prelude.{◌≡◌, ℕ, List, [], ◌∷◌, ◌++�
 ghost use Rattle.mail_world.specs.Records.{quoted_text, stored_text};
 ghost use Rattle.mail_world.specs.Marks.{marked};
 ghost use Rattle.mail_world.specs.Text.{lf, unix};
-ghost use Rattle.mail_stamp.specs.Calendar.{civil_at};
+ghost use Rattle.mail_writing.specs.Calendar.{civil_at};
 ghost use Rattle.mbox_record.specs.Envelope.{head_text};
 ghost use Rattle.mbox_spool.specs.Spool.{SpoolTook, SpoolFailed};
 ghost use Rattle.mbox_spool.specs.Quoted.{quoted_owed};

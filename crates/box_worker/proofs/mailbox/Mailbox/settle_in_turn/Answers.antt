@@ -1,6 +1,6 @@
 use Rattle.std.proofs.Common.{◌≡◌, ◌∙◌, ℕ, List, length, Option, ap, sym, subst}
 use Rattle.std.specs.Result.{OnOk, OnErr}
-use Rattle.mail_stamp.specs.Calendar.{civil_at}
+use Rattle.mail_writing.specs.Calendar.{civil_at}
 use Rattle.mbox_record.specs.Envelope.{record_text}
 use Rattle.mbox_spool.specs.Spool.{SpoolState}
 use Rattle.box_worker.specs.declared.limit.Limit.{Limit}

@@ -1,5 +1,5 @@
 use Rattle.std.proofs.Common.{◌≡◌, ◌∙◌, Option, false, ap, sym, subst}
-use Rattle.mail_stamp.specs.Calendar.{civil_at}
+use Rattle.mail_writing.specs.Calendar.{civil_at}
 use Rattle.mbox_record.specs.Envelope.{record_text}
 use Rattle.mbox_spool.specs.Spool.{SpoolState, standing, BeginsTurn}
 use Rattle.mbox_spool.specs.TurnState.{knows_end}

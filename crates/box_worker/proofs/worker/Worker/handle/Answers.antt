@@ -1,5 +1,5 @@
 use Rattle.std.proofs.Common.{◌≡◌, ◌∙◌, ℕ, List, [], ◌∷◌, ◌++◌, ap, sym, subst, Bool}
-use Rattle.mail_stamp.specs.Calendar.{civil_at}
+use Rattle.mail_writing.specs.Calendar.{civil_at}
 use Rattle.mail_world.specs.declared.Outcome.{Outcome}
 use Rattle.mail_world.specs.declared.Txn.{Txn}
 use Rattle.mail_world.specs.Records.{record_of}

@@ -1,5 +1,5 @@
 use Rattle.std.proofs.Common.{◌∙◌, Bool, List, ℕ, ◌++◌, ap, ap₂, sym}
-use Rattle.mail_stamp.specs.Calendar.{civil_at}
+use Rattle.mail_writing.specs.Calendar.{civil_at}
 use Rattle.mail_world.specs.Records.{protocol}
 use Rattle.mbox_record.specs.Envelope.{from_line}
 use Rattle.mbox_record.proofs.Heads.{added_then}

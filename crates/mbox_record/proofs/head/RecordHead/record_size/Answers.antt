@@ -1,5 +1,5 @@
 use Rattle.std.proofs.Common.{◌≡◌, Bool, length, ap, subst}
-use Rattle.mail_stamp.specs.Calendar.{civil_at}
+use Rattle.mail_writing.specs.Calendar.{civil_at}
 use Rattle.mail_world.specs.Counts.{counted}
 use Rattle.mbox_record.specs.Lengths.{text_after_head}
 use Rattle.mbox_record.proofs.Heads.{record_count}

@@ -1,2 +1,0 @@
-pub mod CalendarDates
-pub mod CalendarMoments

@@ -1,0 +1,3 @@
+pub mod CalendarDates
+pub mod CalendarMoments
+pub mod ReplyTexts
