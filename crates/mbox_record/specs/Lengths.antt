@@ -5,6 +5,7 @@ use Rattle.mail_world.specs.Marks.{marked}
 use Rattle.mail_world.specs.Records.{quoted_text}
 use Rattle.mail_world.specs.Text.{lf, unix}
 use Rattle.mbox_spool.specs.Quoted.{quoted_owed}
+use Rattle.mbox_spool.specs.Writing.{Counts}
 use Rattle.mbox_record.specs.Writing.{bytes_owed}
 use Rattle.mbox_record.specs.declared.lengths.Lengths.{Lengths}
 use Rattle.mbox_record.specs.declared.lengths.LengthCounter.{LengthCounter}
