@@ -11,10 +11,10 @@ ghost use Rattle.lmtp_talk.specs.declared.outbox.TheConstants.{OUTBOX_SIZE};
 use crate::observer::Observer;
 use crate::peer::{Peer, PeerFault};
 use crate::telling::{Asked, tell_all};
-use mail_writing::{REPLY_LIMIT, write_reply};
 use lmtp_session::{Act, Session};
 use lmtp_text::Site;
 use mail_world::Reply;
+use mail_writing::{REPLY_LIMIT, write_reply};
 use std::alloc::{AllocError, Global};
 use std::marker::Model;
 

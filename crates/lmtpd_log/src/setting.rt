@@ -4,11 +4,11 @@ use crate::naming::{Address, address_in};
 use crate::pairs::{CopyLine, EndLine, Envelope, Id, Line, RefusedLine, Seconds};
 use crate::verb::verb_of;
 use crate::words::is_refusal;
-use mail_writing::reply_code;
 use lmtp_talk::{Arrived, EndCause, Traffic};
 use lmtp_text::{Reading, Site};
 use mail_head::Text;
 use mail_world::Reply;
+use mail_writing::reply_code;
 use std::sync::Arc;
 
 /// What the lines of a lane's log depend on.

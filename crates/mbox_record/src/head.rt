@@ -15,9 +15,9 @@ use crate::envelope::Envelope;
 use crate::lengths::Lengths;
 use itoa::Buffer;
 use lmtp_text::Site;
-use mail_writing::{Stamp, stamp_5322, stamp_ctime};
 use mail_world::Txn;
 use mail_world::limits::{NAME_LIMIT, PATH_LIMIT};
+use mail_writing::{Stamp, stamp_5322, stamp_ctime};
 use std::marker::Model;
 
 /// Room for the longest head, which has 1,159 bytes.
