@@ -21,8 +21,8 @@
 #                       [--slow-sync] [--picture FILE.svg]
 # 3 rounds, all works and all peers without the words. In each round each peer does each work with a fresh store. A work
 # has several times as many messages for all but Dovecot; with --times N it is N times for each work: on an uneven disk
-# many short rounds tell more than few long ones. With --together the servers of a work live side by side through all of
-# its rounds, and in each round each has one burst of about a tenth of a second, in an order of chance: what is compared
+# many short rounds tell more than few long ones. With --together the servers of a work live side by side through five
+# rounds, and in each round each has one burst of a tenth to a fifth of a second, in an order of chance: what is compared
 # lies within a second, so that a disk or a machine which is slow for seconds is slow for all. With --slow-sync each
 # fsync and fdatasync takes 2 ms more (bench/serve/slowsync.c). Peers that aren't installed are left out, and that is
 # said; Dovecot needs root. Prints the medians, and of ours and of `plain` the medians of the ratios within a round,
