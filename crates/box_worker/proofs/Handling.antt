@@ -8,7 +8,7 @@ use Rattle.mail_world.proofs.GivenAway.{count-append}
 use Rattle.mail_world.specs.declared.Note.{Note}
 use Rattle.mail_world.specs.declared.Slip.{Slip}
 use Rattle.mail_world.specs.declared.Outcome.{Outcome}
-use Rattle.mail_world.specs.declared.Outcome.TheVariants.{Stored, Failed, NoRoom, TooLarge, OverQuota}
+use Rattle.mail_world.specs.declared.Outcome.TheVariants.{Stored, Failed, NoRoom, TooLarge, Malformed, OverQuota}
 use Rattle.mail_world.specs.Counts.{counted}
 use Rattle.mail_world.specs.Slips.{slip_of}
 use Rattle.mail_world.specs.Records.{Calendar, record_of}
@@ -52,6 +52,7 @@ stored_more' Stored n old new t e = t.0 ∙ ap (λ m. counted (m + 1)) e ∙ cou
 stored_more' Failed n old new t e = let z : n ≡ n + 0 = omega arith in t.0 ∙ e ∙ ap counted z
 stored_more' NoRoom n old new t e = let z : n ≡ n + 0 = omega arith in t.0 ∙ e ∙ ap counted z
 stored_more' TooLarge n old new t e = let z : n ≡ n + 0 = omega arith in t.0 ∙ e ∙ ap counted z
+stored_more' Malformed n old new t e = let z : n ≡ n + 0 = omega arith in t.0 ∙ e ∙ ap counted z
 stored_more' OverQuota n old new t e = let z : n ≡ n + 0 = omega arith in t.0 ∙ e ∙ ap counted z
 
 over_more' : (outcome : Outcome) (n : ℕ) (old new : MailboxState) → CountsOutcome outcome old new → old.over ≡ counted n
@@ -60,6 +61,7 @@ over_more' Stored n old new t e = let z : n ≡ n + 0 = omega arith in t.1 ∙ e
 over_more' Failed n old new t e = let z : n ≡ n + 0 = omega arith in t.1 ∙ e ∙ ap counted z
 over_more' NoRoom n old new t e = let z : n ≡ n + 0 = omega arith in t.1 ∙ e ∙ ap counted z
 over_more' TooLarge n old new t e = let z : n ≡ n + 0 = omega arith in t.1 ∙ e ∙ ap counted z
+over_more' Malformed n old new t e = let z : n ≡ n + 0 = omega arith in t.1 ∙ e ∙ ap counted z
 over_more' OverQuota n old new t e = t.1 ∙ ap (λ m. counted (m + 1)) e ∙ counted_more n
 
 -- each copy has one outcome

@@ -7,7 +7,7 @@ use Rattle.mail_world.specs.declared.Txn.{Txn}
 use Rattle.mail_world.specs.declared.Slip.{Slip}
 use Rattle.mail_world.specs.declared.Outcome.{Outcome}
 use Rattle.mail_world.specs.declared.Verdict.{Verdict}
-use Rattle.mail_world.specs.declared.Verdict.TheVariants.{Whole, TooLarge, NoRoom}
+use Rattle.mail_world.specs.declared.Verdict.TheVariants.{Whole, TooLarge, Malformed, NoRoom}
 use Rattle.mail_world.specs.Conversation.{Conversation}
 use Rattle.mail_world.specs.Lists.{Transaction, OutcomesIn, transactions, OutcomesAreAnswers}
 use Rattle.mail_world.specs.Site.{Site}
@@ -61,6 +61,7 @@ outcomes_by lane before since t Whole once h =
     let txn : Txn = record { lane = lane; number = t.number } in
     answers_after txn before since 0 (length t.session.recipients) t.disposition.outcomes (once txn) h
 outcomes_by lane before since t TooLarge once h = tt
+outcomes_by lane before since t Malformed once h = tt
 outcomes_by lane before since t NoRoom once h = tt
 
 -- Where all that was heard names each transaction and place once at most, the outcomes are those of all that was heard.

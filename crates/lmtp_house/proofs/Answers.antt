@@ -81,6 +81,7 @@ module _ (heard : List Slip) where
       → AreAnswers (told_if b t v) (filter (λ note. note.mailbox == b) (copies_if k t v))
   by_verdict k b t verdicts.Whole e = by_places k b t t.session.recipients 0 t.disposition.outcomes e
   by_verdict k b t verdicts.TooLarge e = refl
+  by_verdict k b t verdicts.Malformed e = refl
   by_verdict k b t verdicts.NoRoom e = refl
 
   pub by_transactions : (k b : ℕ) (ts : List Transaction)

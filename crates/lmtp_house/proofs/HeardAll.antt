@@ -11,7 +11,7 @@ use Rattle.mail_world.specs.declared.Outcome.{Outcome}
 use Rattle.mail_world.specs.declared.Slip.{Slip}
 use Rattle.mail_world.specs.declared.Txn.{Txn}
 use Rattle.mail_world.specs.declared.Verdict.{Verdict}
-use Rattle.mail_world.specs.declared.Verdict.TheVariants.{Whole, TooLarge, NoRoom}
+use Rattle.mail_world.specs.declared.Verdict.TheVariants.{Whole, TooLarge, Malformed, NoRoom}
 use Rattle.mail_world.specs.Conversation.{Conversation}
 use Rattle.mail_world.specs.Prefixes.{IsPrefix}
 use Rattle.mail_world.specs.Lists.{Transaction, transactions, copies_from, copies_if, copies, of_lane, due, OutcomesIn, OutcomesAreAnswers}
@@ -84,6 +84,7 @@ module _ (txn : Txn) (place k : ℕ) (heard : List Slip) where
   answered_if : (t : Transaction) (v : Verdict) → OutcomesIn k heard t v → 1 ≤ count_by (is_copy txn place) (copies_if k t v) → 1 ≤ times_named txn place heard
   answered_if t Whole h some = answered_from t 0 t.session.recipients t.disposition.outcomes h some
   answered_if t TooLarge h some = absurd (omega (arith, some))
+  answered_if t Malformed h some = absurd (omega (arith, some))
   answered_if t NoRoom h some = absurd (omega (arith, some))
 
   answered_copy : (ts : List Transaction) → AllByRecursion (λ t. OutcomesIn k heard t t.disposition.verdict) ts

@@ -12,7 +12,7 @@ use Rattle.mail_world.specs.declared.Outcome.{Outcome}
 use Rattle.mail_world.specs.declared.State.{State}
 use Rattle.mail_world.specs.declared.State.TheVariants.{Fresh, Greeted, Sender, Recipients, Content, Waiting, Ended}
 use Rattle.mail_world.specs.declared.Verdict.{Verdict}
-use Rattle.mail_world.specs.declared.Verdict.TheVariants.{Whole, TooLarge, NoRoom}
+use Rattle.mail_world.specs.declared.Verdict.TheVariants.{Whole, TooLarge, Malformed, NoRoom}
 use Rattle.mail_world.specs.Text.{crlf, place_of}
 use Rattle.mail_world.specs.Data.{message, data_end}
 use Rattle.mail_world.specs.Prefixes.{IsPrefix}
@@ -159,6 +159,7 @@ one_copy txn place k t Whole =
     one_copy_by (t.number == txn.number) place (count_by (is_copy txn place) (copies_from k t 0 t.session.recipients))
     (places txn place k t 0 t.session.recipients)
 one_copy txn place k t TooLarge = omega arith
+one_copy txn place k t Malformed = omega arith
 one_copy txn place k t NoRoom = omega arith
 
 copies_once : (txn : Txn) (place k : ℕ) (ts : List Transaction)

@@ -12,7 +12,7 @@ use Rattle.mail_world.specs.declared.Note.{Note}
 use Rattle.mail_world.specs.declared.Outcome.{Outcome}
 use Rattle.mail_world.specs.declared.Slip.{Slip}
 use Rattle.mail_world.specs.declared.Verdict.{Verdict}
-use Rattle.mail_world.specs.declared.Verdict.TheVariants.{Whole, TooLarge, NoRoom}
+use Rattle.mail_world.specs.declared.Verdict.TheVariants.{Whole, TooLarge, Malformed, NoRoom}
 use Rattle.mail_world.specs.declared.limits.TheConstants.{NUMBER_LIMIT, RECIPIENT_LIMIT}
 use Rattle.mail_world.specs.Session.{Session}
 use Rattle.mail_world.specs.Lists.{Transaction, VerdictFits, OutcomesIn, copies, copies_if, copies_from}
@@ -55,6 +55,7 @@ stays_range txn since more a (suc n) (o ∷ os) e =
 stays_by : (lane : ℕ) (more since : List Slip) (t : Transaction) (v : Verdict) → OutcomesIn lane since t v → OutcomesIn lane (since ++ more) t v
 stays_by lane more since t Whole h = stays_range (record { lane = lane; number = t.number }) since more 0 (length t.session.recipients) t.disposition.outcomes h
 stays_by lane more since t TooLarge h = tt
+stays_by lane more since t Malformed h = tt
 stays_by lane more since t NoRoom h = tt
 
 -- what was answered stays so, whatever is heard later
@@ -117,11 +118,13 @@ verdict_fits limit t accepted size d low number long v =
 no_copy : (lane : ℕ) (t : Transaction) (v : Verdict) → (v ≡ Whole → ⊥) → copies_if lane t v ≡ []
 no_copy lane t Whole f = absurd (f refl)
 no_copy lane t TooLarge f = refl
+no_copy lane t Malformed f = refl
 no_copy lane t NoRoom f = refl
 
 no_outcome : (lane : ℕ) (since : List Slip) (t : Transaction) (v : Verdict) → (v ≡ Whole → ⊥) → OutcomesIn lane since t v
 no_outcome lane since t Whole f = absurd (f refl)
 no_outcome lane since t TooLarge f = tt
+no_outcome lane since t Malformed f = tt
 no_outcome lane since t NoRoom f = tt
 
 copies-snoc : (lane : ℕ) (ts : List Transaction) (t : Transaction) → flat_map (copies lane) (ts ++ t ∷ []) ≡ flat_map (copies lane) ts ++ copies lane t

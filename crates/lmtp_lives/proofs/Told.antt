@@ -7,7 +7,7 @@ use Rattle.std.proofs.lemmas.List.Elements.{filter-append}
 use Rattle.mail_world.specs.declared.Note.{Note}
 use Rattle.mail_world.specs.declared.Slip.{Slip}
 use Rattle.mail_world.specs.declared.Outcome.{Outcome}
-use Rattle.mail_world.specs.declared.Outcome.TheVariants.{Stored, Failed, OverQuota, NoRoom, TooLarge}
+use Rattle.mail_world.specs.declared.Outcome.TheVariants.{Stored, Failed, OverQuota, NoRoom, TooLarge, Malformed}
 use Rattle.mail_world.specs.Conversation.{Conversation}
 use Rattle.mail_world.specs.Deliveries.{told_all, outcomes_told}
 use Rattle.mail_world.specs.Lists.{Transaction, copies_owed, transactions, of_lane, due}
@@ -51,6 +51,7 @@ module _ (k : ℕ) (heard : List Slip) where
   one_of_lane note OverQuota = none_by (note.txn.lane == k)
   one_of_lane note NoRoom = none_by (note.txn.lane == k)
   one_of_lane note TooLarge = none_by (note.txn.lane == k)
+  one_of_lane note Malformed = none_by (note.txn.lane == k)
 
   turn_by : (b : ℕ) (note : Note) (outcome : Outcome) (slips : List Slip) (stored notes : List Note) (t : Bool)
       → AllByRecursion (IsAnswer heard) (cond t (slip_of b note outcome ∷ slips) slips)

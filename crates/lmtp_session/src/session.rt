@@ -140,6 +140,7 @@ impl Session {
         match verdict {
             Verdict::Whole => self.deliver(),
             Verdict::TooLarge => self.answer_all(Outcome::TooLarge),
+            Verdict::Malformed => self.answer_all(Outcome::Malformed),
             Verdict::NoRoom => self.answer_all(Outcome::NoRoom),
         }
     }

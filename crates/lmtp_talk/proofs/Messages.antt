@@ -2,7 +2,7 @@
 use Rattle.std.proofs.Common.{◌≡◌, ℕ, Option, List, [], ◌∷◌, ◌++◌, length, Ok, Err, refl, sym, ap, ◌∙◌, subst, append-nil}
 use Rattle.mail_world.specs.declared.Outcome.{Outcome}
 use Rattle.mail_world.specs.declared.Verdict.{Verdict}
-use Rattle.mail_world.specs.declared.Verdict.TheVariants.{Whole, TooLarge, NoRoom}
+use Rattle.mail_world.specs.declared.Verdict.TheVariants.{Whole, TooLarge, Malformed, NoRoom}
 use Rattle.mail_world.specs.declared.Reply.{Reply}
 use Rattle.mail_world.specs.Site.{Site}
 use Rattle.mail_world.specs.Replies.{reply_texts}
@@ -127,6 +127,27 @@ refused_message {D} HasCome IsDrafting old new before after delivery later TooLa
           after.told (numbered n ts message h) (sized n ts message h) (named n ts message h)
           (ap (λ (x : Session). x.client) one.next)
           (said_is act (step old.session.site old.session.session (DataEnded TooLarge)) new.session.answers one.fits ∙ sym (append-nil _)) entered;
+    }
+refused_message {D} HasCome IsDrafting old new before after delivery later Malformed moment told act number size id other ended one wire same says numbered
+    sized named entered = record {
+      disposition = ended_so (Err Malformed) moment told;
+      takes = record {
+        site = one.site;
+        session = one.next;
+        says = λ start came text h. subst (λ l. HasSaid start after.peer new.outbox came (text ++ l))
+            (texts_are old.session.site act (step old.session.site old.session.session (DataEnded Malformed)) old.session new.session one refl
+            ∙ ap (λ rs. reply_texts old.session.site rs) (sym (append-nil _)))
+            (says start came text h);
+        wire = wire;
+        same = same;
+      };
+      fits = tt;
+      ended = ended;
+      told = λ n ts message h.
+          copies_told number size (counted n) (counted (length message)) id (message_id_of message) new.session.session.client old.session.session.client _ _ before.told
+          after.told (numbered n ts message h) (sized n ts message h) (named n ts message h)
+          (ap (λ (x : Session). x.client) one.next)
+          (said_is act (step old.session.site old.session.session (DataEnded Malformed)) new.session.answers one.fits ∙ sym (append-nil _)) entered;
     }
 refused_message {D} HasCome IsDrafting old new before after delivery later NoRoom moment told act number size id other ended one wire same says numbered
     sized named entered = record {

@@ -3,7 +3,7 @@ use Rattle.std.proofs.Common.{◌≡◌, ℕ, Bool, true, false, List, [], ◌�
 use Rattle.std.specs.Prelude.{nat_lt, if◌then◌else◌, ◌||◌, ◌==◌, ⊤, Ok, Err}
 use Rattle.mail_world.specs.declared.BadCommand.{BadCommand}
 use Rattle.mail_world.specs.declared.Verdict.{Verdict}
-use Rattle.mail_world.specs.declared.Verdict.TheVariants.{Whole, TooLarge, NoRoom}
+use Rattle.mail_world.specs.declared.Verdict.TheVariants.{Whole, TooLarge, Malformed, NoRoom}
 use Rattle.mail_world.specs.declared.State.{State}
 use Rattle.mail_world.specs.declared.State.TheVariants.{Fresh, Greeted, Sender, Recipients, Content, Waiting, Ended}
 use Rattle.mail_world.specs.declared.Reply.TheVariants as replies
@@ -242,11 +242,13 @@ quits_long site s xs h q = quits_more xs (LongLine ∷ []) s.state _ (not_ended 
 pub data_greets : (v : Verdict) (site : Site) (s : Session) (d : Disposition) → (session_after site s (DataEnded v ∷ outcomes_of d v)).state ≡ Greeted
 data_greets Whole site s d = refl
 data_greets TooLarge site s d = refl
+data_greets Malformed site s d = refl
 data_greets NoRoom site s d = refl
 
 no_quit : (v : Verdict) (d : Disposition) → has_quit (DataEnded v ∷ outcomes_of d v) ≡ false
 no_quit Whole d = refl
 no_quit TooLarge d = refl
+no_quit Malformed d = refl
 no_quit NoRoom d = refl
 
 pub quits_data : (v : Verdict) (site : Site) (s : Session) (xs : List Input) (d : Disposition) → s.state ≡ Content → QuitsWith s.state xs

@@ -17,7 +17,7 @@ abbrev pub owned : List (Vec ℕ Global) → List (List ℕ)
 owned names = map (λ name. name.items) names
 
 -- the site of that host, with those further domains and those mailboxes, that names no limit of its own and no
--- delimiter, offers no UTF-8 and renames no marks
+-- delimiter, offers no UTF-8, renames no marks and refuses no malformed messages
 abbrev pub site_of : List ℕ → List (Bor (List ℕ)) → List (Bor (List ℕ)) → Site
 site_of host domains boxes =
     record {
@@ -28,6 +28,7 @@ site_of host domains boxes =
       recipient_delimiter = None;
       utf8 = false;
       renames_marks = false;
+      refuses_malformed = false;
     }
 
 -- a byte that may stand in the name of a host, of a mailbox

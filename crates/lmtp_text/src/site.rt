@@ -46,7 +46,7 @@ impl From<AllocError> for SiteFault {
 
 /// A host, the further domains that it serves (`*` is each one), its mailboxes in their order, how many bytes a message
 /// may have, the byte that parts user and detail of a recipient's address, if one does, whether addresses may be in
-/// UTF-8, and whether records have the marks in a message's head renamed.
+/// UTF-8, whether records have the marks in a message's head renamed, and whether malformed messages are refused.
 #[derive(Debug, Drop)]
 pub struct Site {
     host: Vec<u8>,
@@ -56,6 +56,7 @@ pub struct Site {
     recipient_delimiter: Option<u8>,
     utf8: bool,
     renames_marks: bool,
+    refuses_malformed: bool,
 }
 
 /// Whether user and detail of a recipient's address may be parted by this byte.
@@ -80,6 +81,7 @@ impl Model for Site {
       recipient_delimiter = s.recipient_delimiter;
       utf8 = s.utf8;
       renames_marks = s.renames_marks;
+      refuses_malformed = s.refuses_malformed;
     } };
 
     ghost invariant = { λ s. m.IsSite
@@ -91,6 +93,7 @@ impl Model for Site {
           recipient_delimiter = s.recipient_delimiter;
           utf8 = s.utf8;
           renames_marks = s.renames_marks;
+          refuses_malformed = s.refuses_malformed;
         }) };
 }
 
@@ -115,7 +118,7 @@ fn name_at(names: &[Vec<u8>], i: usize) -> &[u8]
 
 impl Site {
     /// A site takes memory for its names; its messages have at most 1,048,576 bytes, it has no delimiter, offers no
-    /// UTF-8 and renames no marks. Of several broken rules the answer is the first in the order `Host`, `Domain`,
+    /// UTF-8, renames no marks and refuses no malformed messages. Of several broken rules the answer is the first in the order `Host`, `Domain`,
     /// `Count`, `Box`, `Twice`.
     pub fn new(
         alloc: Global,
@@ -144,6 +147,7 @@ impl Site {
             recipient_delimiter: None,
             utf8: false,
             renames_marks: false,
+            refuses_malformed: false,
         })
     }
 
@@ -225,6 +229,24 @@ impl Site {
         ensures { result ≡ self.now.renames_marks }
     {
         self.renames_marks
+    }
+
+    /// The same site that refuses malformed messages: those with a NUL, with a blank at their front, or with a line
+    /// above 8,190 bytes, of which each CR that no LF follows counts as seven.
+    pub fn with_malformed_refused(self) -> Site
+        ensures { result ≡ record self { refuses_malformed = true } }
+    {
+        Site {
+            refuses_malformed: true,
+            ..self
+        }
+    }
+
+    /// Whether malformed messages are refused.
+    pub fn refuses_malformed(&self) -> bool
+        ensures { result ≡ self.now.refuses_malformed }
+    {
+        self.refuses_malformed
     }
 
     /// The host's name.

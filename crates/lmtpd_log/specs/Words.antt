@@ -22,6 +22,7 @@ outcome_word outcomes.Stored = codes "stored"
 outcome_word outcomes.Failed = codes "not-stored"
 outcome_word outcomes.NoRoom = codes "no-room"
 outcome_word outcomes.TooLarge = codes "too-large"
+outcome_word outcomes.Malformed = codes "malformed"
 outcome_word outcomes.OverQuota = codes "over-quota"
 
 -- the replies that refuse a command

@@ -30,6 +30,7 @@ pub(crate) fn outcome_word(outcome: Outcome) -> &'static str
         Outcome::NoRoom => "no-room",
         Outcome::TooLarge => "too-large",
         Outcome::OverQuota => "over-quota",
+        Outcome::Malformed => "malformed",
     }
 }
 

@@ -7,7 +7,7 @@ use Rattle.std.specs.List.{AllByRecursion}
 use Rattle.std.proofs.lemmas.Bool.Decides.{nat_tests}
 use Rattle.mail_world.specs.declared.Note.{Note}
 use Rattle.mail_world.specs.declared.Outcome.{Outcome}
-use Rattle.mail_world.specs.declared.Outcome.TheVariants.{Stored, Failed, NoRoom, TooLarge, OverQuota}
+use Rattle.mail_world.specs.declared.Outcome.TheVariants.{Stored, Failed, NoRoom, TooLarge, Malformed, OverQuota}
 use Rattle.mail_world.specs.Prefixes.{IsPrefix}
 use Rattle.mail_world.specs.Site.{Site}
 use Rattle.mail_world.specs.Records.{Calendar, record_of, mailbox}
@@ -57,6 +57,7 @@ module _ (calendar : Calendar) (site : Site) (quota limit : Option ℕ) where
   is_missed note OverQuota NotHad is e = absurd is
   is_missed note NoRoom NotHad is e = absurd is
   is_missed note TooLarge NotHad is e = absurd is
+  is_missed note Malformed NotHad is e = absurd is
 
   record AllMissed (len : ℕ) (notes : List Note) (turns : List Told) : Type 0 where
     told : outcomes_in turns ≡ outcomes_settled 0 (are_kept_after calendar site quota len notes)
@@ -148,6 +149,7 @@ module _ (calendar : Calendar) (site : Site) (quota limit : Option ℕ) where
   one_turn bytes note notes outcome NotHad turns clean is have at e refused full more = cc
   one_turn bytes note notes NoRoom (Had lock unlock) turns clean is have at e refused full more = absurd is
   one_turn bytes note notes TooLarge (Had lock unlock) turns clean is have at e refused full more = absurd is
+  one_turn bytes note notes Malformed (Had lock unlock) turns clean is have at e refused full more = absurd is
   one_turn bytes note notes Stored (Had lock unlock) turns clean is have at e refused full more =
       let whole : unlock.bytes ≡ bytes ++ text_of note =
       is.whole ∙ ap (λ b. b ++ addition calendar site note lock.bytes) at ∙ ap (λ l. bytes ++ l) (appends note lock.bytes bytes at clean) in

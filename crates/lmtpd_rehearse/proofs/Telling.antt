@@ -125,6 +125,7 @@ module _ (heard : List Slip) where
       → told_if b t v ≡ map (λ s. s.outcome) (of_worker b (slips_all left (copies_if 0 t v)))
   told_verdict b verdicts.Whole t left e h = told_copies b t t.session.recipients 0 t.disposition.outcomes left e h
   told_verdict b verdicts.TooLarge t left e h = refl
+  told_verdict b verdicts.Malformed t left e h = refl
   told_verdict b verdicts.NoRoom t left e h = refl
 
   told_each : (b : ℕ) (ts : List Transaction) (left : ℕ → List Outcome) → AllByRecursion (λ t. OutcomesIn 0 heard t t.disposition.verdict) ts
@@ -176,6 +177,7 @@ module _ (heard : List Slip) where
   verdict_settled quota verdicts.Whole t e h =
       outcomes_say (IsSettledOutcome quota) heard (record { lane = 0; number = t.number }) t.disposition.outcomes 0 (length t.session.recipients) h e
   verdict_settled quota verdicts.TooLarge t e h = tt
+  verdict_settled quota verdicts.Malformed t e h = tt
   verdict_settled quota verdicts.NoRoom t e h = tt
 
   each_settled : (quota : Option ℕ) (ts : List Transaction) → AllByRecursion (λ t. OutcomesIn 0 heard t t.disposition.verdict) ts

@@ -7,7 +7,7 @@ use Rattle.std.proofs.lemmas.Grind.{flat_map-append}
 use Rattle.std.proofs.lemmas.List.Sums.{sum_by-cons, sum_by-append}
 use Rattle.mail_world.specs.declared.Note.{Note}
 use Rattle.mail_world.specs.declared.Outcome.{Outcome}
-use Rattle.mail_world.specs.declared.Outcome.TheVariants.{Stored, Failed, OverQuota, NoRoom, TooLarge}
+use Rattle.mail_world.specs.declared.Outcome.TheVariants.{Stored, Failed, OverQuota, NoRoom, TooLarge, Malformed}
 use Rattle.mail_world.specs.Endings.{mended}
 use Rattle.mail_world.specs.Records.{Calendar, record_of}
 use Rattle.mail_world.specs.Reading.{Letter, IsMailed}
@@ -58,6 +58,7 @@ module _ (calendar : Calendar) (site : Site) where
   turn_does note OverQuota turn None quota old new is h = nothing _ old new h.1
   turn_does note NoRoom turn None quota old new is h = nothing _ old new h.1
   turn_does note TooLarge turn None quota old new is h = nothing _ old new h.1
+  turn_does note Malformed turn None quota old new is h = nothing _ old new h.1
   turn_does note outcome NotHad (Some gap) quota old new is h = absurd h
   turn_does note Stored (Had lock unlock) (Some gap) quota old new is h =
       let record' : List ℕ = record_of calendar site note in
@@ -86,6 +87,7 @@ module _ (calendar : Calendar) (site : Site) where
       record { leave = (h.0, h.1, (new, h.3, refl)); stores = refl; torn = omega arith }
   turn_does note NoRoom (Had lock unlock) (Some gap) quota old new is h = absurd is
   turn_does note TooLarge (Had lock unlock) (Some gap) quota old new is h = absurd is
+  turn_does note Malformed (Had lock unlock) (Some gap) quota old new is h = absurd is
 
   turns_do : (notes : List Note) (turns : List Told) (gaps : List (Option Gap)) (quota : Option ℕ) (old new : List ℕ)
       → HaveTurns calendar site quota notes turns → TurnsLeave calendar site notes turns gaps old new
@@ -124,6 +126,7 @@ turn_mailed note Failed (Some gap) h = (tt, (h, tt))
 turn_mailed note OverQuota (Some gap) h = (tt, (tt, tt))
 turn_mailed note NoRoom (Some gap) h = (tt, (tt, tt))
 turn_mailed note TooLarge (Some gap) h = (tt, (tt, tt))
+turn_mailed note Malformed (Some gap) h = (tt, (tt, tt))
 
 turns_mailed : (notes : List Note) (turns : List Told) (gaps : List (Option Gap)) → AllByRecursion IsMailed notes
     → AllByRecursion IsMailedStep (turns_steps notes turns gaps)

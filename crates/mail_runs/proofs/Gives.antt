@@ -5,7 +5,7 @@ use Rattle.std.proofs.lemmas.List.{map-append, drop-append-le}
 use Rattle.std.proofs.lemmas.List.Sums.{sum_by-cons}
 use Rattle.mail_world.specs.declared.Note.{Note}
 use Rattle.mail_world.specs.declared.Verdict.{Verdict}
-use Rattle.mail_world.specs.declared.Verdict.TheVariants.{Whole, TooLarge, NoRoom}
+use Rattle.mail_world.specs.declared.Verdict.TheVariants.{Whole, TooLarge, Malformed, NoRoom}
 use Rattle.mail_world.specs.Lists.{Transaction, copies, copies_if, copies_from}
 use Rattle.mail_world.specs.Depot.{Key, Held, Slot, Depot, Free, Draft, Sealed, Retired, blocks_for, held_at, held_under, with_held}
 use Rattle.mail_world.specs.House.{Box, Post, notes_of}
@@ -55,6 +55,7 @@ module _ (m : Manner) (k lo : ℕ) (note : Note) (more : List Note) (left : List
       → (v : Verdict) → t.disposition.verdict ≡ v → IsOpening m k lo note more left
   opening_of t ts rise e goes later Whole is = opening_by t ts rise e goes later t.session.recipients (ap (copies_if k t) is)
   opening_of t ts rise e goes later TooLarge is = later (ap (copies_if k t) is)
+  opening_of t ts rise e goes later Malformed is = later (ap (copies_if k t) is)
   opening_of t ts rise e goes later NoRoom is = later (ap (copies_if k t) is)
 
   pub opening : (ts : List Transaction) → RiseAbove lo ts → note ∷ more ≡ flat_map (copies k) ts → (Owed m → GoOn m.room k ts (Gave note ∷ left))

@@ -123,6 +123,7 @@ module _ (site : Site) (some : 0 < length site.boxes) where
   after_verdict : (s : Session) (v : Verdict) → Knows s → Knows (on_verdict s v).next
   after_verdict s verdicts.Whole h = h
   after_verdict s verdicts.TooLarge h = tt
+  after_verdict s verdicts.Malformed h = tt
   after_verdict s verdicts.NoRoom h = tt
 
   after_input : (s : Session) (x : Input) → Knows s → Knows (step site s x).next
@@ -168,6 +169,7 @@ module _ (site : Site) (some : 0 < length site.boxes) where
   owing_known : (k : ℕ) (t : Transaction) (v : Verdict) → KnowsOf t → AllByRecursion IsForKnown (copies_if k t v)
   owing_known k t verdicts.Whole h = places_known k t 0 t.session.recipients h
   owing_known k t verdicts.TooLarge h = tt
+  owing_known k t verdicts.Malformed h = tt
   owing_known k t verdicts.NoRoom h = tt
 
   copies_known : (k : ℕ) (ts : List Transaction) → AllByRecursion KnowsOf ts → AllByRecursion IsForKnown (flat_map (copies k) ts)

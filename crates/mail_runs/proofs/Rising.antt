@@ -185,6 +185,7 @@ owing_rises : (v : Verdict) (t : Transaction) (n p : ℕ) (rest : List Note) →
     → CopiesRise n p (copies_if 0 t v ++ rest)
 owing_rises verdicts.Whole t n p rest low more = transaction_rises t 0 t.session.recipients n p rest (inl low) more
 owing_rises verdicts.TooLarge t n p rest low more = more n p (omega arith)
+owing_rises verdicts.Malformed t n p rest low more = more n p (omega arith)
 owing_rises verdicts.NoRoom t n p rest low more = more n p (omega arith)
 
 pub copies_rise : (ts : List Transaction) (m n p : ℕ) → NumbersRise m ts → n < m → CopiesRise n p (flat_map (copies 0) ts)

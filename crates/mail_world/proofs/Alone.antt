@@ -5,7 +5,7 @@ use Rattle.std.specs.Prelude.{flat_map, if◌then◌else◌}
 use Rattle.std.proofs.Math.Seq.{take-length}
 use Rattle.mail_world.specs.declared.Note.{Note}
 use Rattle.mail_world.specs.declared.Outcome.{Outcome}
-use Rattle.mail_world.specs.declared.Outcome.TheVariants.{Stored, Failed, NoRoom, TooLarge, OverQuota}
+use Rattle.mail_world.specs.declared.Outcome.TheVariants.{Stored, Failed, NoRoom, TooLarge, Malformed, OverQuota}
 use Rattle.mail_world.specs.Records.{Calendar, record_of, mailbox}
 use Rattle.mail_world.specs.Endings.{mended}
 use Rattle.mail_world.specs.Site.{Site}
@@ -38,9 +38,11 @@ does_one calendar site quota note bytes Stored NotHad is at ok = absurd is
 does_one calendar site quota note bytes OverQuota NotHad is at ok = absurd is
 does_one calendar site quota note bytes NoRoom NotHad is at ok = absurd is
 does_one calendar site quota note bytes TooLarge NotHad is at ok = absurd is
+does_one calendar site quota note bytes Malformed NotHad is at ok = absurd is
 does_one calendar site quota note bytes Failed NotHad is at ok = absurd (ok refl)
 does_one calendar site quota note bytes NoRoom (Had lock unlock) is at ok = absurd is
 does_one calendar site quota note bytes TooLarge (Had lock unlock) is at ok = absurd is
+does_one calendar site quota note bytes Malformed (Had lock unlock) is at ok = absurd is
 does_one calendar site quota note bytes Failed (Had lock unlock) is at ok = absurd (ok refl)
 does_one calendar site quota note bytes Stored (Had lock unlock) is at ok = inr (
   ap (has_room calendar site quota note) (sym at) ∙ is.room,

@@ -27,6 +27,7 @@ after_the_data : (site : Site) (session : Session) (d : Disposition) (v : Verdic
     → is_content (session_after site session (DataEnded v ∷ outcomes_of d v)).state ≡ false
 after_the_data site session d verdicts.Whole = refl
 after_the_data site session d verdicts.TooLarge = refl
+after_the_data site session d verdicts.Malformed = refl
 after_the_data site session d verdicts.NoRoom = refl
 
 pub same_after_data : (site : Site) (n : ℕ) (session : Session) (text : List ℕ) (d : Disposition) → accepted_after_part site n session (MailData text d) ≡ n

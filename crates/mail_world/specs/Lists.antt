@@ -3,7 +3,7 @@ use Rattle.std.specs.List.{AllByRecursion}
 use Rattle.mail_world.specs.declared.Slip.{Slip}
 use Rattle.mail_world.specs.declared.limits.TheConstants.{NUMBER_LIMIT}
 use Rattle.mail_world.specs.Slips.{answers}
-use Rattle.std.specs.Prelude.{◌≡◌, ◌↔◌, ⊤, ◌<◌, ◌≤◌, length, map, Some, ℕ, ◌+◌, Bool, true, false, ◌==◌, List, [], ◌∷◌}
+use Rattle.std.specs.Prelude.{◌≡◌, ◌↔◌, ⊤, ◌<◌, ◌≤◌, length, map, Some, ℕ, ◌+◌, Bool, true, false, ◌==◌, List, [], ◌∷◌, ◌&&◌}
 use Rattle.std.specs.Prelude.{◌++◌, filter, flat_map, if◌then◌else◌}
 use Rattle.mail_world.specs.declared.Note.{Note}
 use Rattle.mail_world.specs.declared.Verdict.{Verdict}
@@ -12,6 +12,7 @@ use Rattle.mail_world.specs.declared.State.{State}
 use Rattle.mail_world.specs.declared.State.TheVariants as states
 use Rattle.mail_world.specs.Data.{message}
 use Rattle.mail_world.specs.Site.{Site}
+use Rattle.mail_world.specs.Malformed.{is_malformed}
 use Rattle.mail_world.specs.Session.{Session, fresh}
 use Rattle.mail_world.specs.Conversation.{Disposition, Part, CommandLine, MailData, inputs_of, session_after, parts}
 use Rattle.mail_world.specs.Conversation.{Conversation}
@@ -86,10 +87,17 @@ copies_owed lane box ts = filter (λ note. note.mailbox == box) (flat_map (copie
 unfoldable pub due : Site → ℕ → ℕ → List Conversation → List Note
 due site lane box cs = copies_owed lane box (transactions site 0 cs)
 
--- the verdict is TooLarge exactly where the message is above the limit and the lane had a number left for it; once it
--- has none the verdict is NoRoom
-pub record VerdictFits (limit : ℕ) (t : Transaction) : Type 0 where
-  pub too_large : (t.disposition.verdict ≡ verdicts.TooLarge) ↔ ((limit < length t.message) × (t.number ≤ NUMBER_LIMIT))
+-- the site refuses the message as malformed
+abbrev pub is_refused : Site → List ℕ → Bool
+is_refused site message = site.refuses_malformed && is_malformed message
+
+-- the verdict is TooLarge exactly where the message is above the limit and the lane had a number left for it, and
+-- Malformed exactly where it isn't and the site refuses it so; once the lane has no number the verdict is NoRoom
+pub record VerdictFits (site : Site) (t : Transaction) : Type 0 where
+  pub too_large : (t.disposition.verdict ≡ verdicts.TooLarge)
+      ↔ ((site.message_limit < length t.message) × (t.number ≤ NUMBER_LIMIT))
+  pub malformed : (t.disposition.verdict ≡ verdicts.Malformed)
+      ↔ ((length t.message ≤ site.message_limit) × (is_refused site t.message ≡ true) × (t.number ≤ NUMBER_LIMIT))
   pub no_number : NUMBER_LIMIT < t.number → t.disposition.verdict ≡ verdicts.NoRoom
 
 -- the outcomes of a whole message are those of the slips
@@ -101,7 +109,7 @@ OutcomesIn lane slips t _ = ⊤
 
 -- so it is for all transactions of a lane
 abbrev pub VerdictsFit : Site → List Conversation → Type 0
-VerdictsFit site cs = AllByRecursion (VerdictFits site.message_limit) (transactions site 0 cs)
+VerdictsFit site cs = AllByRecursion (VerdictFits site) (transactions site 0 cs)
 
 abbrev pub OutcomesAreAnswers : Site → ℕ → List Slip → List Conversation → Type 0
 OutcomesAreAnswers site lane slips cs =

@@ -105,6 +105,10 @@ on_verdict s verdicts.TooLarge = record {
   replies = result_for_all outcomes.TooLarge s.recipients;
   next = greeted s.client;
 }
+on_verdict s verdicts.Malformed = record {
+  replies = result_for_all outcomes.Malformed s.recipients;
+  next = greeted s.client;
+}
 on_verdict s verdicts.NoRoom = record { replies = result_for_all outcomes.NoRoom s.recipients; next = greeted s.client }
 
 -- The table. A line comes in the first four states, a verdict in Content, outcomes in Waiting, one for each recipient,

@@ -39,6 +39,7 @@ pub enum Outcome {
     NoRoom,
     TooLarge,
     OverQuota,
+    Malformed,
 }
 
 /// What one recipient's copy came to, as a worker or the lane itself reports it.
@@ -125,6 +126,7 @@ pub enum State {
 pub enum Verdict {
     Whole,
     TooLarge,
+    Malformed,
     NoRoom,
 }
 

@@ -21,6 +21,13 @@ pub const LEAST_MESSAGE_LIMIT: u32 = 65_536;
 /// The largest one.
 pub const LARGEST_MESSAGE_LIMIT: u32 = 268_435_456;
 
+/// How many bytes a line of a message counts at most where malformed ones are refused: mutt reads a mailbox by 8,191
+/// bytes, and takes what follows them for a line of its own.
+pub const COUNTED_LINE_LIMIT: usize = 8_190;
+
+/// How many bytes a CR counts that is no line's end: a mark behind it gains six.
+pub const LONE_CR_COUNT: usize = 7;
+
 /// The digits of a SIZE parameter.
 pub const SIZE_DIGIT_LIMIT: usize = 20;
 

@@ -46,6 +46,7 @@ fn outcome_prefix(outcome: Outcome) -> &'static [u8]
         Outcome::NoRoom => b"452 4.3.1 No room for ",
         Outcome::TooLarge => b"552 5.3.4 Too large for ",
         Outcome::OverQuota => b"452 4.2.2 Over quota for ",
+        Outcome::Malformed => b"554 5.6.0 Malformed for ",
     }
 }
 
