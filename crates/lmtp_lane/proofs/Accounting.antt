@@ -1,7 +1,7 @@
 -- What a lane's account says once another DATA command came, or another data ended.
 use Rattle.std.proofs.Common.{◌≡◌, ℕ, zero, suc, cond, ◌+◌, ◌<◌, ◌≤◌, ◌^◌, List, [], ◌∷◌, ◌++◌, length, map, Bool, true, false, Option, Some, None, refl, ap}
 use Rattle.std.proofs.Common.{sym, ◌∙◌, subst, append_assoc, append-nil, arith}
-use Rattle.std.specs.Prelude.{is_some, ◌||◌, nat_lt, if◌then◌else◌, flat_map, find, option_map}
+use Rattle.std.specs.Prelude.{is_some, ◌||◌, ◌&&◌, nat_lt, if◌then◌else◌, flat_map, find, option_map}
 use Rattle.std.specs.List.{AllByRecursion, range_with_len}
 use Rattle.std.specs.Option.{IfSome}
 use Rattle.std.proofs.lemmas.Grind.{flat_map-append}
@@ -15,7 +15,11 @@ use Rattle.mail_world.specs.declared.Verdict.{Verdict}
 use Rattle.mail_world.specs.declared.Verdict.TheVariants.{Whole, TooLarge, Malformed, NoRoom}
 use Rattle.mail_world.specs.declared.limits.TheConstants.{NUMBER_LIMIT, RECIPIENT_LIMIT}
 use Rattle.mail_world.specs.Session.{Session}
-use Rattle.mail_world.specs.Lists.{Transaction, VerdictFits, OutcomesIn, copies, copies_if, copies_from}
+use Rattle.mail_world.specs.Site.{Site}
+use Rattle.mail_world.specs.Malformed.{is_malformed}
+use Rattle.mail_world.specs.Lists.{Transaction, VerdictFits, OutcomesIn, copies, copies_if, copies_from, is_refused}
+use Rattle.mail_form.specs.declared.form.MessageForm.{MessageForm}
+use Rattle.mail_form.proofs.Laws.{form_says}
 use Rattle.mail_world.proofs.Heard.{all_more}
 use Rattle.msg_depot.specs.declared.view.Claim.{Claim}
 use Rattle.mail_runs.specs.Deeds.{Gave, Heard}
@@ -27,7 +31,7 @@ use Rattle.mail_world.specs.Counts.{counted}
 use Rattle.lmtp_lane.proofs.Doing.{done_nothing}
 use Rattle.lmtp_lane.proofs.Turns.{exchanges_none, exchanged_whole}
 use Rattle.lmtp_lane.proofs.Exchanging.{no_episode, joined_none}
-use Rattle.lmtp_lane.specs.LaneAccount.{IsAnswered, AreEpisodes, IsHeardInTurn, HasOffered, HoldsDraft, verdict_with, verdict_on, Delivers}
+use Rattle.lmtp_lane.specs.LaneAccount.{IsAnswered, AreEpisodes, IsHeardInTurn, HasOffered, HoldsDraft, IsKnownForm, verdict_with, verdict_on, says_malformed, Delivers}
 use Rattle.lmtp_talk.specs.Delivery.{EndsDraft}
 
 -- a slip that was found is found where more are heard
@@ -72,31 +76,42 @@ answered_later lane heard more (t ∷ ts) h = (
   answered_later lane heard more ts h.1,
 )
 
--- the verdict fits the number and the length
-fits_by : (limit : ℕ) (a b : Bool) (d : Option Claim) (k size : ℕ) → nat_lt NUMBER_LIMIT k ≡ a → nat_lt limit size ≡ b → (t : Transaction) → t.number ≡ k
-    → length t.message ≡ size
-    → t.disposition.verdict ≡ (if a then NoRoom else if b then TooLarge else verdict_with d) → VerdictFits limit t
-fits_by limit true b d k size ea eb t number long v =
+-- the verdict fits the number, the length and the form
+fits_by : (site : Site) (a b m : Bool) (d : Option Claim) (k size : ℕ) → nat_lt NUMBER_LIMIT k ≡ a → nat_lt site.message_limit size ≡ b
+    → (t : Transaction) → is_refused site t.message ≡ m → t.number ≡ k → length t.message ≡ size
+    → t.disposition.verdict ≡ (if a then NoRoom else if b then TooLarge else if m then Malformed else verdict_with d) → VerdictFits site t
+fits_by site true b m d k size ea eb t em number long v =
     let over : NUMBER_LIMIT < k = grind (arith, nat_tests, ea) in record {
       too_large = (λ e. let wrong : NoRoom ≡ TooLarge = sym v ∙ e in cc, λ h. absurd (omega (arith, h.1, over, number)));
+      malformed = (λ e. let wrong : NoRoom ≡ Malformed = sym v ∙ e in cc, λ h. absurd (omega (arith, h.2, over, number)));
       no_number = λ h. v;
     }
-fits_by limit false true d k size ea eb t number long v =
+fits_by site false true m d k size ea eb t em number long v =
     let under : k ≤ NUMBER_LIMIT = grind (arith, nat_tests, ea) in
-    let over : limit < size = grind (arith, nat_tests, eb) in record {
+    let over : site.message_limit < size = grind (arith, nat_tests, eb) in record {
       too_large = (λ e. (omega (arith, over, long), omega (arith, under, number)), λ h. v);
+      malformed = (λ e. let wrong : TooLarge ≡ Malformed = sym v ∙ e in cc, λ h. absurd (omega (arith, h.0, over, long)));
       no_number = λ h. absurd (omega (arith, h, under, number));
     }
-fits_by limit false false (Some claim) k size ea eb t number long v =
+fits_by site false false true d k size ea eb t em number long v =
     let under : k ≤ NUMBER_LIMIT = grind (arith, nat_tests, ea) in
-    let small : size ≤ limit = grind (arith, nat_tests, eb) in record {
+    let small : size ≤ site.message_limit = grind (arith, nat_tests, eb) in record {
+      too_large = (λ e. let wrong : Malformed ≡ TooLarge = sym v ∙ e in cc, λ h. absurd (omega (arith, h.0, small, long)));
+      malformed = (λ e. (omega (arith, small, long), em, omega (arith, under, number)), λ h. v);
+      no_number = λ h. absurd (omega (arith, h, under, number));
+    }
+fits_by site false false false (Some claim) k size ea eb t em number long v =
+    let under : k ≤ NUMBER_LIMIT = grind (arith, nat_tests, ea) in
+    let small : size ≤ site.message_limit = grind (arith, nat_tests, eb) in record {
       too_large = (λ e. let wrong : Whole ≡ TooLarge = sym v ∙ e in cc, λ h. absurd (omega (arith, h.0, small, long)));
+      malformed = (λ e. let wrong : Whole ≡ Malformed = sym v ∙ e in cc, λ h. let wrong : false ≡ true = sym em ∙ h.1 in cc);
       no_number = λ h. absurd (omega (arith, h, under, number));
     }
-fits_by limit false false None k size ea eb t number long v =
+fits_by site false false false None k size ea eb t em number long v =
     let under : k ≤ NUMBER_LIMIT = grind (arith, nat_tests, ea) in
-    let small : size ≤ limit = grind (arith, nat_tests, eb) in record {
+    let small : size ≤ site.message_limit = grind (arith, nat_tests, eb) in record {
       too_large = (λ e. let wrong : NoRoom ≡ TooLarge = sym v ∙ e in cc, λ h. absurd (omega (arith, h.0, small, long)));
+      malformed = (λ e. let wrong : NoRoom ≡ Malformed = sym v ∙ e in cc, λ h. let wrong : false ≡ true = sym em ∙ h.1 in cc);
       no_number = λ h. absurd (omega (arith, h, under, number));
     }
 
@@ -106,13 +121,21 @@ over_number k n e = grind (arith, nat_tests, e)
 over_size : (limit k n : ℕ) → limit < 2 ^ 32 → k ≡ counted n → nat_lt limit k ≡ nat_lt limit n
 over_size limit k n low e = grind (arith, nat_tests, e, low)
 
-verdict_fits : (limit : ℕ) (t : Transaction) (accepted size : ℕ) (d : Option Claim) → limit < 2 ^ 32 → accepted ≡ counted t.number
-    → size ≡ counted (length t.message)
-    → t.disposition.verdict ≡ verdict_on limit accepted size d → VerdictFits limit t
-verdict_fits limit t accepted size d low number long v =
-    fits_by limit (nat_lt NUMBER_LIMIT t.number) (nat_lt limit (length t.message)) d t.number (length t.message) refl refl t refl refl
-    (v ∙ ap (λ b. if b then NoRoom else if nat_lt limit size then TooLarge else verdict_with d) (over_number accepted t.number number)
-    ∙ ap (λ b. if nat_lt NUMBER_LIMIT t.number then NoRoom else if b then TooLarge else verdict_with d) (over_size limit size (length t.message) low long))
+verdict_fits : (site : Site) (t : Transaction) (accepted size : ℕ) (m : Bool) (d : Option Claim) → site.message_limit < 2 ^ 32
+    → accepted ≡ counted t.number → size ≡ counted (length t.message) → m ≡ is_refused site t.message
+    → t.disposition.verdict ≡ verdict_on site.message_limit accepted size m d → VerdictFits site t
+verdict_fits site t accepted size m d low number long form v =
+    let limit : ℕ = site.message_limit in
+    fits_by site (nat_lt NUMBER_LIMIT t.number) (nat_lt limit (length t.message)) m d t.number (length t.message) refl refl t (sym form) refl refl
+    (v ∙ ap (λ b. if b then NoRoom else if nat_lt limit size then TooLarge else if m then Malformed else verdict_with d) (over_number accepted t.number number)
+    ∙ ap (λ b. if nat_lt NUMBER_LIMIT t.number then NoRoom else if b then TooLarge else if m then Malformed else verdict_with d)
+    (over_size limit size (length t.message) low long))
+
+-- what is known of the form says whether the message is refused
+malformed_is : (refuses : Bool) (form : Option MessageForm) (message : List ℕ) → IsKnownForm refuses form message
+    → says_malformed form ≡ (refuses && is_malformed message)
+malformed_is refuses None message h = ap (λ r. r && is_malformed message) (sym h)
+malformed_is refuses (Some form) message h = form_says form message h.1 ∙ ap (λ r. r && is_malformed message) (sym h.0)
 
 -- a refused message owes no copy, and has no outcome of its own
 no_copy : (lane : ℕ) (t : Transaction) (v : Verdict) → (v ≡ Whole → ⊥) → copies_if lane t v ≡ []
@@ -160,9 +183,9 @@ turns_none lane ts all t told x =
     (turns_more lane ts all t no_episode (record { timely = (refl, refl); named = tt }) told x)
 
 -- one DATA command more was accepted
-pub more_accepted : (limit : ℕ) (May : ℕ → Type 0) (old now : LaneEnds) (accepted accepted' n : ℕ) (ts : List Transaction) → accepted' ≡ counted (accepted + 1)
-    → HasOffered limit May accepted old now n ts → HasOffered limit May accepted' old now (n + 1) ts
-more_accepted limit May old now accepted accepted' n ts more x = record {
+pub more_accepted : (site : Site) (May : ℕ → Type 0) (old now : LaneEnds) (accepted accepted' n : ℕ) (ts : List Transaction) → accepted' ≡ counted (accepted + 1)
+    → HasOffered site May accepted old now n ts → HasOffered site May accepted' old now (n + 1) ts
+more_accepted site May old now accepted accepted' n ts more x = record {
   count = omega (arith, more, x.count);
   came = x.came;
   own = x.own;
@@ -178,11 +201,11 @@ more_accepted limit May old now accepted accepted' n ts more x = record {
 }
 
 -- a message that is refused
-pub ended_refused : (limit : ℕ) (May : ℕ → Type 0) (old now : LaneEnds) (accepted size : ℕ) (draft : Option Claim) (session : Session) (moment : ℕ)
-    (v : Verdict) → limit < 2 ^ 32 → v ≡ verdict_on limit accepted size draft → (v ≡ Whole → ⊥) → May moment
-    → (n : ℕ) (ts : List Transaction) (message : List ℕ) → HasOffered limit May accepted old now n ts × HoldsDraft draft size message
-    → EndsDraft (λ n ts. HasOffered limit May accepted old now n ts) n ts session message (record { verdict = v; moment = moment; outcomes = [] })
-ended_refused limit May old now accepted size draft session moment v small is other may n ts message h =
+pub ended_refused : (site : Site) (May : ℕ → Type 0) (old now : LaneEnds) (accepted size : ℕ) (form : Option MessageForm) (draft : Option Claim) (session : Session) (moment : ℕ)
+    (v : Verdict) → site.message_limit < 2 ^ 32 → v ≡ verdict_on site.message_limit accepted size (says_malformed form) draft → (v ≡ Whole → ⊥) → May moment
+    → (n : ℕ) (ts : List Transaction) (message : List ℕ) → HasOffered site May accepted old now n ts × HoldsDraft site.refuses_malformed draft size form message
+    → EndsDraft (λ n ts. HasOffered site May accepted old now n ts) n ts session message (record { verdict = v; moment = moment; outcomes = [] })
+ended_refused site May old now accepted size form draft session moment v small is other may n ts message h =
     let x = h.0 in
     let lane : ℕ = old.lane in
     let all : Episode = record { came = x.came; own = x.own; heard = x.heard } in
@@ -203,7 +226,8 @@ ended_refused limit May old now accepted size draft session moment v small is ot
       turns = turns_none lane ts all t (no_outcome lane [] t v other) x.turns;
       answered = all_more (IsAnswered lane x.heard) ts t x.answered
           (record { before = x.heard; since = []; whole = sym (append-nil x.heard); outcomes = no_outcome lane [] t v other });
-      verdicts = all_more (VerdictFits limit) ts t x.verdicts (verdict_fits limit t accepted size draft small x.count h.1.long is);
+      verdicts = all_more (VerdictFits site) ts t x.verdicts
+          (verdict_fits site t accepted size (says_malformed form) draft small x.count h.1.long (malformed_is site.refuses_malformed form message h.1.formed) is);
       moments = all_more (λ (y : Transaction). May y.disposition.moment) ts t x.moments may;
     }
 
@@ -231,13 +255,13 @@ bytes_are : (draft : Option Claim) (claim : Claim) (message : List ℕ) → draf
 bytes_are draft claim message e h = let P : Option Claim → Type 0 = λ d. IfSome d (λ (x : Claim). x.bytes ≡ message) in subst P e h
 
 -- a message that went to its recipients
-whole_same : (limit : ℕ) (May : ℕ → Type 0) (old now next : LaneEnds) (accepted size : ℕ) (draft : Option Claim) (claim : Claim) (session : Session)
-    (moment : ℕ) (told : List Outcome) → limit < 2 ^ 32 → accepted ≤ NUMBER_LIMIT → draft ≡ Some claim → Whole ≡ verdict_on limit accepted size draft
+whole_same : (site : Site) (May : ℕ → Type 0) (old now next : LaneEnds) (accepted size : ℕ) (form : Option MessageForm) (draft : Option Claim) (claim : Claim) (session : Session)
+    (moment : ℕ) (told : List Outcome) → site.message_limit < 2 ^ 32 → accepted ≤ NUMBER_LIMIT → draft ≡ Some claim → Whole ≡ verdict_on site.message_limit accepted size (says_malformed form) draft
     → May moment
     → Delivers (sent_as accepted session moment claim.bytes) told now next
-    → (n : ℕ) (ts : List Transaction) (message : List ℕ) → HasOffered limit May accepted old now n ts × HoldsDraft draft size message
-    → EndsDraft (λ n ts. HasOffered limit May accepted old next n ts) n ts session message (record { verdict = Whole; moment = moment; outcomes = told })
-whole_same limit May old now next accepted size draft claim session moment told small low there is may delivers n ts message h =
+    → (n : ℕ) (ts : List Transaction) (message : List ℕ) → HasOffered site May accepted old now n ts × HoldsDraft site.refuses_malformed draft size form message
+    → EndsDraft (λ n ts. HasOffered site May accepted old next n ts) n ts session message (record { verdict = Whole; moment = moment; outcomes = told })
+whole_same site May old now next accepted size form draft claim session moment told small low there is may delivers n ts message h =
     let x = h.0 in
     let lane : ℕ = old.lane in
     let all : Episode = record { came = x.came; own = x.own; heard = x.heard } in
@@ -268,31 +292,32 @@ whole_same limit May old now next accepted size draft claim session moment told 
       turns = turns_more lane ts all t d.now d.is d.outcomes x.turns;
       answered = all_more (IsAnswered lane (x.heard ++ d.now.heard)) ts t (answered_later lane x.heard d.now.heard ts x.answered)
           (record { before = x.heard; since = d.now.heard; whole = refl; outcomes = d.outcomes });
-      verdicts = all_more (VerdictFits limit) ts t x.verdicts (verdict_fits limit t accepted size draft small x.count h.1.long is);
+      verdicts = all_more (VerdictFits site) ts t x.verdicts
+          (verdict_fits site t accepted size (says_malformed form) draft small x.count h.1.long (malformed_is site.refuses_malformed form message h.1.formed) is);
       moments = all_more (λ (y : Transaction). May y.disposition.moment) ts t x.moments may;
     }
 
-pub ended_whole : (limit : ℕ) (May : ℕ → Type 0) (old now next : LaneEnds) (accepted accepted' size : ℕ) (draft : Option Claim) (claim : Claim)
+pub ended_whole : (site : Site) (May : ℕ → Type 0) (old now next : LaneEnds) (accepted accepted' size : ℕ) (form : Option MessageForm) (draft : Option Claim) (claim : Claim)
     (session : Session) (moment moment' : ℕ) (told : List Outcome) → (accepted' ≡ accepted) × (moment' ≡ moment)
-    → limit < 2 ^ 32 → accepted ≤ NUMBER_LIMIT → draft ≡ Some claim → Whole ≡ verdict_on limit accepted size draft → May moment
+    → site.message_limit < 2 ^ 32 → accepted ≤ NUMBER_LIMIT → draft ≡ Some claim → Whole ≡ verdict_on site.message_limit accepted size (says_malformed form) draft → May moment
     → Delivers (sent_as accepted session moment claim.bytes) told now next
-    → (n : ℕ) (ts : List Transaction) (message : List ℕ) → HasOffered limit May accepted old now n ts × HoldsDraft draft size message
-    → EndsDraft (λ n ts. HasOffered limit May accepted' old next n ts) n ts session message (record { verdict = Whole; moment = moment'; outcomes = told })
-ended_whole limit May old now next accepted accepted' size draft claim session moment moment' told same small low there is may delivers n ts message h =
-    let Q : ℕ → Type 0 = λ k. EndsDraft (λ n ts. HasOffered limit May k old next n ts) n ts session message
+    → (n : ℕ) (ts : List Transaction) (message : List ℕ) → HasOffered site May accepted old now n ts × HoldsDraft site.refuses_malformed draft size form message
+    → EndsDraft (λ n ts. HasOffered site May accepted' old next n ts) n ts session message (record { verdict = Whole; moment = moment'; outcomes = told })
+ended_whole site May old now next accepted accepted' size form draft claim session moment moment' told same small low there is may delivers n ts message h =
+    let Q : ℕ → Type 0 = λ k. EndsDraft (λ n ts. HasOffered site May k old next n ts) n ts session message
     (record { verdict = Whole; moment = moment'; outcomes = told }) in
-    let R : ℕ → Type 0 = λ m. EndsDraft (λ n ts. HasOffered limit May accepted old next n ts) n ts session message
+    let R : ℕ → Type 0 = λ m. EndsDraft (λ n ts. HasOffered site May accepted old next n ts) n ts session message
     (record { verdict = Whole; moment = m; outcomes = told }) in
     subst Q (sym same.0) (subst R (sym same.1)
-    (whole_same limit May old now next accepted size draft claim session moment told small low there is may delivers n ts message h))
+    (whole_same site May old now next accepted size form draft claim session moment told small low there is may delivers n ts message h))
 
 or_false : (b : Bool) → (b || false) ≡ b
 or_false true = refl
 or_false false = refl
 
 -- a lane that was given nothing to do
-offered_none : (limit : ℕ) (May : ℕ → Type 0) (ends : LaneEnds) → HasOffered limit May 0 ends (record ends { gone = any_gone ends.senders }) 0 []
-offered_none limit May ends =
+offered_none : (site : Site) (May : ℕ → Type 0) (ends : LaneEnds) → HasOffered site May 0 ends (record ends { gone = any_gone ends.senders }) 0 []
+offered_none site May ends =
     let done = done_nothing ends (record ends { gone = any_gone ends.senders }) refl refl in
     record {
       count = refl;
@@ -325,5 +350,5 @@ offered_none limit May ends =
       moments = tt;
     }
 
-pub offered_start : (limit : ℕ) (May : ℕ → Type 0) (old new : LaneEnds) → new ≡ record old { gone = any_gone old.senders } → HasOffered limit May 0 old new 0 []
-offered_start limit May old new same = subst (λ e. HasOffered limit May 0 old e 0 []) (sym same) (offered_none limit May old)
+pub offered_start : (site : Site) (May : ℕ → Type 0) (old new : LaneEnds) → new ≡ record old { gone = any_gone old.senders } → HasOffered site May 0 old new 0 []
+offered_start site May old new same = subst (λ e. HasOffered site May 0 old e 0 []) (sym same) (offered_none site May old)

@@ -1,5 +1,5 @@
 -- A message on its way into the depot, room by room.
-use Rattle.std.proofs.Common.{◌≡◌, ◌≤◌, ◌<◌, ℕ, zero, suc, ◌+◌, ◌-◌, List, [], ◌++◌, length, take, drop, Some, refl, ap, sym, ◌∙◌, append_assoc, arith}
+use Rattle.std.proofs.Common.{◌≡◌, ◌≤◌, ◌<◌, ℕ, zero, suc, ◌+◌, ◌-◌, List, [], ◌++◌, length, take, drop, Some, refl, ap, sym, ◌∙◌, subst, append_assoc, append-nil, arith}
 use Rattle.std.specs.Prelude.{Option, None, Bool, true, false}
 use Rattle.std.specs.Option.{IfSome}
 use Rattle.std.proofs.Math.Seq.{take-add, take-append-add, paste}
@@ -15,17 +15,20 @@ use Rattle.lmtp_wire.specs.Dot.{HasFed, EndedOr, DataGoesOn}
 use Rattle.msg_depot.specs.declared.view.Claim.{Claim}
 use Rattle.mail_head.specs.MessageIds.{message_id_of}
 use Rattle.mail_head.proofs.FirstBytes.{none_else_tells}
-use Rattle.lmtp_lane.specs.LaneAccount.{IsComing, PutsOn}
+use Rattle.mail_form.specs.declared.form.MessageForm.{MessageForm}
+use Rattle.lmtp_lane.specs.LaneAccount.{HoldsDraft, IsComing, IsKnownForm, FormsOn, PutsOn}
 
 -- nothing has come, and a draft is empty
-pub none_came : (draft : Option Claim) (id : Option (List ℕ)) → IfSome draft (λ claim. claim.bytes ≡ []) → IsComing draft [] 0 id []
-none_came draft id empty = record {
+pub none_came : (refuses : Bool) (draft : Option Claim) (id : Option (List ℕ)) (form : Option MessageForm) → IfSome draft (λ claim. claim.bytes ≡ [])
+    → IsKnownForm refuses form [] → IsComing refuses draft [] 0 id form []
+none_came refuses draft id form empty known = record {
   long = refl;
   before = [];
   whole = refl;
   rooms = (0, refl);
   bytes = empty;
   named = λ some. absurd (omega (arith, some));
+  formed = known;
 }
 
 -- where more have come than wait, others came before these
@@ -34,9 +37,9 @@ some_before zero waiting size is few more = absurd (more (omega (arith, is, few)
 some_before (suc before) waiting size is few more = omega arith
 
 -- and the Message-ID is known
-pub id_known : (draft : Option Claim) (room message : List ℕ) (held size : ℕ) (id : Option (List ℕ)) → (size ≡ held → ⊥) → held ≤ DATA_BUFFER_SIZE + 1
-    → held ≤ length room → IsComing draft (take held room) size id message → id ≡ message_id_of message
-id_known draft room message held size id more few within h =
+pub id_known : (refuses : Bool) (draft : Option Claim) (room message : List ℕ) (held size : ℕ) (id : Option (List ℕ)) (form : Option MessageForm) → (size ≡ held → ⊥) → held ≤ DATA_BUFFER_SIZE + 1
+    → held ≤ length room → IsComing refuses draft (take held room) size id form message → id ≡ message_id_of message
+id_known refuses draft room message held size id form more few within h =
     let waiting : List ℕ = take held room in
     let count : length waiting ≡ held = omega (arith, length-take held room, within) in
     let long : length message ≡ length h.before + held = omega (arith, ap length h.whole, length-append h.before waiting, count) in
@@ -51,11 +54,43 @@ put_bytes (Some old) None before room p h = tt
 put_bytes None (Some new) before room p h = absurd p
 put_bytes (Some old) (Some new) before room p h = p ∙ ap (λ l. l ++ room) h
 
+-- and what is known of their form
+pub known_more : (refuses : Bool) (form next : Option MessageForm) (before room : List ℕ) → FormsOn form next room → IsKnownForm refuses form before
+    → IsKnownForm refuses next (before ++ room)
+known_more refuses None None before room f h = h
+known_more refuses None (Some next) before room f h = absurd f
+known_more refuses (Some form) None before room f h = absurd f
+known_more refuses (Some form) (Some next) before room f h = (h.0, f before h.1)
+
+-- all that waited was put into the draft
+pub rest_put : (refuses : Bool) (old new : Option Claim) (waiting message : List ℕ) (size : ℕ) (id : Option (List ℕ)) (form next : Option MessageForm)
+    → PutsOn old new waiting → FormsOn form next waiting → IsComing refuses old waiting size id form message → HoldsDraft refuses new size next message
+rest_put refuses old new waiting message size id form next p f h =
+    let B : List ℕ → Type 0 = λ bytes. IfSome new (λ (claim : Claim). claim.bytes ≡ bytes) in
+    record {
+      long = h.long;
+      bytes = subst B h.whole (put_bytes old new h.before waiting p h.bytes);
+      formed = subst (IsKnownForm refuses next) h.whole (known_more refuses form next h.before waiting f h.formed);
+    }
+
+-- nothing waited
+pub none_put : (refuses : Bool) (draft : Option Claim) (waiting message : List ℕ) (size : ℕ) (id : Option (List ℕ)) (form : Option MessageForm) → waiting ≡ []
+    → IsComing refuses draft waiting size id form message → HoldsDraft refuses draft size form message
+none_put refuses draft waiting message size id form none h =
+    let B : List ℕ → Type 0 = λ bytes. IfSome draft (λ (claim : Claim). claim.bytes ≡ bytes) in
+    let whole : h.before ≡ message = sym (append-nil h.before) ∙ ap (λ l. h.before ++ l) (sym none) ∙ h.whole in
+    record {
+      long = h.long;
+      bytes = subst B whole h.bytes;
+      formed = subst (IsKnownForm refuses form) whole h.formed;
+    }
+
 -- a room of what waited was put into the draft
-pub room_put : (old new : Option Claim) (waiting room rest message : List ℕ) (size : ℕ) (id now : Option (List ℕ)) → waiting ≡ room ++ rest
+pub room_put : (refuses : Bool) (old new : Option Claim) (waiting room rest message : List ℕ) (size : ℕ) (id now : Option (List ℕ))
+    (form next : Option MessageForm) → waiting ≡ room ++ rest
     → length room ≡ DATA_BUFFER_SIZE → now ≡ message_id_of message
-    → PutsOn old new room → IsComing old waiting size id message → IsComing new rest size now message
-room_put old new waiting room rest message size id now w full named p h =
+    → PutsOn old new room → FormsOn form next room → IsComing refuses old waiting size id form message → IsComing refuses new rest size now next message
+room_put refuses old new waiting room rest message size id now form next w full named p f h =
     let long : length (h.before ++ room) ≡ length h.before + DATA_BUFFER_SIZE = omega (arith, length-append h.before room, full) in
     let whole : (h.before ++ room) ++ rest ≡ message = append_assoc h.before room rest ∙ ap (λ l. h.before ++ l) (sym w) ∙ h.whole in
     record {
@@ -65,6 +100,7 @@ room_put old new waiting room rest message size id now w full named p h =
       rooms = (h.rooms.0 + 1, omega (arith, long, h.rooms.1));
       bytes = put_bytes old new h.before room p h.bytes;
       named = λ some. named ∙ ap message_id_of (sym whole) ∙ none_else_tells (h.before ++ room) rest (omega (arith, long));
+      formed = known_more refuses form next h.before room f h.formed;
     }
 
 -- what waits after a room was put stands first in it

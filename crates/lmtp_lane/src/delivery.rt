@@ -14,6 +14,7 @@ use crate::incoming::{CountedDraft, Incoming};
 use crate::setting::LaneStart;
 use lmtp_session::Session;
 use lmtp_talk::Delivery;
+use lmtp_text::Site;
 use lmtp_wire::{Dot, Fed};
 use mail_head::MessageId;
 use mail_world::{Outcome, State, Verdict};
@@ -30,6 +31,7 @@ pub struct LaneDelivery<'a, N: DepotName, C: Clock, R: Wait, S: LaneStart> {
     clock: &'a C,
     // how many bytes a message may have
     limit: u32,
+    refuses_malformed: bool,
     pub exchange: Exchange<N>,
     pub incoming: Incoming<N>,
     /// How many DATA commands were accepted; it stays at its largest value.
@@ -38,32 +40,34 @@ pub struct LaneDelivery<'a, N: DepotName, C: Clock, R: Wait, S: LaneStart> {
     pub moment: u32,
     start: PhantomData<S>,
     ghost limited: { (limit ≡ S.site.message_limit) × (limit < 2 ^ 32) },
+    ghost refusing: { refuses_malformed ≡ S.site.refuses_malformed },
     ghost of_lane: { exchange.lane ≡ S.ends.lane },
     ghost count: { length exchange.senders.items ≡ length S.site.boxes },
     ghost none_missing: { IsDone exchange.gather.gather },
 }
 
 impl<'a, N: DepotName, C: Clock, R: Wait, S: LaneStart> LaneDelivery<'a, N, C, R, S> {
-    /// A lane's delivery before its first conversation, where a message may have that many bytes.
+    /// A lane's delivery before its first conversation, at that site.
     pub fn new(
         rt: &'a R,
         depot: &'a Depot<N>,
         clock: &'a C,
         exchange: Exchange<N>,
-        limit: u32,
+        site: &Site,
     ) -> LaneDelivery<'a, N, C, R, S>
-        requires limit { limit ≡ S.site.message_limit }
+        requires here { site.now ≡ S.site }
         requires count { length exchange.senders.items ≡ length S.site.boxes }
         requires none_missing { IsDone exchange.gather.gather }
         requires start { ends_of exchange ≡ record S.ends { gone = any_gone S.ends.senders } }
-        ensures begun { HasOffered S.site.message_limit S.May result.accepted S.ends (ends_of result.exchange) 0 [] }
+        ensures begun { HasOffered S.site S.May result.accepted S.ends (ends_of result.exchange) 0 [] }
         ensures clock { AgreesWith (C.May result.clock.now) (C.May clock.now) }
     {
         LaneDelivery {
             rt,
             depot,
             clock,
-            limit,
+            limit: site.message_limit(),
+            refuses_malformed: site.refuses_malformed(),
             exchange,
             incoming: Incoming::new(),
             accepted: 0,
@@ -98,14 +102,14 @@ impl<'a, N: DepotName, C: Clock, R: Wait, S: LaneStart> Delivery for LaneDeliver
     ghost site = { λ d. S.site };
 
     ghost HasCome = { λ d n ts.
-        HasOffered S.site.message_limit S.May d.accepted S.ends (ends_of d.exchange) n ts
+        HasOffered S.site S.May d.accepted S.ends (ends_of d.exchange) n ts
         × AgreesWith (C.May d.clock.now) S.May };
 
     ghost IsDrafting = { λ d n ts message.
-        HasOffered S.site.message_limit S.May d.accepted S.ends (ends_of d.exchange) n ts
+        HasOffered S.site S.May d.accepted S.ends (ends_of d.exchange) n ts
         × AgreesWith (C.May d.clock.now) S.May
-        × IsComing d.incoming.draft (take d.incoming.held d.incoming.room) d.incoming.size
-        (option_map text_of d.incoming.message_id) message };
+        × IsComing S.site.refuses_malformed d.incoming.draft (take d.incoming.held d.incoming.room) d.incoming.size
+        (option_map text_of d.incoming.message_id) d.incoming.form message };
 
     ghost outcomes = { λ d. told_by d.exchange.gather.gather };
 
@@ -113,7 +117,8 @@ impl<'a, N: DepotName, C: Clock, R: Wait, S: LaneStart> Delivery for LaneDeliver
 
     fn begin(&mut self) {
         self.accepted = self.accepted.saturating_add(1);
-        self.incoming.begin(self.rt, self.depot);
+        self.incoming
+            .begin(self.rt, self.depot, self.refuses_malformed);
     }
 
     fn take(&mut self, dot: &mut Dot, bytes: &[u8]) -> Fed {

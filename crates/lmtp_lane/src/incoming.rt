@@ -1,15 +1,17 @@
 //! A message on its way into the depot.
 
-ghost use Rattle.std.specs.Prelude.{◌≡◌, ◌≤◌, ◌<◌, ◌+◌, ◌++◌, ℕ, List, [], length, take};
+ghost use Rattle.std.specs.Prelude.{◌≡◌, ◌≤◌, ◌<◌, ◌+◌, ◌++◌, ℕ, List, [], length, take, Bool};
 ghost use Rattle.std.specs.Prelude.{None, Some, IfOk, IfErr, IfSome, option_map};
 ghost use Rattle.mail_world.specs.declared.limits.TheConstants.{NUMBER_LIMIT, DATA_BUFFER_SIZE};
 ghost use Rattle.mail_world.specs.declared.Verdict.TheVariants.{Whole};
 ghost use Rattle.mail_head.specs.MessageIds.{message_id_of};
 ghost use Rattle.mail_head.specs.Texts.{text_of};
 ghost use Rattle.lmtp_talk.specs.Delivery.{Takes};
-ghost use Rattle.lmtp_lane.specs.LaneAccount.{HoldsDraft, IsComing, PutsOn, verdict_on};
+ghost use Rattle.lmtp_lane.specs.LaneAccount.{HoldsDraft, IsComing, PutsOn, FormsOn, IsKnownForm, verdict_on};
+ghost use Rattle.lmtp_lane.specs.LaneAccount.{says_malformed};
 
 use lmtp_wire::{Dot, Fed};
+use mail_form::MessageForm;
 use mail_head::{MessageId, message_id_of};
 use mail_world::Verdict;
 use mail_world::limits::{DATA_BUFFER_SIZE, NUMBER_LIMIT};
@@ -40,8 +42,9 @@ impl<N: DepotName> Model for CountedDraft<N> {
     ghost invariant = { λ d. HasCounted d.counter d.draft.bytes };
 }
 
-/// The draft of a message, what waits to be put into it, how long the message is so far, and its Message-ID. There is
-/// no draft once room was lacking or the message was too large; the bytes go through the room then, and into nothing.
+/// The draft of a message, what waits to be put into it, how long the message is so far, its Message-ID, and what is
+/// known of its form. There is no draft once room was lacking or the message was too large; the bytes go through the
+/// room then, and into nothing.
 #[derive(Drop)]
 pub struct Incoming<N: DepotName> {
     pub draft: Option<CountedDraft<N>>,
@@ -51,6 +54,8 @@ pub struct Incoming<N: DepotName> {
     pub size: usize,
     /// The Message-ID, once the first room was handed on.
     pub message_id: Option<MessageId>,
+    /// The form of what was handed on, where malformed messages are refused.
+    pub form: Option<MessageForm>,
     ghost few: { held < DATA_BUFFER_SIZE },
 }
 
@@ -63,17 +68,19 @@ impl<N: DepotName> Incoming<N> {
             held: 0,
             size: 0,
             message_id: None,
+            form: None,
         }
     }
 
-    /// Begins a message.
-    pub fn begin<R: Wait>(&mut self, rt: &R, depot: &Depot<N>)
-        ensures { IsComing self.new.draft (take self.new.held self.new.room) self.new.size
-            (option_map text_of self.new.message_id) [] }
+    /// Begins a message, which is looked at as it comes where malformed ones are refused.
+    pub fn begin<R: Wait>(&mut self, rt: &R, depot: &Depot<N>, refuses: bool)
+        ensures { IsComing refuses self.new.draft (take self.new.held self.new.room) self.new.size
+            (option_map text_of self.new.message_id) self.new.form [] }
     {
         self.cancel(rt, depot);
         self.held = 0;
         self.size = 0;
+        self.form = form_at_start(refuses);
         self.draft = begin(rt, depot);
     }
 
@@ -88,11 +95,11 @@ impl<N: DepotName> Incoming<N> {
     ) -> Fed
         requires { 0 < length bytes.now }
         ensures used { (0 < result.used) × (result.used ≤ length bytes.now) }
-        ensures takes { Takes
-            (λ n ts message. IsComing self.old.draft (take self.old.held self.old.room) self.old.size
-            (option_map text_of self.old.message_id) message)
-            (λ n ts message. IsComing self.new.draft (take self.new.held self.new.room) self.new.size
-            (option_map text_of self.new.message_id) message)
+        ensures takes { (refuses : Bool) → Takes
+            (λ n ts message. IsComing refuses self.old.draft (take self.old.held self.old.room) self.old.size
+            (option_map text_of self.old.message_id) self.old.form message)
+            (λ n ts message. IsComing refuses self.new.draft (take self.new.held self.new.room) self.new.size
+            (option_map text_of self.new.message_id) self.new.form message)
             dot.old dot.new bytes.now result }
     {
         let fed = dot.feed(bytes, &mut self.room[self.held..]);
@@ -105,9 +112,9 @@ impl<N: DepotName> Incoming<N> {
     // Counts bytes that have come. There is no draft once they are more than the limit says.
     fn count<R: Wait>(&mut self, rt: &R, depot: &Depot<N>, made: usize, limit: u32)
         ensures room { self.new.room ≡ self.old.room }
-        ensures comes { (waiting text message : List ℕ) → length text ≡ made
-            → IsComing self.old.draft waiting self.old.size (option_map text_of self.old.message_id) message
-            → IsComing self.new.draft (waiting ++ text) self.new.size (option_map text_of self.new.message_id)
+        ensures comes { (refuses : Bool) (waiting text message : List ℕ) → length text ≡ made
+            → IsComing refuses self.old.draft waiting self.old.size (option_map text_of self.old.message_id) self.old.form message
+            → IsComing refuses self.new.draft (waiting ++ text) self.new.size (option_map text_of self.new.message_id) self.new.form
             (message ++ text) }
     {
         self.size = self.size.saturating_add(made);
@@ -120,17 +127,18 @@ impl<N: DepotName> Incoming<N> {
     // That many bytes wait now. Once the room is full it is put into the draft, and a byte past it waits on.
     fn hand_on<R: Wait>(&mut self, rt: &R, depot: &Depot<N>, held: usize)
         requires { held ≤ DATA_BUFFER_SIZE + 1 }
-        ensures { (message : List ℕ)
-            → IsComing self.old.draft (take held self.old.room) self.old.size
-            (option_map text_of self.old.message_id) message
-            → IsComing self.new.draft (take self.new.held self.new.room) self.new.size
-            (option_map text_of self.new.message_id) message }
+        ensures { (refuses : Bool) (message : List ℕ)
+            → IsComing refuses self.old.draft (take held self.old.room) self.old.size
+            (option_map text_of self.old.message_id) self.old.form message
+            → IsComing refuses self.new.draft (take self.new.held self.new.room) self.new.size
+            (option_map text_of self.new.message_id) self.new.form message }
     {
         if held < DATA_BUFFER_SIZE {
             self.held = held;
             return;
         }
         self.message_id = self.message_id_at(held);
+        self.form = form_with(self.form, &self.room[..DATA_BUFFER_SIZE]);
         let draft = self.draft.take();
         self.draft = put(rt, depot, draft, &self.room[..DATA_BUFFER_SIZE]);
         self.room.copy_within(DATA_BUFFER_SIZE..held, 0);
@@ -139,9 +147,9 @@ impl<N: DepotName> Incoming<N> {
 
     /// The Message-ID of the message, as far as it has come.
     pub fn message_id(&self) -> Option<MessageId>
-        ensures { (message : List ℕ)
-            → IsComing self.now.draft (take self.now.held self.now.room) self.now.size
-            (option_map text_of self.now.message_id) message
+        ensures { (refuses : Bool) (message : List ℕ)
+            → IsComing refuses self.now.draft (take self.now.held self.now.room) self.now.size
+            (option_map text_of self.now.message_id) self.now.form message
             → option_map text_of result ≡ message_id_of message }
     {
         self.message_id_at(self.held)
@@ -150,9 +158,9 @@ impl<N: DepotName> Incoming<N> {
     // The same where that many bytes wait: they are all of the message, or it was seen before.
     fn message_id_at(&self, held: usize) -> Option<MessageId>
         requires { held ≤ DATA_BUFFER_SIZE + 1 }
-        ensures { (message : List ℕ)
-            → IsComing self.now.draft (take held self.now.room) self.now.size
-            (option_map text_of self.now.message_id) message
+        ensures { (refuses : Bool) (message : List ℕ)
+            → IsComing refuses self.now.draft (take held self.now.room) self.now.size
+            (option_map text_of self.now.message_id) self.now.form message
             → option_map text_of result ≡ message_id_of message }
     {
         if self.size == held {
@@ -163,15 +171,16 @@ impl<N: DepotName> Incoming<N> {
 
     /// Puts what waits into the draft, once the data has ended.
     pub fn hand_on_rest<R: Wait>(&mut self, rt: &R, depot: &Depot<N>)
-        ensures { (message : List ℕ)
-            → IsComing self.old.draft (take self.old.held self.old.room) self.old.size
-            (option_map text_of self.old.message_id) message
-            → HoldsDraft self.new.draft self.new.size message }
+        ensures { (refuses : Bool) (message : List ℕ)
+            → IsComing refuses self.old.draft (take self.old.held self.old.room) self.old.size
+            (option_map text_of self.old.message_id) self.old.form message
+            → HoldsDraft refuses self.new.draft self.new.size self.new.form message }
     {
         let held = mem::take(&mut self.held);
         if held == 0 {
             return;
         }
+        self.form = form_with(self.form, &self.room[..held]);
         let draft = self.draft.take();
         self.draft = put(rt, depot, draft, &self.room[..held]);
     }
@@ -182,6 +191,7 @@ impl<N: DepotName> Incoming<N> {
         ensures room { self.new.room ≡ self.old.room }
         ensures size { self.new.size ≡ self.old.size }
         ensures message_id { self.new.message_id ≡ self.old.message_id }
+        ensures form { self.new.form ≡ self.old.form }
     {
         if let Some(counted) = self.draft.take() {
             depot.cancel(rt, counted.draft);
@@ -198,9 +208,9 @@ impl<N: DepotName> Incoming<N> {
         limit: u32,
     ) -> Result<CountedDraft<N>, Verdict>
         ensures whole { IfOk result (λ draft. (self.old.draft ≡ Some draft)
-            × (Whole ≡ verdict_on limit number self.old.size self.old.draft)) }
+            × (Whole ≡ verdict_on limit number self.old.size (says_malformed self.old.form) self.old.draft)) }
         ensures number { IfOk result (λ _. number ≤ NUMBER_LIMIT) }
-        ensures refused { IfErr result (λ verdict. verdict ≡ verdict_on limit number self.old.size self.old.draft) }
+        ensures refused { IfErr result (λ verdict. verdict ≡ verdict_on limit number self.old.size (says_malformed self.old.form) self.old.draft) }
         ensures other { IfErr result (λ verdict. verdict ≡ Whole → ⊥) }
     {
         if number > NUMBER_LIMIT as u64 {
@@ -211,10 +221,45 @@ impl<N: DepotName> Incoming<N> {
             self.cancel(rt, depot);
             return Err(Verdict::TooLarge);
         }
+        if says_malformed(self.form) {
+            self.cancel(rt, depot);
+            return Err(Verdict::Malformed);
+        }
         match self.draft.take() {
             Some(draft) => Ok(draft),
             None => Err(Verdict::NoRoom),
         }
+    }
+}
+
+// What is known of a message's form before it has come, where malformed ones are refused.
+fn form_at_start(refuses: bool) -> Option<MessageForm>
+    ensures { IsKnownForm refuses result [] }
+{
+    if refuses {
+        Some(MessageForm::new())
+    } else {
+        None
+    }
+}
+
+// And once these bytes have come too.
+fn form_with(form: Option<MessageForm>, bytes: &[u8]) -> Option<MessageForm>
+    ensures { FormsOn form result bytes.now }
+{
+    match form {
+        Some(form) => Some(form.with(bytes)),
+        None => None,
+    }
+}
+
+// Whether the message that has come so is refused as malformed.
+fn says_malformed(form: Option<MessageForm>) -> bool
+    ensures { result ≡ says_malformed form }
+{
+    match form {
+        Some(form) => form.is_malformed(),
+        None => false,
     }
 }
 

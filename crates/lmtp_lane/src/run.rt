@@ -122,9 +122,9 @@ fn lane_at<S: LaneStart, N: DepotName, V: Visits, C: Clock, O: Observer, R: Wait
     } = bounded;
     let mut visits = visits;
     let mut observer = observer;
-    let limit = dialogue.session.site().message_limit();
+    let site = dialogue.session.site();
     let mut delivery: LaneDelivery<N, C, R, S> = LaneDelivery::new(
-        rt, depot, clock, exchange, limit,
+        rt, depot, clock, exchange, site,
     );
     let conversations = serve_all(
         rt,
@@ -162,7 +162,7 @@ fn serve_all<'a, N: DepotName, V: Visits, C: Clock, O: Observer, R: Wait, S: Lan
     reads: u32,
 ) -> u64
     requires here { dialogue.old.session.site ≡ S.site }
-    requires begun { HasOffered S.site.message_limit S.May delivery.old.accepted S.ends
+    requires begun { HasOffered S.site S.May delivery.old.accepted S.ends
         (ends_of delivery.old.exchange) 0 [] }
     requires clock { AgreesWith (C.May delivery.old.clock.now) S.May }
     requires none_out { V.out visits.old ≡ false }
@@ -200,9 +200,9 @@ fn converse<'a, N: DepotName, V: Visits, C: Clock, O: Observer, R: Wait, S: Lane
     requires out { V.out visits.old ≡ true }
     ensures converses { HasConversed (terms dialogue.old.session.site reads) (V.P.state peer)
         (V.finished visits.old) (V.finished visits.new) (O.told observer.old) (O.told observer.new)
-        (λ n ts. HasOffered S.site.message_limit S.May delivery.old.accepted S.ends (ends_of delivery.old.exchange) n ts
+        (λ n ts. HasOffered S.site S.May delivery.old.accepted S.ends (ends_of delivery.old.exchange) n ts
         × AgreesWith (C.May delivery.old.clock.now) S.May)
-        (λ n ts. HasOffered S.site.message_limit S.May delivery.new.accepted S.ends (ends_of delivery.new.exchange) n ts
+        (λ n ts. HasOffered S.site S.May delivery.new.accepted S.ends (ends_of delivery.new.exchange) n ts
         × AgreesWith (C.May delivery.new.clock.now) S.May) }
     ensures others { (peer : PeerState) → V.MayGive visits.new peer → V.MayGive visits.old peer }
     ensures back { V.out visits.new ≡ false }

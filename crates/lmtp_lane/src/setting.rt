@@ -32,6 +32,7 @@ impl LaneStart for Brand {
       recipient_delimiter = None;
       utf8 = false;
       renames_marks = false;
+      refuses_malformed = false;
     } };
 
     ghost May = { λ moment. ⊤ };

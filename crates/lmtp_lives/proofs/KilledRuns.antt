@@ -190,6 +190,7 @@ module _ (outcome : Outcome) (end : TurnEnd) (lock unlock : Standing) (got : ℕ
     verdicts = (
       record {
         too_large = (λ e. cc, λ h. absurd (omega (arith, h.0)));
+        malformed = (λ e. cc, λ h. let wrong : false ≡ true = h.1 in cc);
         no_number = λ above. absurd (omega (arith, above));
       },
       tt,

@@ -400,10 +400,10 @@ module _ (site : Site) (quota : Option ℕ) (moment : ℕ) {P : Type 0} (state :
       let O : List Transaction → Type 0 = λ ts. AllByRecursion (λ t. OutcomesIn 0 lane.heard t t.disposition.verdict) ts in
       let F : List Transaction → Type 0 = λ ts. AllByRecursion (λ t. t.disposition.moment ≡ moment) ts in
       let D : List Disposition → Type 0 = λ ds. AllByRecursion (λ d. d.moment ≡ moment) ds in
-      let W : List Transaction → Type 0 = λ ts. AllByRecursion (VerdictFits site.message_limit) ts in
+      let W : List Transaction → Type 0 = λ ts. AllByRecursion (VerdictFits site) ts in
       let R : Conversation → EndCause → Type 0 = λ x e. IsWritten (replies site (inputs site x)) (e ≡ WriteFault) by.said in
       let E : EndCause → Type 0 = λ e. RehearsalEndsFor site c.bytes c.dispositions (state last).unread e in
-      let N : Conversation → Type 0 = λ x. AllByRecursion (VerdictFits site.message_limit) (transactions site 0 (x ∷ [])) in
+      let N : Conversation → Type 0 = λ x. AllByRecursion (VerdictFits site) (transactions site 0 (x ∷ [])) in
       let worked = have_worked h c are (subst O ts_are work.answered) in
       record {
         read = c.bytes;

@@ -32,8 +32,9 @@ use Rattle.lmtpd_rehearse.specs.Copies.{HoldsCopies}
 pub record IsAccountAt (site : Site) (moment : ℕ) (read : List ℕ) (account : List Disposition) : Type 0 where
   pub complete : IsAccount site (conversation read account)
   pub moments : AllByRecursion (λ d. d.moment ≡ moment) account
-  -- too large exactly where the message is above the limit and a number is left
-  pub verdicts : AllByRecursion (VerdictFits site.message_limit) (transactions site 0 (conversation read account ∷ []))
+  -- too large exactly where the message is above the limit and a number is left, and malformed exactly where it isn't,
+  -- and the site refuses it so
+  pub verdicts : AllByRecursion (VerdictFits site) (transactions site 0 (conversation read account ∷ []))
 
 -- the copies that the conversation owes a mailbox, and what was told of each
 abbrev pub copies_due : Site → List ℕ → List Disposition → ℕ → List Note

@@ -12,6 +12,7 @@ pub no_box : first_fault (codes ".mbox") (record {
   recipient_delimiter = None;
   utf8 = false;
   renames_marks = false;
+  refuses_malformed = false;
 }) ≡ Some fault.NoBox
 no_box = refl
 

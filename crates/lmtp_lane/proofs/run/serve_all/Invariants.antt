@@ -16,6 +16,6 @@ invariant-loop g l =
       others : (peer : PeerState) → g.V.Visits.MayGive l.visits peer → g.V.Visits.MayGive l.initial.visits peer;
       called : HasCalled (terms S.site l.reads) (g.V.Visits.MayGive l.initial.visits) (g.V.Visits.finished l.initial.visits) (g.V.Visits.finished l.visits)
           (g.O.Observer.told l.initial.observer) (g.O.Observer.told l.observer)
-          (λ n ts. HasOffered S.site.message_limit S.May l.delivery.accepted S.ends (ends_of l.delivery.exchange) n ts
+          (λ n ts. HasOffered S.site S.May l.delivery.accepted S.ends (ends_of l.delivery.exchange) n ts
           × AgreesWith (g.C.Clock.May l.delivery.clock.now) S.May) l.conversations;
     }

@@ -3,4 +3,4 @@ use Rattle.lmtp_lane.proofs.Accounting.{offered_start}
 use Rattle.lmtp_lane.proofs.delivery.LaneDelivery.new.Goals as goal
 
 pub returns-clause-begun : goal.returns-clause-begun
-returns-clause-begun g c = offered_start g.S.LaneStart.site.message_limit g.S.LaneStart.May g.S.LaneStart.ends (ends_of c.args.exchange) c.requires.start
+returns-clause-begun g c = offered_start g.S.LaneStart.site g.S.LaneStart.May g.S.LaneStart.ends (ends_of c.args.exchange) c.requires.start

@@ -7,7 +7,7 @@ use Rattle.lmtp_lane.proofs.Coming.{fed_so, put_after}
 use Rattle.lmtp_lane.proofs.incoming.Incoming.take.Goals as goal
 
 pub returns-clause-takes : goal.returns-clause-takes
-returns-clause-takes g c =
+returns-clause-takes g c refuses =
     let self = c.args.self.now in
     let fed = c.feed-fed.result in
     let out : List ℕ = c.feed-fed.new.out in
@@ -20,7 +20,7 @@ returns-clause-takes g c =
       text = text;
       many = many;
       feeds = λ taken made after. fed_so c.feed-fed.new.self _ _ _ _ fed fed.ended (c.feed-fed.ensures.feeds taken made after);
-      drafts = λ n ts message h. c.hand_on.ensures (message ++ text)
-          (subst (λ w. IsComing c.count.new.self.draft w c.count.new.self.size (option_map (λ t. text_of t) c.count.new.self.message_id) (message ++ text)) stands
-          (c.count.ensures.comes (take self.held self.room) text message many h));
+      drafts = λ n ts message h. c.hand_on.ensures refuses (message ++ text)
+          (subst (λ w. IsComing refuses c.count.new.self.draft w c.count.new.self.size (option_map (λ t. text_of t) c.count.new.self.message_id) c.count.new.self.form (message ++ text)) stands
+          (c.count.ensures.comes refuses (take self.held self.room) text message many h));
     }

@@ -1,0 +1,4 @@
+pub mod Steps
+pub mod Laws
+pub mod Sound
+pub mod Blocks
