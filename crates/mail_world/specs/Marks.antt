@@ -37,10 +37,15 @@ mark_names =
 abbrev pub was : List ℕ
 was = codes "X-Was-"
 
--- the field begins with that name, whatever the case of its letters, and then a colon, a space or a tab
+-- what programs end a name by: a colon, white space within a line (VT and FF too, which C's isspace takes), or a NUL,
+-- which ends a text in C
+abbrev pub ends_name : ℕ → Bool
+ends_name b = has_byte (codes ": \t\0\u{b}\u{c}") b
+
+-- the field begins with that name, whatever the case of its letters, and then a byte that ends one
 abbrev pub has_name : List ℕ → List ℕ → Bool
 has_name name [] = false
-has_name [] (b ∷ field) = has_byte (codes ": \t") b
+has_name [] (b ∷ field) = ends_name b
 has_name (c ∷ name) (b ∷ field) = (to_ascii_lowercase c == to_ascii_lowercase b) && has_name name field
 
 abbrev pub is_named : List ℕ → Bool

@@ -1,6 +1,6 @@
 -- Where a field ends within a piece.
 use Rattle.std.proofs.Common.{◌≡◌, ℕ, zero, suc, ◌+◌, ◌<◌, ◌≤◌, arith, Bool, true, false, cond, ◌==◌, List, [], ◌∷◌, ◌++◌, length, take, drop, sym, ap, ◌∙◌, refl, append_assoc}
-use Rattle.std.proofs.Common.{subst, ◌-◌, ◌*◌, true≢false}
+use Rattle.std.proofs.Common.{◌-◌, ◌*◌}
 use Rattle.std.specs.Prelude.{slice_index}
 use Rattle.std.proofs.lemmas.Bool.{false_from_ne_true}
 use Rattle.std.proofs.lemmas.List.{take_more, take-append-drop, length-drop, drop-drop}
@@ -10,7 +10,7 @@ use Rattle.mail_world.specs.Text.{lf}
 use Rattle.mail_world.specs.Marks.{ends_field}
 use Rattle.mbox_marks.specs.declared.marking.Place.TheVariants.{Line, Field, Inside, Body}
 use Rattle.mbox_marks.specs.Marking.{Place, renamed_from, marks_owed, is_unended}
-use Rattle.mbox_marks.specs.Marked.{GoesOn, BeginsMark, MayBeHeld, FindsMark, place_weight}
+use Rattle.mbox_marks.specs.Marked.{GoesOn, place_weight}
 use Rattle.mbox_marks.proofs.Renamed.{unended_run, place_rest, field_ends}
 
 unended_before : (s : List ℕ) (k : ℕ) → ((j : ℕ) → j < k → ¬ (ends_field (slice_index s j) ≡ true)) → is_unended (take k s) ≡ true

@@ -1,20 +1,18 @@
 -- What the first bytes of a field say of it.
-use Rattle.std.proofs.Common.{◌≡◌, ℕ, zero, suc, ◌+◌, ◌≤◌, ◌<◌, List, [], ◌∷◌, ◌++◌, length, take, drop, Bool, true, false, not, ◌||◌, ◌==◌}
-use Rattle.std.proofs.Common.{refl, sym, ap, ◌∙◌, subst, inl, inr, arith, append-nil, ap₂, get_or, Option, Some, None}
-use Rattle.std.proofs.lemmas.Bool.{cases_Bool, eqb-true, eqb-false, ne_eqb, eq-eqb, or_parts, or_from, or_left, or_right, and_parts, and_from, not-true, true≢false}
-use Rattle.std.proofs.lemmas.List.{length-append, take_more, drop_more}
+use Rattle.std.proofs.Common.{◌≡◌, ℕ, zero, suc, ◌≤◌, ◌<◌, List, [], ◌∷◌, ◌++◌, length, take, drop, Bool, true, false, not, ◌||◌, ◌==◌}
+use Rattle.std.proofs.Common.{refl, sym, ap, ◌∙◌, subst, inl, inr, arith, append-nil, get_or, Option, Some, None}
+use Rattle.std.proofs.lemmas.Bool.{cases_Bool, eqb-true, eqb-false, ne_eqb, eq-eqb, or_from, or_left, or_right, and_parts, and_from, not-true, true≢false}
 use Rattle.std.proofs.Math.Seq.{drop-length, take-length}
-use Rattle.std.specs.Prelude.{codes}
 use Rattle.std.specs.Char.{to_ascii_lowercase}
-use Rattle.mail_world.specs.Text.{cr, has_byte, begins_with}
+use Rattle.mail_world.specs.Text.{begins_with}
 use Rattle.mail_world.specs.Marks.{ends_field, was, has_name, is_named, is_mark}
 use Rattle.mail_world.proofs.Marks.{at_end}
-use Rattle.mbox_marks.specs.declared.marking.Place.TheVariants.{Line, Field, Inside, Body}
+use Rattle.mbox_marks.specs.declared.marking.Place.TheVariants.{Line, Field, Inside}
 use Rattle.mbox_marks.specs.declared.marking.Step.{Step}
 use Rattle.mbox_marks.specs.declared.marking.Step.TheVariants as steps
 use Rattle.mbox_marks.specs.Marking.{is_empty_line, renamed_from, is_unended}
 use Rattle.mbox_marks.specs.Marked.{is_plain_name, Tells, either, GoesOn, BeginsMark, MayBeHeld, IsStep}
-use Rattle.mbox_marks.proofs.Renamed.{unended_stays, after_was, line_first, head_ends}
+use Rattle.mbox_marks.proofs.Renamed.{unended_stays, after_was, line_first}
 
 -- ---- tests that may not be told yet
 

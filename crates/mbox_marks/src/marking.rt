@@ -1,10 +1,10 @@
 //! Where the next mark of a message's head stands in a piece of it.
 ghost use Rattle.std.specs.Prelude.{◌≡◌, ◌<◌, ◌≤◌, ◌++◌, ◌||◌, ◌==◌, ℕ, Bool, List, [], ◌∷◌, length, true, false};
-ghost use Rattle.std.specs.Prelude.{IfSome, IfNone, Some, if◌then◌else◌, codes};
+ghost use Rattle.std.specs.Prelude.{IfSome, IfNone, Some, if◌then◌else◌};
 ghost use Rattle.std.specs.List.{list_all};
 ghost use Rattle.std.specs.Char.{to_ascii_lowercase};
-ghost use Rattle.mail_world.specs.Marks.{has_name, is_named, was};
-ghost use Rattle.mail_world.specs.Text.{cr, lf, has_byte, begins_with};
+ghost use Rattle.mail_world.specs.Marks.{ends_name, has_name, is_named, was};
+ghost use Rattle.mail_world.specs.Text.{cr, lf, begins_with};
 ghost use Rattle.mbox_marks.specs.Marking.{is_empty_line};
 ghost use Rattle.mbox_marks.specs.Marked.{Tells, either, IsStart, IsStep, FindsMark, is_plain_name};
 ghost use Rattle.mbox_marks.specs.declared.marking.Place.TheVariants.{Line, Field, Inside};
@@ -253,7 +253,7 @@ fn has_name(name: &[u8], bytes: &[u8]) -> Option<bool>
 }
 
 fn ends_name(byte: u8) -> bool
-    ensures { result ≡ has_byte (codes ": \t") byte }
+    ensures { result ≡ ends_name byte }
 {
-    byte == b':' || byte == b' ' || byte == b'\t'
+    matches!(byte, b':' | b' ' | b'\t' | b'\0' | b'\x0b' | b'\x0c')
 }
