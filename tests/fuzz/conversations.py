@@ -69,6 +69,8 @@ LINES = [
     b"status: RO",
     b"X-Was-X-Was-X-UID 7",
     b"Content-Length : 9",
+    b"X-Status\0: D",
+    b"x-uid\v",
     b"a\rX-IMAPbase: 7 4294967295",
     b"X-Was-\rX-Keywords",
 ]

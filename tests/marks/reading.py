@@ -2,16 +2,16 @@
 
 The head of a text is what stands before its first empty line (LF ends a line), all of it where there is none. Within it
 a field begins at the start, after each LF and after each CR. A mark is a field that begins with zero or more times
-`X-Was-`, then a name of a mark in any letter case, then a colon, a space or a tab. One more `X-Was-` stands in front of
-each mark of the head."""
+`X-Was-`, then a name of a mark in any letter case, then a colon, a space, a tab, a NUL, a vertical tab or a form feed.
+One more `X-Was-` stands in front of each mark of the head."""
 
 import re
 
 WAS = b"X-Was-"
 NAMES = [b"Status", b"X-Status", b"X-UID", b"X-Keywords", b"X-IMAP", b"X-IMAPbase", b"Content-Length"]
 # only the names are read in any letter case
-MARK = re.compile(rb"(?:X-Was-)*(?i:%s)[: \t]" % b"|".join(re.escape(name) for name in NAMES))
-RENAMED = re.compile(rb"X-Was-(?=(?:X-Was-)*(?i:%s)[: \t])" % b"|".join(re.escape(name) for name in NAMES))
+MARK = re.compile(rb"(?:X-Was-)*(?i:%s)[: \t\0\v\f]" % b"|".join(re.escape(name) for name in NAMES))
+RENAMED = re.compile(rb"X-Was-(?=(?:X-Was-)*(?i:%s)[: \t\0\v\f])" % b"|".join(re.escape(name) for name in NAMES))
 
 
 def unix(message):

@@ -33,8 +33,14 @@ ROWS = [
     (b"\r\r\nStatus: a", b"\r\nX-Was-Status: a"),
     (b"a: b\n\nStatus: a", b"a: b\n\nStatus: a"),
     (b"Content-Length:", b"X-Was-Content-Length:"),
+    (b"Status\0: RO", b"X-Was-Status\0: RO"),
+    (b"status\v", b"X-Was-status\v"),
+    (b"X-UID\f1", b"X-Was-X-UID\f1"),
+    (b"Status\x01: RO", b"Status\x01: RO"),
 ]
 SENDER = b"carl@a.example"
+# what ends no name, or a name with a field after it
+OTHER_ENDS = [b"", b"\r", b"From x", b"s: 1", b": a\r\n Status: b"]
 
 
 def head(sender, number, address=None):
@@ -122,7 +128,7 @@ def part(chance):
     before = WAS * chance.choice([0, 0, 0, 1, 1, 2, 3])
     if chance.random() < 0.1:
         before = before[: chance.randrange(len(before) + 1)] or b"x-was-"
-    after = chance.choice([b":", b": RO", b" : 7", b" ", b"\t1", b"", b"\r", b"From x", b"s: 1", b": a\r\n Status: b"])
+    after = chance.choice([b":", b": RO", b" : 7", b" ", b"\t1", b"\0: RO", b"\v", b"\f1", *OTHER_ENDS])
     end = chance.choice([*8 * [b"\r\n"], b"\n", b"\r", b"\r\r\n", b"\r\n\r\n", b"\n\n", b"\r\n\r\r\n", b""])
     return chance.choice([*9 * [b""], b" ", b">", b"From "]) + before + bytes(name) + after + end
 
