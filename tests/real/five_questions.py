@@ -47,7 +47,9 @@ def commands(question):
     rows = (ROOT / "docs/operating/TROUBLE.md").read_text().split(HEADING)[1].split("\n## ")[0].splitlines()
     (row,) = [row for row in rows if row.startswith(f"| {question} |")]
     names = ("journalctl ", "grep ", "mailq", "ss ", "ls ", "cat ", "lslocks ")
-    return [text for text in re.findall(r"`([^`]*)`", row) if text.startswith(names)]
+    # a table has its bars escaped
+    texts = [text.replace(r"\|", "|") for text in re.findall(r"`([^`]*)`", row)]
+    return [text for text in texts if text.startswith(names)]
 
 
 def said(there, command):

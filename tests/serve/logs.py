@@ -156,6 +156,7 @@ NAMING = [
     ("MAIL FROM:<dora@a.example>", "verb=MAIL code=503 sender=<dora@a.example>"),
     ("RCPT TO:<nobody@mx.example>", "verb=RCPT code=550 recipient=<nobody@mx.example>"),
     ('RCPT TO:<"x mailbox=anna"@[192.0.2.1]>', 'verb=RCPT code=550 recipient=<"x%20mailbox=anna"@[192.0.2.1]>'),
+    ("RCPT TO:<x%20y=z@mx.example>", "verb=RCPT code=550 recipient=<x%2520y=z@mx.example>"),
     ("RCPT TO:<nobody@mx.example", "verb=RCPT code=501"),
     ("RCPT TO:<anna@mx.example> SIZE=1", "verb=RCPT code=555"),
     ("VRFY anna@mx.example", None),
@@ -239,6 +240,7 @@ HEADS = [
     (["Message-ID: <1@a.example>", "Message-ID: <2@a.example>"], " message-id=<1@a.example>"),
     (["Message-ID: <1@a.example> code=250 mailbox=ben"], " message-id=<1@a.example>%20code=250%20mailbox=ben"),
     (["Message-ID: \x1b[2K<ü@a.example>"], " message-id=%1B[2K<%C3%BC@a.example>"),
+    (["Message-ID: <100%20%@a=b.example>"], " message-id=<100%2520%25@a=b.example>"),
     (["Message-ID: " + "x" * 300], " message-id=" + "x" * 250),
     (["Message-ID: " + "ü" * 150], " message-id=" + "%C3%BC" * 125),
     (["Message-ID:"], " message-id="),
@@ -264,6 +266,18 @@ def message_ids_are_logged(folder):
         ended = server.end()
     logged = [line.split(" client=relay.example")[1] for line in ended.errors[:-1]]
     equal(logged, [ends for _, ends in HEADS])
+
+
+@case
+def names_of_clients_are_logged(folder):
+    """a copy's line has the name that the client gave itself, with an escape for a percent sign"""
+    with Server(folder, ["anna"], 1, "--lanes", 1, "--log", "info") as server:
+        with Client(server.address).greet() as client:
+            equal(client.ask("LHLO [x:%20=]")[:3], "250")
+            equal(client.deliver(["anna"], "Subject: a", "")[1], [stored("anna")])
+            client.quit()
+        logged = server.end().errors[0]
+    equal(logged.split(" client=")[1], "[x:%2520=]")
 
 
 @case

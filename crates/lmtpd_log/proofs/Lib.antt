@@ -1,4 +1,5 @@
 mod LineRows
 mod Owing
+mod Shown
 mod TurnRows
 mod Turns

@@ -1,9 +1,13 @@
--- How a line of the log shows an address and a message's id.
-use Rattle.std.specs.Prelude.{ℕ, List, ◌++◌, codes}
+-- How a line of the log shows an address, a message's id and the name that a client gave itself.
+use Rattle.std.specs.Prelude.{ℕ, ◌<◌, List, ◌++◌, codes}
 use Rattle.percent_encoding.specs.Percent.{percent_encode}
 use Rattle.lmtpd_log.specs.declared.naming.TheConstants.{ESCAPED}
 
--- as one word: with an escape for each byte that isn't printable, and for a space
+-- printable, and no space
+abbrev pub IsOfWord : ℕ → Type 0
+IsOfWord b = (32 < b) × (b < 127)
+
+-- as one word: with an escape for each byte that isn't printable, for a space, and for a percent sign
 abbrev pub escaped : List ℕ → List ℕ
 escaped text = percent_encode ESCAPED text
 

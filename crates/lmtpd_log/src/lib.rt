@@ -11,6 +11,7 @@ mod condition;
 mod history;
 mod keeping;
 mod lane_log;
+pub mod laws;
 mod letter;
 mod line_log;
 mod line_setting;

@@ -1,4 +1,4 @@
-//! The address that a command line names, and how a line of the log shows it and a message's id.
+//! The address that a command line names, and how a line of the log shows it and other texts that a client chose.
 
 ghost use Rattle.std.specs.Prelude.{◌≡◌, take, option_map};
 ghost use Rattle.mail_world.specs.Grammar.{local_text, mailbox_text};
@@ -19,8 +19,9 @@ use std::fmt::{Display, Formatter};
 /// The address of a sender or a recipient.
 pub(crate) type Address = Text<PATH_LIMIT>;
 
-/// What has an escape in an address and in an id, beside what isn't ASCII: with the space it is one word.
-pub const ESCAPED: AsciiSet = ascii_set!(CONTROLS.add(b' '));
+/// What has an escape in an address, an id and a client's name, beside what isn't ASCII: with the space it is one word,
+/// and with the percent sign the word says which text it was.
+pub const ESCAPED: AsciiSet = ascii_set!(CONTROLS.add(b' ').add(b'%'));
 
 /// The address that a command line names, where it is one of MAIL or RCPT that can be read. A size that MAIL says is
 /// not looked at. `utf8`: the address may be in UTF-8.
@@ -80,7 +81,7 @@ fn local_address(local: &[u8], quoted: bool) -> Address
     }
 }
 
-/// A message's id as a line shows it.
+/// A message's id or a client's name as a line shows it.
 #[derive(Clone, Copy, Drop)]
 pub(crate) struct Escaped<'a>(pub &'a [u8]);
 

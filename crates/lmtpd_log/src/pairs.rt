@@ -89,7 +89,7 @@ impl Source for CopyLine {
         self.visit_outcome(visitor)?;
         visitor.visit_pair("bytes", self.bytes.to_value())?;
         visitor.visit_pair("seconds", Value::Display(&self.seconds))?;
-        visitor.visit_pair("client", shown(&self.client).to_value())?;
+        visitor.visit_pair("client", Value::Display(&Escaped(self.client.text())))?;
         self.visit_id(visitor)?;
         self.envelope.visit(visitor)
     }
