@@ -3,6 +3,7 @@
 import os
 import pathlib
 import resource
+import socket
 import subprocess
 import sys
 import tempfile
@@ -15,6 +16,7 @@ from cases import compare, none_failed
 
 LMTPD = os.path.abspath(os.environ["LMTPD"])
 SECONDS = 60  # that a run may take
+FEW_SECONDS = 10  # that one may take which waits for nothing
 ROOM = tempfile.TemporaryDirectory()  # for a file of mailboxes
 
 
@@ -98,10 +100,22 @@ def check_on_full(row):
         return check(row, full)
 
 
-def check_folder():
-    """A folder in place of a file."""
-    ended = subprocess.run([LMTPD, "check", "/"], capture_output=True, timeout=SECONDS)
-    return ended.returncode, ended.stdout, ended.stderr
+def check_others():
+    """What is no plain file, each alone: it isn't opened, so that none is waited for; then all before a mailbox."""
+    with tempfile.TemporaryDirectory() as folder:
+        place = pathlib.Path(folder)
+        place.joinpath("mailbox").write_bytes(b"From a\n\n")
+        place.joinpath("second").hardlink_to(place / "mailbox")
+        place.joinpath("folder").mkdir()
+        place.joinpath("link").symlink_to("mailbox")
+        place.joinpath("dangling").symlink_to("nowhere")
+        os.mkfifo(place / "fifo")
+        with socket.socket(socket.AF_UNIX) as listener:
+            listener.bind(str(place / "socket"))
+            others = ["/", "folder", "link", "dangling", "fifo", "socket", "/dev/null", "/dev/zero", "/dev/full"]
+            for names in [*([name] for name in others), [*others, "second"]]:
+                ended = subprocess.run([LMTPD, "check", *names], cwd=folder, capture_output=True, timeout=FEW_SECONDS)
+                yield names, (ended.returncode, ended.stdout, ended.stderr)
 
 
 # Locks a file by fcntl as mail programs do, says so, and lets go once nobody writes to it or the seconds are over.
@@ -177,7 +191,9 @@ def compare_all():
         compare(f"check: {row.name}", check(row), (row.status(), row.output(), b""))
         found = check_on_full(row)
         compare(f"check: {row.name}, standard output is full", found, (1, None, b"lmtpd: device fault\n"))
-    compare("check: a folder", check_folder(), (1, b"/ cannot read\n", b""))
+    for names, found in check_others():
+        said = "".join(f"{name} {'letters 1' if name == 'second' else 'cannot read'}\n" for name in names)
+        compare(f"check: {' '.join(names)}", found, (1, said.encode(), b""))
     compare_locks()
 
 

@@ -6,6 +6,7 @@ import os
 import pathlib
 import resource
 import signal
+import socket
 import subprocess
 import threading
 import time
@@ -119,16 +120,21 @@ def what_is_there_stays(folder):
 
 @case
 def no_mailbox(folder):
-    """a mailbox that is missing, a symbolic link, a folder or a file of two names isn't copied, and none is made:
-    cannot read"""
+    """a mailbox that is missing, a symbolic link, a folder, a FIFO, a socket, a device or a file of two names isn't
+    copied, nor waited for, and none is made: cannot read"""
     file, to = made(folder), folder / "copy"
-    linked, second = folder / "linked", folder / "second"
+    linked, dangling, fifo, bound, second = [folder / it for it in ["linked", "dangling", "fifo", "socket", "second"]]
     linked.symlink_to(file)
-    for path in [folder / "missing", linked, folder, folder / "none" / "anna.mbox", ""]:
-        refused(path, to, f"cannot read {path}")
+    dangling.symlink_to("nowhere")
+    os.mkfifo(fifo)
+    with socket.socket(socket.AF_UNIX) as listener:
+        listener.bind(str(bound))
+        others = [linked, dangling, folder, fifo, bound, "/dev/null", "/dev/zero"]
+        for path in [folder / "missing", *others, folder / "none" / "anna.mbox", ""]:
+            refused(path, to, f"cannot read {path}")
     second.hardlink_to(file)
     refused(file, to, f"cannot read {file}")
-    equal(sorted(it.name for it in folder.iterdir()), ["anna.mbox", "linked", "second"])
+    equal(sorted(it.name for it in folder.iterdir()), ["anna.mbox", "dangling", "fifo", "linked", "second", "socket"])
 
 
 @case

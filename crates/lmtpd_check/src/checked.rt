@@ -12,7 +12,7 @@ pub enum Finding {
     Letters(u64),
     /// What breaks the form of a mailbox.
     Form(BadForm),
-    /// It can't be opened, or not read to its end.
+    /// It is no plain file, can't be opened, or not read to its end.
     Unread,
 }
 

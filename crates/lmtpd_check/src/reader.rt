@@ -1,4 +1,4 @@
-//! One file: it is locked as a reader locks it, and read to its end.
+//! One file: it is opened where it is a plain one, locked as a reader locks it, and read to its end.
 
 ghost use Rattle.std.specs.Prelude.{◌<◌, length};
 ghost use Rattle.lmtpd_check.specs.Checked.{IsFindingOf};
@@ -6,14 +6,19 @@ ghost use Rattle.lmtpd_check.specs.Checked.{IsFindingOf};
 use crate::checked::Finding;
 use mbox_check::{CheckFault, check_mailbox};
 use mbox_locks::{LockKind, RangeLock};
-use std::fs::{File, Files};
+use std::fs;
+use std::fs::{File, Files, Metadata, OpenFile};
 use std::io::ErrorKind;
+use std::os::unix::fs::MetadataExt;
 use std::time::{Clock, Duration};
 
 /// How often a lock is tried for again that another program has, and how long the pause before is: a second in all.
 const PAUSES: u32 = 20;
 
 const PAUSE_MS: u64 = 50;
+
+/// How often a file is opened in whose place another one was put meanwhile.
+const LOOKS: u32 = 3;
 
 /// What was found of a file, and whether it was read without its lock.
 #[derive(Clone, Copy)]
@@ -29,7 +34,7 @@ where
     requires { 0 < length buffer.old }
     ensures { IsFindingOf P.File.remaining result.finding }
 {
-    let Ok(mut file) = File::open(rt, path) else {
+    let Some(mut file) = open_plain(rt, path) else {
         return Reading {
             finding: Finding::Unread,
             is_unlocked: false,
@@ -45,6 +50,27 @@ where
         finding,
         is_unlocked: !is_locked,
     }
+}
+
+// Opens the file at this path to be read, where it is a plain one: a FIFO that nobody writes would be waited for, a
+// device may have no end, and a link leads to a file of another name. Where it isn't the one that was looked at before,
+// what has its place now is looked at.
+fn open_plain<P: Files>(rt: &P, path: &str) -> Option<P::File> {
+    for _ in 0..LOOKS {
+        let found = fs::symlink_metadata(rt, path).ok()?;
+        if !found.is_file() {
+            return None;
+        }
+        let file = File::open(rt, path).ok()?;
+        if is_same(&found, &file.metadata().ok()?) {
+            return Some(file);
+        }
+    }
+    None
+}
+
+fn is_same(found: &Metadata, opened: &Metadata) -> bool {
+    opened.is_file() && opened.dev() == found.dev() && opened.ino() == found.ino()
 }
 
 // Whether it gets the lock: beside other readers, and not while a program writes. A file that can't be locked at all is
