@@ -72,6 +72,14 @@ def flags_that_a_sender_sets(folder):
 
 
 @case
+def flags_whose_names_a_nul_ends(folder):
+    """Status and a NUL before : RO: to Dovecot the letter is new with the word, and without it read"""
+    letters = [letter("one", "Status\0: RO"), letter("two")]
+    without, renamed = mailbox_of(folder / "without", letters), mailbox_of(folder / "with", letters, RENAMED)
+    equal([b"\\Seen" in flags_by_dovecot(folder, path)[0] for path in [without, renamed]], [True, False])
+
+
+@case
 def a_length_that_hides_the_next_letter(folder):
     """Content-Length, exact by guess: Dovecot, mutt and formail find three letters with the word, and without it two"""
     letters = [letter("one", f"Content-Length: {DIGITS}"), letter("two"), letter("three")]
