@@ -78,6 +78,10 @@ def too_large(box):
     return f"552 5.3.4 Too large for {box}"
 
 
+def malformed(box):
+    return f"554 5.6.0 Malformed for {box}"
+
+
 def as_bytes(lines):
     """The lines as they come over a connection."""
     return "".join(f"{line}\r\n" for line in lines).encode()

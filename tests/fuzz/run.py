@@ -17,7 +17,7 @@ import replies
 LMTPD = os.environ["LMTPD"]
 BOXES = ["anna", "ben"]
 WORDS = [LMTPD, "rehearse", "--host", "mx.example", "--time", "0", *BOXES]
-FLAGS = ["--smtputf8", "--rename-marks"]  # each of which a case has or not
+FLAGS = ["--smtputf8", "--rename-marks", "--refuse-malformed"]  # each of which a case has or not
 SECONDS = 20  # that a case may take
 BATCH = 250  # cases whose mailboxes are read back together
 MOST_SECONDS = 400  # for all cases
@@ -31,7 +31,7 @@ REPLIES = {
         *[replies.TOO_MANY, replies.OUT_OF_ORDER, replies.LINE_TOO_LONG, replies.UNKNOWN_COMMAND, replies.USE_LHLO],
         *[replies.NOT_OFFERED, replies.BAD_ARGUMENTS, replies.BAD_SENDER, replies.BAD_RECIPIENT],
         *[replies.UNKNOWN_PARAMETER, replies.MESSAGE_TOO_LARGE, replies.BAD_CLIENT_NAME],
-        *[told(box) for box in BOXES for told in [replies.stored, replies.too_large]],
+        *[told(box) for box in BOXES for told in [replies.stored, replies.too_large, replies.malformed]],
     ]
 }
 

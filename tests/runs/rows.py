@@ -5,7 +5,7 @@ What is expected is written out here by the rules of the standards and by hand; 
 from dataclasses import dataclass, field
 
 import replies
-from replies import CLOSING, GO_AHEAD, GREETING, OFFER, RECIPIENT_OK, SENDER_OK, over_quota, stored
+from replies import CLOSING, GO_AHEAD, GREETING, OFFER, RECIPIENT_OK, SENDER_OK, malformed, over_quota, stored, too_large
 
 CRLF = b"\r\n"
 PROLOGUE = [b"LHLO relay.example", b"MAIL FROM:<carl@a.example>"]
@@ -71,6 +71,7 @@ def rows():
     yield from quotas()
     yield from moments()
     yield from smuggled()
+    yield from forms()
 
 
 def conversations():
@@ -400,6 +401,63 @@ def moments():
             {"anna": text, "ben": text},
             time=time,
         )
+
+
+def forms():
+    """Messages where malformed ones are refused: those with a NUL, a blank at their front, or a line that counts more
+    than 8,190 bytes, of which each CR that no LF follows counts as seven."""
+    marks = b"a: b\r\nno colon\r\n%s\r\n"
+    taken = {
+        "a line of 8,190 bytes": b"x" * 8_190 + CRLF,
+        "lines of 8,000 bytes that an LF parts": b"x" * 8_000 + b"\n" + b"x" * 8_000 + CRLF,
+        "500 marks behind a CR each": marks % (b"\rStatus: a" * 500),
+        "a blank at the front of a later line": b"\r\n a\r\n",
+        "no bytes": b"",
+        "many lines of 8,190 bytes": (b"y" * 8_190 + CRLF) * 100,
+    }
+    refused = {
+        "a NUL": b"Subject: a\0\r\n",
+        "a line of 8,191 bytes": b"x" * 8_191 + CRLF,
+        "a line of 8,190 bytes and a CR": b"x" * 8_190 + b"\r\r\n",
+        "700 marks behind a CR each": marks % (b"\rStatus: a" * 700),
+        "a blank at the front": b" a\r\n",
+        "a tab at the front": b"\ta\r\n",
+        "NULs alone": b"\0" * 10_000 + CRLF,
+        "a NUL behind a million bytes": (b"z" * 98 + CRLF) * 10_000 + b"\0\r\n",
+        "a line that ends 500,000 bytes later": b"z" * 500_000 + CRLF,
+    }
+    for name, text in taken.items():
+        yield form(f"{name}, where malformed messages are refused", text, stored("anna"), ["--refuse-malformed"])
+    for name, text in refused.items():
+        yield form(f"{name}, where malformed messages are refused", text, malformed("anna"), ["--refuse-malformed"])
+        yield form(f"{name}, where none are", text, stored("anna"), [])
+    large = b"\0" + b"x" * 1_048_574 + CRLF
+    yield form("a NUL in a message above the limit", large, too_large("anna"), ["--refuse-malformed"])
+    small = ["--refuse-malformed", "--blocks", "2"]
+    yield form("a NUL in a message for which there is no room", b"\0" + b"x\r\n" * 3_000, malformed("anna"), small)
+    yield Row(
+        "a message after one that is malformed",
+        [*PROLOGUE, TO_ANNA, TO_BEN, b"DATA", b"a\0", b".", PROLOGUE[1], TO_ANNA, b"DATA", *HELLO, b"QUIT"],
+        [
+            *[*OPENED, RECIPIENT_OK, RECIPIENT_OK, GO_AHEAD, malformed("anna"), malformed("ben")],
+            *[SENDER_OK, RECIPIENT_OK, GO_AHEAD, stored("anna"), CLOSING],
+        ],
+        {"anna": record(HELLO_STORED, number=2), "ben": b""},
+        ["--refuse-malformed"],
+    )
+
+
+def form(name, text, reply, words):
+    """A message for anna of just these bytes."""
+    kept = reply == stored("anna")
+    held = text.replace(CRLF, b"\n")
+    return Row(
+        name,
+        [*PROLOGUE, TO_ANNA, b"DATA", bytearray(text), b".", b"QUIT"],
+        [*OPENED, RECIPIENT_OK, GO_AHEAD, reply, CLOSING],
+        {"anna": record(held) if kept else b"", "ben": b""},
+        words,
+    )
 
 
 def smuggled():

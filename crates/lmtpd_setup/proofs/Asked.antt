@@ -7,3 +7,6 @@ same_utf8 site asked e f = let g : site.utf8 ≡ asked = e ∙ sym f in ap (λ b
 
 pub same_marks : (site : Site) (asked : Bool) → site.renames_marks ≡ false → asked ≡ false → site ≡ record site { renames_marks = asked }
 same_marks site asked e f = let g : site.renames_marks ≡ asked = e ∙ sym f in ap (λ b. record site { renames_marks = b }) g
+
+pub same_refusals : (site : Site) (asked : Bool) → site.refuses_malformed ≡ false → asked ≡ false → site ≡ record site { refuses_malformed = asked }
+same_refusals site asked e f = let g : site.refuses_malformed ≡ asked = e ∙ sym f in ap (λ b. record site { refuses_malformed = b }) g

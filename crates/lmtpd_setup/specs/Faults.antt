@@ -104,6 +104,7 @@ site_of_one host domains name =
       recipient_delimiter = None;
       utf8 = false;
       renames_marks = false;
+      refuses_malformed = false;
     }
 
 -- why the program ends where clap answers so

@@ -31,6 +31,7 @@ pub fn site_of(alloc: Global, words: &SiteWords) -> Result<Site, Fault>
     let site = site.with_message_limit(words.message_limit);
     let site = with_utf8_where_asked(site, words.smtputf8);
     let site = with_renamed_marks_where_asked(site, words.rename_marks);
+    let site = with_malformed_refused_where_asked(site, words.refuse_malformed);
     match words.recipient_delimiter {
         Some(delimiter) => Ok(site.with_recipient_delimiter(delimiter)),
         None => Ok(site),
@@ -52,6 +53,18 @@ fn with_renamed_marks_where_asked(site: Site, is_asked: bool) -> Site
 {
     if is_asked {
         site.with_renamed_marks()
+    } else {
+        site
+    }
+}
+
+#[tactic(auto, using(crate::proofs::Asked::same_refusals))]
+fn with_malformed_refused_where_asked(site: Site, is_asked: bool) -> Site
+    requires { site.refuses_malformed ≡ false }
+    ensures { result ≡ record site { refuses_malformed = is_asked } }
+{
+    if is_asked {
+        site.with_malformed_refused()
     } else {
         site
     }

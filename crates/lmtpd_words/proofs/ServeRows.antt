@@ -37,6 +37,14 @@ pub rename_marks_left_out : of_rows (one_of (codes "rename-marks")) (served (cod
 unfolding clap_on_literals
 rename_marks_left_out = refl
 
+pub refuse_malformed_given : of_rows (one_of (codes "refuse-malformed")) (served (codes "--refuse-malformed" ∷ codes "anna" ∷ [])) ≡ Some (Some (codes "true"))
+unfolding clap_on_literals
+refuse_malformed_given = refl
+
+pub refuse_malformed_left_out : of_rows (one_of (codes "refuse-malformed")) (served (codes "anna" ∷ [])) ≡ Some (Some (codes "false"))
+unfolding clap_on_literals
+refuse_malformed_left_out = refl
+
 pub smtputf8_given : of_rows (one_of (codes "smtputf8")) (served (codes "--smtputf8" ∷ codes "anna" ∷ [])) ≡ Some (Some (codes "true"))
 unfolding clap_on_literals
 smtputf8_given = refl

@@ -67,6 +67,9 @@ message_limit_rule = number_rule (codes "message-limit") LEAST_MESSAGE_LIMIT LAR
 abbrev pub rename_marks_rule : Rule
 rename_marks_rule = flag_rule (codes "rename-marks")
 
+abbrev pub refuse_malformed_rule : Rule
+refuse_malformed_rule = flag_rule (codes "refuse-malformed")
+
 abbrev pub smtputf8_rule : Rule
 smtputf8_rule = flag_rule (codes "smtputf8")
 
@@ -136,8 +139,9 @@ check_words_rule = flag_rule (codes "check-words")
 abbrev pub rehearse_app : App
 rehearse_app =
     with_rule (with_rule (with_rule (with_rule (with_rule (with_rule (with_rule (with_rule (with_rule (with_rule (with_rule
-    (new_app (codes "rehearse")) host_rule) time_rule) domains_rule) recipient_delimiter_rule) message_limit_rule)
-    rename_marks_rule) smtputf8_rule) blocks_rule) quota_rule) boxes_rule) box_rule
+    (with_rule (new_app (codes "rehearse")) host_rule) time_rule) domains_rule) recipient_delimiter_rule)
+    message_limit_rule) rename_marks_rule) refuse_malformed_rule) smtputf8_rule) blocks_rule) quota_rule) boxes_rule)
+    box_rule
 
 -- what must be given, then what may be, then what ends the server
 abbrev pub required_app : App
@@ -146,8 +150,8 @@ required_app = with_rule (with_rule (with_rule (new_app (codes "serve")) host_ru
 abbrev pub limited_app : App
 limited_app =
     with_rule (with_rule (with_rule (with_rule (with_rule (with_rule (with_rule (with_rule (with_rule (with_rule (with_rule
-    required_app domains_rule) recipient_delimiter_rule) message_limit_rule) rename_marks_rule) smtputf8_rule) lanes_rule)
-    blocks_rule) capacity_rule) reads_rule) timeout_rule) session_time_rule
+    (with_rule required_app domains_rule) recipient_delimiter_rule) message_limit_rule) rename_marks_rule)
+    refuse_malformed_rule) smtputf8_rule) lanes_rule) blocks_rule) capacity_rule) reads_rule) timeout_rule) session_time_rule
 
 abbrev pub kept_app : App
 kept_app =

@@ -167,6 +167,7 @@ pub record IsSiteRead (rows : List Row) (words : SiteWords) : Type 0 where
   pub message_limit : IsMessageLimitOr (one_of (codes "message-limit") rows) words.message_limit
   pub recipient_delimiter : IsDelimiterIfGiven (first_of (codes "recipient-delimiter") rows) words.recipient_delimiter
   pub rename_marks : IsFlag (one_of (codes "rename-marks") rows) words.rename_marks
+  pub refuse_malformed : IsFlag (one_of (codes "refuse-malformed") rows) words.refuse_malformed
   pub smtputf8 : IsFlag (one_of (codes "smtputf8") rows) words.smtputf8
   -- a rehearsal has no such argument, and so the usual one
   pub mailbox_suffix : IsSuffixOr (first_of (codes "mailbox-suffix") rows) words.mailbox_suffix.now
@@ -269,6 +270,7 @@ pub record HasListed (text : Text) (words filled : SiteWords) : Type 0 where
   pub message_limit : filled.message_limit ≡ words.message_limit
   pub recipient_delimiter : filled.recipient_delimiter ≡ words.recipient_delimiter
   pub rename_marks : filled.rename_marks ≡ words.rename_marks
+  pub refuse_malformed : filled.refuse_malformed ≡ words.refuse_malformed
   pub smtputf8 : filled.smtputf8 ≡ words.smtputf8
   pub mailbox_suffix : filled.mailbox_suffix ≡ words.mailbox_suffix
 
@@ -280,4 +282,5 @@ named_site words =
       recipient_delimiter = words.recipient_delimiter;
       utf8 = words.smtputf8;
       renames_marks = words.rename_marks;
+      refuses_malformed = words.refuse_malformed;
     }

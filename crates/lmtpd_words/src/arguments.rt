@@ -61,13 +61,14 @@ impl Argument {
 }
 
 /// What a rehearsal takes.
-pub const REHEARSE: [Argument; 11] = [
+pub const REHEARSE: [Argument; 12] = [
     HOST,
     TIME,
     DOMAINS,
     RECIPIENT_DELIMITER,
     MESSAGE_LIMIT,
     RENAME_MARKS,
+    REFUSE_MALFORMED,
     SMTPUTF8,
     BLOCKS,
     QUOTA,
@@ -76,7 +77,7 @@ pub const REHEARSE: [Argument; 11] = [
 ];
 
 /// What a server takes: what must be given, what may be, what ends it, and the mailboxes.
-pub const SERVE: [Argument; 27] = [
+pub const SERVE: [Argument; 28] = [
     HOST,
     LISTEN,
     DIR,
@@ -84,6 +85,7 @@ pub const SERVE: [Argument; 27] = [
     RECIPIENT_DELIMITER,
     MESSAGE_LIMIT,
     RENAME_MARKS,
+    REFUSE_MALFORMED,
     SMTPUTF8,
     LANES,
     BLOCKS,
@@ -180,6 +182,14 @@ const RENAME_MARKS: Argument = Argument {
     name: "rename-marks",
     value: "",
     help: "Renames the fields of a message's head that readers of mailboxes take for their own, as Status, to X-Was-Status",
+    is_required: false,
+    kind: ValueKind::Flag,
+};
+
+const REFUSE_MALFORMED: Argument = Argument {
+    name: "refuse-malformed",
+    value: "",
+    help: "Refuses messages with a NUL, a blank at their front, or a line above 8190 bytes (a CR that no LF follows is 7)",
     is_required: false,
     kind: ValueKind::Flag,
 };

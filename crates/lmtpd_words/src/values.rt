@@ -214,6 +214,7 @@ fn site_words<'a>(
         message_limit,
         recipient_delimiter,
         rename_marks: is_given(matches, "rename-marks"),
+        refuse_malformed: is_given(matches, "refuse-malformed"),
         smtputf8: is_given(matches, "smtputf8"),
         mailbox_suffix,
     }))

@@ -67,6 +67,8 @@ pub struct SiteWords<'a> {
     ghost parted: { option_map_or is_delimiter recipient_delimiter true ≡ true },
     /// Records have the marks in a message's head renamed.
     pub rename_marks: bool,
+    /// Malformed messages are refused.
+    pub refuse_malformed: bool,
     /// Addresses may be in UTF-8 (RFC 6531).
     pub smtputf8: bool,
     /// What a mailbox's file has after its name; a rehearsal has no files, and the usual suffix.

@@ -17,6 +17,7 @@ returns c =
       message_limit = c.in-Some-message_limit_of.ensures;
       recipient_delimiter = c.in-Some-delimiter_of.ensures;
       rename_marks = c.is_given.ensures;
-      smtputf8 = c.is_given-2.ensures;
+      refuse_malformed = c.is_given-2.ensures;
+      smtputf8 = c.is_given-3.ensures;
       mailbox_suffix = c.in-Some-suffix_of.ensures;
     }
