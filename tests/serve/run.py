@@ -12,10 +12,17 @@ import deliveries  # noqa: F401
 import ends  # noqa: F401
 import failing  # noqa: F401
 import files  # noqa: F401
+import floods  # noqa: F401
 import largest  # noqa: F401
+import leases  # noqa: F401
 import limits  # noqa: F401
+import lock_texts  # noqa: F401
+import lockers  # noqa: F401
 import logs  # noqa: F401
+import no_descriptors  # noqa: F401
 import pipelining  # noqa: F401
+import pipes  # noqa: F401
+import races  # noqa: F401
 import readers  # noqa: F401
 import reasons  # noqa: F401
 import refusals  # noqa: F401

@@ -1,0 +1,94 @@
+"""A user holds a lease on a file of his own: whoever opens it waits, up to `fs.lease-break-time` (45 seconds)."""
+
+import fcntl
+import os
+import signal
+import time
+
+from cases import case, equal
+from clients import Client
+from neighbours import ANNA, Senders, Site, done_by, need_undisturbed, seconds_of_letters
+from restarts import SECONDS_TO_END, asked_to_stop, ended_in_time
+
+WITHIN = 5  # seconds, in which a server listens beside leases
+NAMES = ["anna.mbox", "anna.mbox.lock", "anna.mbox.source.lock"]
+
+
+def hold_leases(*paths):
+    """Keeps a lease on each of these files, takes one again that was broken, and touches the file, so that it is never
+    old."""
+    signal.signal(signal.SIGIO, signal.SIG_IGN)
+    held = [os.open(path, os.O_RDONLY) for path in paths]
+    for one in held:
+        fcntl.fcntl(one, fcntl.F_SETLEASE, fcntl.F_WRLCK)
+    yield
+    while True:
+        for one in held:
+            try:
+                if fcntl.fcntl(one, fcntl.F_GETLEASE) == fcntl.F_UNLCK:
+                    fcntl.fcntl(one, fcntl.F_SETLEASE, fcntl.F_WRLCK)
+            except BlockingIOError:
+                pass  # somebody has the file open
+            os.utime(one)
+        time.sleep(0.0005)
+
+
+def hold_a_lease_on_another(folder):
+    """Puts another file in the place of anna's mailbox, with a lease on it."""
+    os.umask(0)
+    other, path = folder / "other", folder / "anna.mbox"
+    os.close(os.open(other, os.O_CREAT | os.O_WRONLY, 0o660))
+    for _ in hold_leases(other):
+        other.rename(path)
+        yield
+
+
+@case
+def lease_on_a_lock_file(folder):
+    """a user holds a lease on his lock file, and four clients send him letters: another user's letters go on, 0.1 s in
+    the middle and 1 s at most, once a letter of his was put off"""
+    site = Site(folder)
+    with site.serve() as server:
+        lock = site.put("anna.mbox.lock", ANNA, b"1", 0o666)
+        with done_by(ANNA, hold_leases, lock), Senders(server.address, ["anna"]) as senders:
+            senders.wait_until_put_off()
+            need_undisturbed(seconds_of_letters(server.address, "ben"))
+
+
+@case
+def lease_on_a_mailbox(folder):
+    """a user puts a file with a lease in the place of his mailbox, and four clients send him letters: another user's
+    letters go on, 0.1 s in the middle and 1 s at most, once a letter of his was put off"""
+    site = Site(folder)
+    with site.serve("--lanes", 4) as server:
+        with done_by(ANNA, hold_a_lease_on_another, site.mail), Senders(server.address, ["anna"]) as senders:
+            senders.wait_until_put_off()
+            need_undisturbed(seconds_of_letters(server.address, "ben"))
+
+
+@case
+def leases_at_the_start(folder):
+    """a user holds leases on his mailbox, its lock file and what that is linked from: the server listens within five
+    seconds, and another user's letter is stored"""
+    site = Site(folder)
+    for name in NAMES:
+        site.put(name, ANNA, b"1", 0o666)
+    began = time.monotonic()
+    with done_by(ANNA, hold_leases, *(site.mail / name for name in NAMES)), site.serve() as server:
+        took = time.monotonic() - began
+        assert server.first.startswith("listening on ") and took < WITHIN, f"it listened after {took:.1f} s"
+        need_undisturbed(seconds_of_letters(server.address, "ben", 1))
+
+
+@case
+def stop_beside_a_lease(folder):
+    """a user holds a lease on his lock file while a letter for him waits: an orderly stop ends the server in eight
+    seconds"""
+    site = Site(folder)
+    with site.serve("--stop-file", folder / "stop") as server:
+        lock = site.put("anna.mbox.lock", ANNA, b"1", 0o666)
+        with done_by(ANNA, hold_leases, lock), Client(server.address).greet() as client:
+            client.start_message("anna", "hello")
+            client.send(".")
+            time.sleep(1)
+            equal(ended_in_time(server, asked_to_stop(folder), SECONDS_TO_END + 1).status, 0)
