@@ -57,6 +57,16 @@ def opensmtpd(folder):
 
 
 def opensmtpd_sends(folder, files, server, where):
+    recipients = ["anna@mx.example", "nobody@mx.example"]
+    with sending(folder, files, where, recipients, message("one")) as log:
+        equal(" result=Ok " in tried(log, "anna"), True)
+        equal(NO_SUCH_BOX in tried(log, "nobody"), True)
+        equal_mailbox(server.mailbox("anna"), ["one"])
+
+
+@contextlib.contextmanager
+def sending(folder, files, where, recipients, text):
+    """It runs, and was sent a letter; the file of its log."""
     port = free_port()
     conf = folder / "smtpd.conf"
     conf.write_text(CONFIGURATION.format(port=port, text=where))
@@ -64,28 +74,26 @@ def opensmtpd_sends(folder, files, server, where):
     with log.open("wb") as file:
         smtpd = subprocess.Popen([files / "usr/sbin/smtpd", "-d", "-f", conf], stdout=file, stderr=file)
     try:
-        send(port, log)
-        equal(" result=Ok " in tried(log, "anna"), True)
-        equal(NO_SUCH_BOX in tried(log, "nobody"), True)
-        equal_mailbox(server.mailbox("anna"), ["one"])
+        send(port, log, recipients, text)
+        yield log
     finally:
         smtpd.terminate()
         smtpd.wait(timeout=20)
 
 
-def send(port, log):
+def send(port, log, recipients, text):
     until = time.monotonic() + 20
     while True:
         try:
             with smtplib.SMTP("127.0.0.1", port, local_hostname="client.example", timeout=20) as client:
-                client.sendmail("carl@a.example", ["anna@mx.example", "nobody@mx.example"], message("one"))
+                client.sendmail("carl@a.example", recipients, text)
             return
         except ConnectionRefusedError:
-            text = log.read_text()
-            if "error while loading shared libraries" in text:
-                raise Absent(text.strip()) from None
+            said = log.read_text()
+            if "error while loading shared libraries" in said:
+                raise Absent(said.strip()) from None
             if time.monotonic() > until:
-                raise RuntimeError(text[-800:]) from None
+                raise RuntimeError(said[-800:]) from None
             time.sleep(0.1)
 
 

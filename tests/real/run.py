@@ -14,6 +14,7 @@ import killed_server_lock  # noqa: F401
 import killed_under_load  # noqa: F401
 import log_keeps_lines  # noqa: F401
 import mailbox_of_user  # noqa: F401
+import malformed  # noqa: F401
 import many_clients_one_mailbox  # noqa: F401
 import many_mailboxes  # noqa: F401
 import marks_of_senders  # noqa: F401

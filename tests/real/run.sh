@@ -9,13 +9,14 @@
 # deliveries draw the server's memory there; RESTARTS is how many restarts a server has beside clients, 100 without it,
 # and POSTFIX_RESTARTS how many beside Postfix with letters of each size, 30 without it; READERS_SECONDS how long
 # readers delete, 60 without it; LETTERS_UNDER_THE_UNIT how many letters come beside a Dovecot that takes the lock file,
-# 3,000 without it.
+# 3,000 without it. With DAMAGE=yes the cases of malformed letters run the server without --refuse-malformed, and each
+# needs the harm to be done that the word is for.
 #
 # A case of what a service does runs the unit of `make deb` as it is installed, in a machine of its own whose first
 # process is systemd (in_a_machine.py, service.py; debian.py; with `make install` those that type SETUP's ten lines). By
 # hand, as `lmtpd serve`, these run it:
 # - those that look at what other programs make of a mailbox or a reply, whoever started the server: readers_agree,
-#   other_mailboxes, postfix_delivers, exim_delivers, opensmtpd_delivers, odd_clients;
+#   other_mailboxes, postfix_delivers, exim_delivers, opensmtpd_delivers, odd_clients, marks_of_senders, malformed;
 # - those that look at the process or at its disk from outside, while it runs: soak (its memory, by the second),
 #   power_cut (copies of its disk), read_only (a mailbox on a file system of its own, which goes read-only),
 #   torn_writes_read (a library that ends it within a write);
