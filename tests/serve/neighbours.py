@@ -22,18 +22,20 @@ MIDDLE, SLOWEST = 0.1, 1.0
 
 
 class Site:
-    """A folder of mode 3777 with the mailboxes of anna and ben, each its user's, and the servers there."""
+    """A folder, of mode 3777 where nothing else is said, with the mailboxes of anna and ben, each its user's, and the
+    servers there."""
 
-    def __init__(self, folder):
+    def __init__(self, folder, owner=OF_SERVER, group=MAIL, mode=0o3777):
         if os.geteuid() != 0:
             raise Absent("it needs root")
+        self.group = group
         self.program = folder / "lmtpd"
         shutil.copy(os.environ["LMTPD"], self.program)
         self.mail = folder / "mail"
         self.mail.mkdir()
         folder.chmod(0o755)
-        os.chown(self.mail, OF_SERVER, MAIL)
-        self.mail.chmod(0o3777)
+        os.chown(self.mail, owner, group)
+        self.mail.chmod(mode)
         for name, user in [("anna", ANNA), ("ben", BEN)]:
             self.put(f"{name}.mbox", user, b"", 0o660)
 
@@ -41,12 +43,12 @@ class Site:
         """A file of that user's."""
         path = self.mail / name
         path.write_bytes(text)
-        os.chown(path, user, MAIL)
+        os.chown(path, user, self.group)
         path.chmod(mode)
         return path
 
     def serve(self, *more, **how):
-        how |= {"user": OF_SERVER, "group": OF_SERVER, "extra_groups": [MAIL], "umask": 0o077}
+        how |= {"user": OF_SERVER, "group": OF_SERVER, "extra_groups": [self.group], "umask": 0o077}
         words = ["--start-anyway", "--mailbox-mode", "0660", *more]
         return Server(self.mail, ["anna", "ben", "carl"], MANY, *words, executable=self.program, **how)
 

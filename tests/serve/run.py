@@ -19,6 +19,7 @@ import limits  # noqa: F401
 import lock_texts  # noqa: F401
 import lockers  # noqa: F401
 import logs  # noqa: F401
+import neighbour_files  # noqa: F401
 import no_descriptors  # noqa: F401
 import pipelining  # noqa: F401
 import pipes  # noqa: F401
