@@ -2,7 +2,8 @@
 # The manual page, what bash completes and what `--help` says name the same words; the page's numbers are those of the
 # help; `make install` puts each file in its place, with a unit that names what begins the program, which hands each
 # word of the service on as it stands. The installed pages lead to pages and headings that are there. Where root runs it
-# and `systemd-tmpfiles` is there, the folder of the mailboxes is made, and one that is there stays as it is. Where
+# and `systemd-tmpfiles` is there, the folder of the mailboxes is made, and one that is there stays as it is. What looks
+# at leases before the service begins says its line where they are on and others may write the folder. Where
 # `systemd-analyze` and `groff` are there, they must find nothing wrong with unit and page. Where Debian's dpkg-dev is,
 # the package of `make deb` has what was installed, is the same each time, and needs the packages of the program's
 # libraries; lintian, where it is, finds no error but one (tests/packaging/deb.py); without dpkg-dev the rest is looked

@@ -85,6 +85,8 @@ def check_install(folder):
         "Documentation=man:lmtpd(8) file:/usr/share/doc/lmtpd/OPERATING.md",
         "ExecStart=/usr/lib/lmtpd/start --rename-marks",
         "ExecReload=/usr/lib/lmtpd/start --check-words --rename-marks",
+        "ExecStartPre=+/usr/lib/lmtpd/leases",
+        "TimeoutStopSec=20",
         "LogRateLimitIntervalSec=1s",
         "LogRateLimitBurst=1000000",
         "SyslogFacility=mail",
@@ -141,6 +143,7 @@ def check_instances(unit, units):
         "After=network.target lmtpd@%i.socket",
         "RuntimeDirectory=lmtpd-%i",
         "ExecStartPre=/bin/rm -f /run/lmtpd-%i/stop",
+        "ExecStartPre=+/usr/lib/lmtpd/leases",
         "EnvironmentFile=/etc/lmtpd.conf",
         "Also=lmtpd@%i.socket",
     ]:
@@ -200,6 +203,34 @@ def check_start(folder):
             found = said.splitlines()
             assert (status, [word for word in found if word in ALWAYS]) == (0, ALWAYS), (given, found)
             assert [word for word in found if word not in ALWAYS] == ["serve", *more, *expected], (given, found)
+
+
+# Modes of the folder, and whether its group or others may write there.
+OPEN = {0o700: False, 0o750: False, 0o755: False, 0o1755: False, 0o720: True, 0o702: True, 0o2775: True, 0o3777: True}
+
+
+def check_leases(folder):
+    """What looks at leases before the service begins says a line where they are on and the folder may be written by
+    others than its owner, by a link too, and none else; it never fails."""
+    folder.mkdir()
+    mail, setting, link = folder / "my mail", folder / "leases-enable", folder / "link"
+    mail.mkdir()
+    link.symlink_to(mail)
+
+    def said_of(place):
+        words = ["sh", str(folder.parent / "all/usr/lib/lmtpd/leases"), str(setting)]
+        return said_by(*words, env={"PATH": os.environ["PATH"], "FOLDER": str(place)})
+
+    for mode, is_open in OPEN.items():
+        mail.chmod(mode)
+        for enabled in ["0\n", "1\n", ""]:
+            setting.unlink(missing_ok=True)
+            if enabled:
+                setting.write_text(enabled)
+            for place in [mail, link, folder / "none"]:
+                line = f"<3>leases are on and others may write the folder folder={place} mode={mode:o}\n"
+                is_told = is_open and enabled == "1\n" and place.exists()
+                assert said_of(place) == (0, line if is_told else ""), (place, mode, enabled, said_of(place))
 
 
 def check_map(folder):
@@ -277,5 +308,6 @@ with tempfile.TemporaryDirectory() as room:
     check_folder(pathlib.Path(room))
     check_forms(pathlib.Path(room))
     check_map(pathlib.Path(room) / "boxes")
-print("ok: page, completion, version, unit, words, folder and install")
+    check_leases(pathlib.Path(room) / "leases")
+print("ok: page, completion, version, unit, words, folder, leases and install")
 sys.exit(0)
