@@ -160,6 +160,7 @@ def check_instances(unit, units):
 # The words of the service's environment, and those of the program that come of them but for ALWAYS.
 FOLDER = ["--dir", "/var/mail/lmtpd"]
 ALWAYS = ["--listen", "inherited", "--stop-file", "/run/lmtpd/stop", "--start-anyway", "--log", "info"]
+ALWAYS += ["--refuse-malformed"]
 STARTED = [
     ({}, FOLDER),
     ({"HOST": ""}, FOLDER),

@@ -10,7 +10,7 @@ from pages import lines_of, type_lines
 from replies import not_stored, stored
 from service import CONF, Service, systemctl
 
-FIXED = ["--stop-file", "/run/lmtpd/stop", "--start-anyway", "--log", "info"]
+FIXED = ["--stop-file", "/run/lmtpd/stop", "--start-anyway", "--log", "info", "--refuse-malformed"]
 OF_THE_UNIT = ["--rename-marks"]
 # The file of the package before it had DOMAINS, DELIMITER, FOLDER and OPTIONS, as an upgrade leaves it.
 OF_BEFORE = "HOST=mx.example\nMESSAGE_LIMIT=26214400\nBOXES=--boxes /etc/lmtpd.boxes\n"
