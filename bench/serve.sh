@@ -9,6 +9,7 @@
 #   quota      the same with a quota that every letter fits; only where it is named
 #   logged     the same as ours with a line of the log for each copy (--log info); only where it is named
 #   renamed    the same as ours with the marks of each head renamed (--rename-marks); only where it is named
+#   refusing   the same as ours where malformed messages are refused (--refuse-malformed); only where it is named
 #   before, before-logged
 #              an older program of ours, which LMTPD_BEFORE names, without and with a line of the log for each copy;
 #              only where they are named

@@ -12,7 +12,7 @@ import time
 SEARCHED = os.environ.get("PATH", "") + ":/usr/sbin:/usr/lib/postfix/sbin"
 
 # They are programs of ours, which choose a port themselves.
-OF_OURS = ("ours", "quota", "logged", "renamed", "before", "before-logged")
+OF_OURS = ("ours", "quota", "logged", "renamed", "refusing", "before", "before-logged")
 
 DOVECOT = """
 base_dir = {folder}/run
@@ -85,6 +85,7 @@ class Server:
             "quota": self.quota,
             "logged": self.logged,
             "renamed": self.renamed,
+            "refusing": self.refusing,
             "before": self.before,
             "before-logged": self.before_logged,
             "plain": self.plain,
@@ -131,6 +132,9 @@ class Server:
 
     def renamed(self, folder, preload):
         return [*self.ours(folder, preload), "--rename-marks"]
+
+    def refusing(self, folder, preload):
+        return [*self.ours(folder, preload), "--refuse-malformed"]
 
     def plain(self, folder, _preload):
         return [str(folder.parent / "plain"), str(self.store), self.address]

@@ -52,6 +52,7 @@ NEEDED_WITH = {
     ("logged", "before-logged"): dict.fromkeys(["a", "a1", "b", "b10"], 0.97),
     ("quota", "ours"): dict.fromkeys(WORKS, 0.95),
     ("renamed", "ours"): {"b": 0.95, "c": 0.95},
+    ("refusing", "ours"): dict.fromkeys(WORKS, 0.95),
 }
 NEEDED_SLOW = {"a": {"floor": 0.9}}
 # Of servers that live together: then all begin anew, since mailboxes of gigabytes take the memory that is free, and a
@@ -264,7 +265,7 @@ def print_tables(works, names, given, runs):
 
 def pairs_of(names):
     """Ours and `plain`, each beside those that it is compared with, whose programs have no word more."""
-    others = [name for name in names if name not in ("logged", "before-logged", "quota", "renamed")]
+    others = [name for name in names if name not in ("logged", "before-logged", "quota", "renamed", "refusing")]
     ours = [("ours", other) for other in others if other != "ours"]
     return ours + [("plain", other) for other in others if other not in ("plain", "ours", "before")]
 
