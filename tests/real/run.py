@@ -13,6 +13,7 @@ import hundred_restarts  # noqa: F401
 import killed_server_lock  # noqa: F401
 import killed_under_load  # noqa: F401
 import lease_in_var_mail  # noqa: F401
+import leases_are_told  # noqa: F401
 import log_keeps_lines  # noqa: F401
 import mailbox_of_user  # noqa: F401
 import malformed  # noqa: F401

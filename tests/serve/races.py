@@ -74,32 +74,28 @@ def swap(folder, make):
 
 
 class Load:
-    """Clients that send numbered letters to a mailbox until the end, each over one connection."""
+    """A client that sends numbered letters to a mailbox until the end."""
 
-    def __init__(self, address, name, count):
-        self.address, self.name = address, name
+    def __init__(self, server, name):
+        self.address, self.name = server.address, name
         self.told, self.faults = {}, []
         self.is_over = threading.Event()
-        self.threads = [threading.Thread(target=self.send, args=[number]) for number in range(count)]
+        self.thread = threading.Thread(target=self.send)
 
     def __enter__(self):
-        for thread in self.threads:
-            thread.start()
+        self.thread.start()
         return self
 
     def __exit__(self, *_):
         self.is_over.set()
-        for thread in self.threads:
-            thread.join()
+        self.thread.join()
 
-    def send(self, client_number):
+    def send(self):
         try:
             with Client(self.address).greet() as client:
-                number = 0
                 while not self.is_over.is_set():
-                    text = f"letter {client_number}-{number}"
+                    text = f"letter {len(self.told)}"
                     self.told[text] = client.deliver([self.name], text)[1][0]
-                    number += 1
                 client.quit()
         except Exception as fault:
             self.faults.append(repr(fault))
@@ -113,29 +109,28 @@ def races_with_a_mailbox(folder):
     """45 seconds of races each between a user's mailbox and a link to another's, to a device and to nothing, a FIFO, a
     folder, a socket and another file of his, while letters come for both: none that was told 250 is lost or doubled,
     and none is in the other's file"""
-    races = []
     folder.chmod(0o755)
     with contextlib.ExitStack() as running:
-        for make in KINDS:
-            place = folder / make.__name__
-            place.mkdir()
-            site = Site(place)
-            server = running.enter_context(site.serve("--log", "off"))
-            running.enter_context(done_by(ANNA, swap, site.mail, make))
-            loads = [running.enter_context(Load(server.address, name, 1)) for name in ["anna", "ben"]]
-            races.append((make.__name__, site, server, loads))
+        races = [begun(running, folder / make.__name__, make) for make in KINDS]
+        loads = [[running.enter_context(Load(server, name)) for name in ["anna", "ben"]] for server in races]
         time.sleep(SECONDS)
-        for name, _, server, _ in races:
-            equal((name, server.process.poll()), (name, None))
-    for name, site, _, loads in races:
-        judge(name, site.mail, *loads)
+        equal([server.process.poll() for server in races], [None] * len(KINDS))
+    for server, (annas, bens) in zip(races, loads, strict=True):
+        judge(server.folder, annas, bens)
 
 
-races_with_a_mailbox.seconds = SECONDS + 90
+def begun(running, place, make):
+    """A server in a folder of that race."""
+    place.mkdir()
+    site = Site(place)
+    server = running.enter_context(site.serve("--log", "off"))
+    running.enter_context(done_by(ANNA, swap, site.mail, make))
+    return server
 
 
-def judge(kind, folder, annas, bens):
+def judge(folder, annas, bens):
     """Each letter that was told 250 is once in a file of its user's, and nothing else in ben's."""
+    kind = folder.parent.name
     equal((kind, annas.faults, bens.faults), (kind, [], []))
     assert annas.told and bens.told, kind
     equal((kind, sorted(texts_in(folder / "ben.mbox"))), (kind, bens.stored()))
@@ -150,3 +145,6 @@ def judge(kind, folder, annas, bens):
 
 def texts_in(path):
     return [message.decode().strip() for message in letters.messages(path)]
+
+
+races_with_a_mailbox.seconds = SECONDS + 120
