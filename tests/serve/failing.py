@@ -237,10 +237,17 @@ def one_call_on_a_socket_fails(folder):
     fail_sockets_in_turn(folder, {})
 
 
+one_call_on_a_socket_fails.seconds = 180
+
+
 @case
 def all_later_calls_on_sockets_fail(folder):
     """each call on a socket fails in turn, and all later ones: the same"""
     fail_sockets_in_turn(folder, {"FAIL_ALL": "1"})
+
+
+# where each accept fails no client hears anything
+all_later_calls_on_sockets_fail.seconds = 300
 
 
 def fail_sockets_in_turn(folder, more):
@@ -252,7 +259,7 @@ def fail_sockets_in_turn(folder, more):
         told = place / "told"
         given = {"LD_PRELOAD": library, "FAIL_SOCKETS": 1, "FAIL_CALL": number, "FAIL_TOLD": told, **more}
         with environment({name: str(value) for name, value in given.items()}):
-            server = Server(place, BOXES, 2, "--lanes", 2, "--timeout", 2)
+            server = Server(place, BOXES, 2, "--lanes", 2, "--timeout", 2, "--stop-file", place / "stop")
         seen.add(deliver_side_by_side(server))
         if not told.exists():
             equal(seen >= {"cannot listen", "served"}, True)
@@ -269,6 +276,8 @@ def deliver_side_by_side(server):
         with concurrent.futures.ThreadPoolExecutor(2) as pool:
             jobs = [pool.submit(try_to_deliver, server.address, names) for names in [BOXES[:2], BOXES[1:]]]
             told = [name for job in jobs for name in job.result()]
+            # a client who was never accepted, or whose stream took no time, is no conversation
+            (server.folder / "stop").touch()
             ended = server.end()
     equal((ended.status, ended.errors) in [(0, []), (1, ["lmtpd: cannot listen"])], True)
     for name, line in zip(BOXES, ended.said):
@@ -284,7 +293,7 @@ def try_to_deliver(address, names):
     told = []
     try:
         with Client(address) as client:
-            client.socket.settimeout(5)
+            client.socket.settimeout(2)
             client.greet()
             finals = client.deliver(names, "hello")[1]
             told = [name for name, final in zip(names, finals) if final == stored(name)]

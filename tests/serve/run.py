@@ -2,7 +2,8 @@
 
 import sys
 
-import boxes  # noqa: F401  (each adds its cases)
+import accepts  # noqa: F401  (each adds its cases)
+import boxes  # noqa: F401
 import changed  # noqa: F401
 import closed  # noqa: F401
 import conversations  # noqa: F401

@@ -229,19 +229,22 @@ def only_the_own_file_goes(folder):
 @case
 def a_start_that_fails_leaves_no_file(folder):
     """each call on a Unix socket fails in turn: a server that says so leaves no file, one that listens removes it"""
-    library, path = built(folder), folder / "sock"
+    library, path, stop = built(folder), folder / "sock", folder / "stop"
     seen = set()
     for number in range(1, MOST_CALLS):
         told = folder / "told"
         given = {"LD_PRELOAD": library, "FAIL_SOCKETS": 1, "FAIL_CALL": number, "FAIL_TOLD": told}
         with environment({name: str(value) for name, value in given.items()}):
-            server = unix_server(folder, path, 1, "--timeout", 2)
+            server = unix_server(folder, path, 1, "--timeout", 2, "--stop-file", stop)
         with server:
             if server.first:
                 with contextlib.suppress(OSError, AssertionError):
                     deliver_one(path, ["anna"], "hello")
                 seen.add("served")
+                # a client whose stream took no time is no conversation
+                stop.touch()
                 server.end()
+                stop.unlink()
             else:
                 equal(vars(server.end()), REFUSED)
                 seen.add("refused")

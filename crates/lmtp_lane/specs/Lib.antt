@@ -3,4 +3,5 @@ pub mod LaneAccount
 pub mod Visits
 pub mod LaneRun
 pub mod LaneStart
+pub mod Accepts
 pub mod TcpVisits

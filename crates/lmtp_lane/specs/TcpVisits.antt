@@ -38,7 +38,7 @@ is_out v = v.out
 abbrev pub is_over : {L E : Type 0} → TcpVisits L E → Bool
 is_over v = v.over
 
--- an accept failed
+-- an accept failed since what listens doesn't any more
 abbrev pub has_failed : {L E : Type 0} → TcpVisits L E → Bool
 has_failed v = v.failed
 
@@ -65,7 +65,7 @@ pub record IsLaneOf {L E : Type 0} (listener : L) (each : Bounds) (curfew : E) (
   pub not_stopped : was_stopped v ≡ false
 
 -- Where there is a client it is a new one, and counts as a conversation; there is none exactly where no conversation is
--- left, an accept failed, or the server's end was asked for.
+-- left, an accept failed since what listens doesn't any more, or the server's end was asked for.
 pub record TakesClient {L E T : Type 0} (old new : TcpVisits L E) (client : Option (TcpPeer T E)) : Type 0 where
   pub fresh : IfSome client (IsNew old.bounds)
   pub out : is_out new ≡ is_some client

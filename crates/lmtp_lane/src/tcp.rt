@@ -1,6 +1,7 @@
 //! The clients of a listener over TCP or a Unix socket, and the system's clock.
 
 mod clock;
+mod failed_accept;
 mod listener;
 mod share;
 mod visits;

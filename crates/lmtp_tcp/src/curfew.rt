@@ -3,10 +3,12 @@
 ghost use Rattle.std.specs.Prelude.{◌≡◌, ◌≤◌, ◌-◌, ◌↔◌, IsTrue, IfSome, ℕ};
 ghost use Rattle.std.specs.Duration.{as_nanos};
 
+use std::io::Error;
 use std::time::Duration;
 
-/// Says when a server is to end though its clients aren't done, and when a conversation is. It is asked once a second
-/// at least while a client is waited for.
+/// Says when a server is to end though its clients aren't done, and when a conversation is; by its clock lanes wait
+/// where no client can be accepted, and it tells of that. It is asked once a second at least while a client is waited
+/// for.
 pub trait Curfew: Drop {
     // the server's end was asked for
     ghost IsAsked: { Self → Type 0 };
@@ -29,6 +31,12 @@ pub trait Curfew: Drop {
     /// Whether a conversation that began at that moment is to stop.
     fn is_over(&self, begun: Duration) -> bool
         ensures { IsTrue result → IsOver self.now (as_nanos begun) };
+
+    /// Waits for that long.
+    fn sleep(&self, time: Duration);
+
+    /// Tells, once a minute at most, that accepts fail, and why this one did.
+    fn accept_failed(&self, reason: &Error);
 }
 
 /// Whether that much time has passed between two moments.

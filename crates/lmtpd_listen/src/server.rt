@@ -67,6 +67,10 @@ impl AsRawFd for ServerSocket {
 impl Listener for ServerSocket {
     type Stream = ClientSocket;
 
+    ghost use Rattle.std.specs.Prelude.{⊤};
+
+    ghost MayFail = { λ _ _. ⊤ };
+
     fn accept(&self) -> io::Result<(ClientSocket, Client)>
         ensures { IfOk result (λ accepted. IsClient (socket_path self.now) accepted.0 accepted.1) }
     {

@@ -232,7 +232,7 @@ fn served_by<L: Drop, E: Drop, O: Drop, S: Drop, T: Drop, H: Drop, W: Write>(
     }
 }
 
-// Whether a lane's accept failed.
+// Whether what listens broke for a lane.
 fn has_one_failed<L: Drop, E: Drop, O: Drop>(visits: &[LoggedVisits<L, E, O>]) -> bool
     ensures { result ≡ list_any (λ v. has_failed v.inner) visits.now }
 {

@@ -12,7 +12,7 @@ use std::sync::Arc;
 pub struct ServerEnding {
     /// Whether the last turn that some mailbox had broke.
     pub faulty: bool,
-    /// Whether an accept failed, or the listener didn't tell where it listens.
+    /// Whether what listens broke, or the listener didn't tell where it listens.
     pub failed: bool,
     /// Whether the server's end was asked for before all conversations were held.
     pub stopped: bool,

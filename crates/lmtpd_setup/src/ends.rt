@@ -3,12 +3,14 @@
 ghost use Rattle.std.specs.Prelude.{◌≡◌, IfOk, option_map, string_bytes};
 ghost use Rattle.lmtpd_setup.specs.Curfew.{IsCurfewOf};
 
+use crate::logger::ServerLog;
 use lmtp_tcp::{Curfew, has_passed};
+use log::error;
 use std::alloc::{AllocError, Global};
-use std::fs;
 use std::fs::Files;
 use std::sync::atomic::{AtomicU64, Ordering};
 use std::time::{Clock, Duration};
+use std::{fs, io};
 
 /// How often the stop file is looked for, at most.
 const LOOK_MS: u64 = 250;
@@ -16,7 +18,10 @@ const LOOK_MS: u64 = 250;
 /// How long conversations, and waits for locks, go on once the server's end was asked for.
 const GRACE_MS: u64 = 5_000;
 
-/// The end wasn't asked for.
+/// How often it is logged at most that no client can be accepted.
+const TELL_MS: u64 = 60_000;
+
+/// The end wasn't asked for, or nothing was logged yet.
 const NEVER: u64 = u64::MAX;
 
 /// What ends a server, beside the number of its conversations, and what ends each of these.
@@ -32,25 +37,35 @@ pub struct Ends<'a> {
 #[derive(Drop)]
 pub struct ServerCurfew<R> {
     rt: R,
+    log: ServerLog<R>,
     stop_file: Option<String>,
     session: Duration,
     // by the monotonic clock, in milliseconds
     looked: AtomicU64,
     // when it was found that the end was asked for
     asked: AtomicU64,
+    // when it was logged last that no client can be accepted
+    told: AtomicU64,
 }
 
 impl<R: Drop> ServerCurfew<R> {
     /// Nothing has ended the server yet. From here on it takes no memory.
-    pub fn new(rt: R, alloc: Global, ends: Ends<'_>) -> Result<ServerCurfew<R>, AllocError>
+    pub fn new(
+        rt: R,
+        log: ServerLog<R>,
+        alloc: Global,
+        ends: Ends<'_>,
+    ) -> Result<ServerCurfew<R>, AllocError>
         ensures { IfOk result (IsCurfewOf ends.entry) }
     {
         Ok(ServerCurfew {
             rt,
+            log,
             stop_file: kept_path(alloc, ends.stop_file)?,
             session: Duration::from_secs(u64::from(ends.session_time)),
             looked: AtomicU64::new(0),
             asked: AtomicU64::new(NEVER),
+            told: AtomicU64::new(NEVER),
         })
     }
 }
@@ -73,6 +88,18 @@ impl<R: Clock> ServerCurfew<R> {
 
     fn now_ms(&self) -> u64 {
         u64::try_from(self.now().as_millis()).unwrap_or(u64::MAX)
+    }
+
+    // Whether a minute has passed since this was said last, which is said now: of several lanes to one.
+    fn may_tell(&self) -> bool {
+        let now = self.now_ms();
+        let told = self.told.load(Ordering::SeqCst);
+        if told != NEVER && now.saturating_sub(told) < TELL_MS {
+            return false;
+        }
+        self.told
+            .compare_exchange(told, now, Ordering::SeqCst, Ordering::SeqCst)
+            .is_ok()
     }
 }
 
@@ -105,16 +132,24 @@ impl<R: Clock + Files> ServerCurfew<R> {
 }
 
 impl<R: Clock + Files + Drop> ServerCurfew<R> {
+    fn asked_since(&self) -> Option<Duration> {
+        Some(Duration::from_millis(self.asked_ms()?))
+    }
+
+    fn time(&self) -> Duration {
+        self.rt.monotonic().unwrap_or(Duration::MAX)
+    }
+
     /// Whether the end was asked for so long ago that nothing is waited for any more; without a clock at once.
     pub(crate) fn is_grace_over(&self) -> bool {
-        match self.asked_at() {
-            Some(asked) => has_passed(asked, self.moment(), Duration::from_millis(GRACE_MS)),
+        match self.asked_since() {
+            Some(asked) => has_passed(asked, self.time(), Duration::from_millis(GRACE_MS)),
             None => false,
         }
     }
 }
 
-impl<R: Clock + Files + Drop> Curfew for ServerCurfew<R> {
+impl<R: Clock + Files + Eprint + Drop> Curfew for ServerCurfew<R> {
     ghost use Rattle.std.specs.Prelude.{⊤};
 
     ghost IsAsked = { λ _. ⊤ };
@@ -127,14 +162,25 @@ impl<R: Clock + Files + Drop> Curfew for ServerCurfew<R> {
     }
 
     fn asked_at(&self) -> Option<Duration> {
-        Some(Duration::from_millis(self.asked_ms()?))
+        self.asked_since()
     }
 
     fn moment(&self) -> Duration {
-        self.rt.monotonic().unwrap_or(Duration::MAX)
+        self.time()
     }
 
     fn is_over(&self, begun: Duration) -> bool {
         has_passed(begun, self.now(), self.session) || self.is_grace_over()
+    }
+
+    fn sleep(&self, time: Duration) {
+        self.rt.sleep(time);
+    }
+
+    fn accept_failed(&self, reason: &io::Error) {
+        if self.may_tell() {
+            let log = &self.log;
+            error!(log; target: "lmtpd", reason:%; "cannot accept");
+        }
     }
 }

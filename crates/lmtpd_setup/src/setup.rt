@@ -74,7 +74,7 @@ where
     let log = server_log(rt, threads, words.log);
     tell_of_room(words, &log);
     let access = access_asked(words);
-    let curfew = shared_curfew(threads, alloc, words)?;
+    let curfew = shared_curfew(threads, log, alloc, words)?;
     let spools = open_mailboxes(threads, alloc, access, &words.site.boxes, &curfew, log)?;
     let logs = line_setting(threads, log, words, &site)?;
     Ok(ServerSetup {
@@ -102,13 +102,14 @@ fn access_asked<'a>(words: &ServeWords<'a>) -> Access<'a>
 // What ends the server and its conversations, for lanes and mailboxes to share.
 fn shared_curfew<H: Drop>(
     threads: H,
+    log: ServerLog<H>,
     alloc: Global,
     words: &ServeWords<'_>,
 ) -> Result<Arc<ServerCurfew<H>>, Fault>
     ensures ends { IfOk result (λ curfew. IsCurfewOf (ends_asked words.now) (arc_value curfew)) }
     ensures err { IfErr result (λ f. f ≡ Fault.Memory) }
 {
-    let curfew = ServerCurfew::new(threads, alloc, ends_asked(words))?;
+    let curfew = ServerCurfew::new(threads, log, alloc, ends_asked(words))?;
     Ok(Arc::new(alloc, curfew)?)
 }
 

@@ -3,10 +3,11 @@
 ghost use Rattle.std.specs.Prelude.{◌≡◌};
 ghost use Rattle.std.specs.Arc.{arc_value};
 
+use crate::tcp::failed_accept::{FailedAccept, next_pause, why_failed};
 use crate::tcp::listener::Listener;
 use crate::visits::Visits;
 use lmtp_talk::{Client, EndCause};
-use lmtp_tcp::{Bounds, ClientStream, Curfew, TcpPeer, is_silence};
+use lmtp_tcp::{Bounds, ClientStream, Curfew, TcpPeer};
 use std::io;
 use std::io::{ErrorKind, Read, Write};
 use std::sync::{Arc, Wait};
@@ -14,6 +15,15 @@ use std::time::Duration;
 
 /// How long a read or a write of a client waits before it is looked whether its conversation is over.
 pub const WAIT_MS: u64 = 500;
+
+/// How long no accept is tried after one that the network refused.
+const MOMENT_MS: u64 = 10;
+
+/// A tenth of a second: after each one of a pause it is looked whether the server's end was asked for.
+const TENTH_MS: u64 = 100;
+
+/// The first pause of a machine that lacks something, in tenths of a second.
+const FIRST_PAUSE: u32 = 1;
 
 /// As many clients of a listener, that other lanes may share, as it may hold conversations, while no end was asked
 /// for.
@@ -62,7 +72,7 @@ impl<L: Drop, E: Drop> TcpVisits<L, E> {
         }
     }
 
-    /// Whether an accept failed; the lane took no client after that.
+    /// Whether an accept failed since what listens doesn't any more; the lane took no client after that.
     pub fn failed(&self) -> bool
         ensures { result ≡ has_failed self.now }
     {
@@ -83,7 +93,9 @@ where
     L::Stream: Read + Write + ClientStream + Drop,
     E: Curfew,
 {
-    ghost use Rattle.std.specs.Prelude.{false, true, Ok, None};
+    ghost use Rattle.std.specs.Prelude.{false, true, Ok, None, IfErr};
+    ghost use Rattle.std.specs.IoError.{raw_os_error};
+    ghost use Rattle.lmtp_lane.specs.Accepts.{HasBroken, why_failed};
     ghost use Rattle.lmtp_lane.specs.TcpVisits.{TakesClient, is_out};
 
     // The next client, where one is to be had.
@@ -91,6 +103,8 @@ where
         requires { is_out self.old ≡ false }
         ensures takes { TakesClient self.old self.new result }
         ensures stopped { self.old.stopped ≡ false → self.new.stopped ≡ true → E.IsAsked (arc_value self.old.curfew) }
+        ensures failed { self.old.failed ≡ false → self.new.failed ≡ true
+            → HasBroken (L.MayFail (arc_value self.old.listener)) }
     {
         if self.connections == 0 || self.failed || self.stopped {
             return None;
@@ -112,29 +126,60 @@ where
         }
     }
 
-    // The next client that is still there, or none once the server's end is asked for.
+    // The next client that is still there, or none once the server's end is asked for. It fails where what listens
+    // doesn't any more; after any other failure another accept is tried.
     fn accept<R: Wait>(&self, rt: &R) -> io::Result<Option<(L::Stream, Client, Arc<E>)>>
-        ensures { result ≡ Ok None → E.IsAsked (arc_value self.now.curfew) }
+        ensures asked { result ≡ Ok None → E.IsAsked (arc_value self.now.curfew) }
+        ensures broken { IfErr result (λ error. L.MayFail (arc_value self.now.listener) error
+            × (why_failed (raw_os_error error) ≡ FailedAccept.Broken)) }
     {
+        let mut pause = FIRST_PAUSE;
         for _ in rt.forever() {
             if self.curfew.is_asked() {
                 return Ok(None);
             }
             match self.listener.accept() {
                 Ok((stream, client)) => {
-                    stream.set_read_timeout(Duration::from_millis(WAIT_MS))?;
-                    stream.set_write_timeout(Duration::from_millis(WAIT_MS))?;
-                    let Ok(curfew) = Arc::try_clone(&self.curfew) else {
-                        return Err(io::Error::from(ErrorKind::OutOfMemory));
-                    };
-                    return Ok(Some((stream, client, curfew)));
+                    if let Ok(curfew) = self.receive(&stream) {
+                        return Ok(Some((stream, client, curfew)));
+                    }
+                    pause = FIRST_PAUSE;
                 }
-                Err(error) if error.kind() == ErrorKind::ConnectionAborted => {}
-                Err(error) if is_silence(&error) => {}
-                Err(error) => return Err(error),
+                Err(error) => match why_failed(&error) {
+                    FailedAccept::Broken => return Err(error),
+                    FailedAccept::Passing => {}
+                    FailedAccept::Refused => {
+                        self.curfew.sleep(Duration::from_millis(MOMENT_MS));
+                    }
+                    FailedAccept::Lacking => {
+                        self.curfew.accept_failed(&error);
+                        self.pause(pause);
+                        pause = next_pause(pause);
+                    }
+                },
             }
         }
         unreachable!()
+    }
+
+    // Gives a client's stream its times; where it takes none its conversation is over before it began.
+    fn receive(&self, stream: &L::Stream) -> io::Result<Arc<E>> {
+        stream.set_read_timeout(Duration::from_millis(WAIT_MS))?;
+        stream.set_write_timeout(Duration::from_millis(WAIT_MS))?;
+        match Arc::try_clone(&self.curfew) {
+            Ok(curfew) => Ok(curfew),
+            Err(_) => Err(io::Error::from(ErrorKind::OutOfMemory)),
+        }
+    }
+
+    // Waits for as many tenths of a second, unless the server's end is asked for meanwhile.
+    fn pause(&self, tenths: u32) {
+        for _ in 0..tenths {
+            if self.curfew.is_asked() {
+                return;
+            }
+            self.curfew.sleep(Duration::from_millis(TENTH_MS));
+        }
     }
 }
 
@@ -147,6 +192,7 @@ where
     type P = TcpPeer<L::Stream, E>;
 
     ghost use Rattle.std.specs.Prelude.{true, false, is_none};
+    ghost use Rattle.lmtp_lane.specs.Accepts.{HasBroken};
     ghost use Rattle.lmtp_lane.specs.TcpVisits.{TakesClient, TakesBack, IsNewcomer, told_by, is_out, is_over};
 
     ghost MayGive = { λ visits peer. IsNewcomer peer };
@@ -157,12 +203,16 @@ where
 
     ghost over = { λ visits. is_over visits };
 
-    /// Waits for the next client; one that had gone before it was taken is passed over. After an accept that failed,
-    /// and once the server's end was asked for, there are no more.
+    /// Waits for the next client; one that had gone before it was taken, or whose stream takes no time, is passed over.
+    /// Where an accept fails another one is tried, but that there are no more clients once what listens doesn't any
+    /// more, and once the server's end was asked for.
     fn next<R: Wait>(&mut self, rt: &R) -> Option<TcpPeer<L::Stream, E>>
         requires { is_out self.old ≡ false }
         ensures takes { TakesClient self.old self.new result }
         ensures over { is_over self.new ≡ is_none result }
+        ensures stopped { self.old.stopped ≡ false → self.new.stopped ≡ true → E.IsAsked (arc_value self.old.curfew) }
+        ensures failed { self.old.failed ≡ false → self.new.failed ≡ true
+            → HasBroken (L.MayFail (arc_value self.old.listener)) }
     {
         let client = self.take_client(rt);
         self.over = client.is_none();
