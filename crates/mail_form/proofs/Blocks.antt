@@ -1,5 +1,5 @@
 -- Blocks of bytes in which no NUL stands and no CR but before an LF.
-use Rattle.std.proofs.Common.{◌≡◌, ℕ, zero, suc, ◌+◌, ◌<◌, ◌≤◌, arith, Bool, true, false, not, ◌&&◌, ◌||◌, cond, eqb, bit_and, bit_or, List, [], ◌∷◌, map, length, take, drop, replicate, refl, sym, ap, ap₂, ◌∙◌, subst, zero-add}
+use Rattle.std.proofs.Common.{◌≡◌, ℕ, zero, suc, ◌+◌, ◌<◌, ◌≤◌, arith, Bool, true, false, not, ◌&&◌, ◌||◌, cond, eqb, bit_and, bit_or, List, [], ◌∷◌, map, length, take, drop, replicate, refl, ap, ap₂, ◌∙◌, zero-add}
 use Rattle.std.specs.Simd.Lanes.{zip2, top}
 use Rattle.mbox_spool.specs.Lines.{pairs}
 use Rattle.mbox_spool.proofs.Blocks.{tests}

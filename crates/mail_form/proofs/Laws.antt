@@ -1,5 +1,5 @@
 -- The form of a whole message says whether it is malformed.
-use Rattle.std.proofs.Common.{◌≡◌, ℕ, zero, suc, ◌+◌, ◌<◌, ◌≤◌, arith, Bool, true, false, ◌||◌, ◌&&◌, ◌==◌, cond, nat_lt, List, [], ◌∷◌, ◌++◌, refl, sym, ap, ap₂, ◌∙◌, subst}
+use Rattle.std.proofs.Common.{◌≡◌, ℕ, ◌+◌, ◌<◌, ◌≤◌, arith, Bool, true, false, ◌||◌, ◌&&◌, ◌==◌, cond, nat_lt, List, [], ◌∷◌, refl, sym, ap, ap₂, ◌∙◌}
 use Rattle.std.proofs.Common.{◌⊎◌, inl, inr, add_assoc, zero-add, add-zero}
 use Rattle.std.specs.List.{list_any, onto_first}
 use Rattle.std.proofs.lemmas.Bool.{eqb-true}
@@ -9,7 +9,7 @@ use Rattle.mail_world.specs.Text.{cr, lf, space, tab, has_byte, begins, unix, li
 use Rattle.mail_world.specs.Malformed.{nul, count_of, is_long, is_malformed}
 use Rattle.mail_form.specs.declared.form.MessageForm.{MessageForm}
 use Rattle.mail_form.specs.declared.form.MessageForm.TheVariants.{Empty, InLine, Malformed}
-use Rattle.mail_form.specs.Forms.{after_count, with_cr, next_by, form_next, form_after, ends_malformed, HasForm}
+use Rattle.mail_form.specs.Forms.{after_count, next_by, form_next, form_after, ends_malformed, HasForm}
 use Rattle.mail_form.proofs.Steps.{malformed_stays, short_count, long_count}
 
 -- ---- a line that is too long, where the first one counts n before the text

@@ -1,12 +1,11 @@
 -- Lines without a NUL and without a CR but at their ends, which are too few to be too long.
-use Rattle.std.proofs.Common.{◌≡◌, ℕ, zero, suc, ◌+◌, ◌<◌, ◌≤◌, arith, Bool, true, false, not, ◌&&◌, ◌||◌, ◌==◌, cond, List, [], ◌∷◌, ◌++◌, length, take, drop, take-append-drop, get_or, refl, sym, ap, ap₂, ◌∙◌, subst, ◌⊎◌, inl, inr}
-use Rattle.std.proofs.lemmas.Bool.{eqb-true}
+use Rattle.std.proofs.Common.{◌≡◌, ℕ, zero, suc, ◌+◌, ◌<◌, ◌≤◌, arith, Bool, true, false, not, ◌&&◌, ◌||◌, ◌==◌, cond, List, [], ◌∷◌, length, take, drop, take-append-drop, get_or, refl, sym, ap, ◌∙◌, ◌⊎◌, inl, inr}
 use Rattle.mail_world.specs.declared.limits.TheConstants.{COUNTED_LINE_LIMIT}
 use Rattle.mail_world.specs.Text.{cr, lf, begins}
 use Rattle.mail_world.specs.Malformed.{nul}
 use Rattle.mbox_spool.specs.Lines.{pairs}
 use Rattle.mail_form.specs.declared.form.MessageForm.{MessageForm}
-use Rattle.mail_form.specs.declared.form.MessageForm.TheVariants.{Empty, InLine, Malformed}
+use Rattle.mail_form.specs.declared.form.MessageForm.TheVariants.{InLine, Malformed}
 use Rattle.mail_form.specs.Forms.{is_break, next_by, form_next, form_after, EndsLine, IsSoundText}
 use Rattle.mail_form.proofs.Steps.{form_after-append, malformed_stays, at_line, short_count}
 

@@ -1,4 +1,4 @@
-use Rattle.std.proofs.Common.{◌≡◌, ◌++◌, ap, ap₂, sym, ◌∙◌, drop, take}
+use Rattle.std.proofs.Common.{◌≡◌, ap, ap₂, sym, ◌∙◌, drop}
 use Rattle.mail_form.specs.declared.form.MessageForm.TheVariants.{Empty}
 use Rattle.mail_form.specs.Forms.{form_after}
 use Rattle.mail_form.proofs.Steps.{form_after-append}
