@@ -1,6 +1,7 @@
 """The server over a Unix socket, and over a socket that it was started with."""
 
 import contextlib
+import fcntl
 import os
 import re
 import shutil
@@ -210,6 +211,44 @@ def many_at_once(folder):
             equal(sorted(told), [""] * 7 + [f"listening on unix:{path}\n"])
             equal(deliver_one(path, ["anna"], "hello"), [STORED])
         path.unlink()
+
+
+@case
+def a_folder_that_anybody_locked(folder):
+    """a lock on its folder, which any user may take who can read that, holds no server back that listens there"""
+    path = folder / "sock"
+    held = os.open(folder, os.O_RDONLY)
+    try:
+        fcntl.flock(held, fcntl.LOCK_EX)
+        with unix_server(folder, path, 1) as server:
+            equal(server.first, f"listening on unix:{path}\n")
+            equal(deliver_one(path, ["anna"], "hello"), [STORED])
+            equal(server.end().status, 0)
+    finally:
+        os.close(held)
+    equal(path.exists(), False)
+
+
+@case
+def its_lock_is_its_owners_alone(folder):
+    """a Unix socket's lock has the mode 600 whatever the umask, and stays; one that others may hold is refused"""
+    path, lock, other = folder / "sock", folder / "sock.lock", folder / "other"
+    for umask in 0o000, 0o777:
+        lock.unlink(missing_ok=True)
+        with unix_server(folder, path, 1, umask=umask) as server:
+            equal(deliver_one(path, ["anna"], "hello"), [STORED])
+            equal(server.end().status, 0)
+        found = lock.lstat()
+        equal((stat.S_ISREG(found.st_mode), stat.S_IMODE(found.st_mode), found.st_size), (True, 0o600, 0))
+    lock.chmod(0o640)
+    equal(try_at(folder, f"unix:{path}"), REFUSED)
+    lock.unlink()
+    lock.symlink_to(other)
+    equal(try_at(folder, f"unix:{path}"), REFUSED)
+    equal((other.exists(), path.exists()), (False, False))
+    lock.unlink()
+    os.mkfifo(lock, 0o600)
+    equal(try_at(folder, f"unix:{path}"), REFUSED)
 
 
 @case

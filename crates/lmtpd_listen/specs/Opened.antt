@@ -1,5 +1,5 @@
 -- What contracts see of what was opened, and of what wasn't.
-use Rattle.std.specs.Prelude.{◌≡◌, ℕ, List, Option, Some, None, bit_and, string_bytes}
+use Rattle.std.specs.Prelude.{◌≡◌, ◌++◌, ℕ, List, Option, Some, None, bit_and, codes, option_map, string_bytes}
 use Rattle.lmtp_talk.specs.declared.client.Client.{Client}
 use Rattle.lmtp_talk.specs.declared.client.Client.TheVariants as who
 use Rattle.lmtp_lane.specs.declared.tcp.listener.Endpoint.{Endpoint}
@@ -44,6 +44,14 @@ mode_found (Some made) = Some made.mode
 abbrev pub file_mode : SocketFile → Option ℕ
 file_mode file = mode_found file.made
 
+-- where the lock of a socket at that path is
+abbrev pub lock_path : List ℕ → List ℕ
+lock_path path = path ++ codes ".lock"
+
+-- where the lock of this file is; none where none was made
+abbrev pub file_lock : SocketFile → Option (List ℕ)
+file_lock file = option_map string_bytes file.lock
+
 -- the permission bits of a number
 abbrev pub permissions : ℕ → ℕ
 permissions mode = bit_and mode MODE_BITS
@@ -59,11 +67,12 @@ abbrev pub IsEndpoint : Option (List ℕ) → Endpoint → Type 0
 IsEndpoint path (endpoint.Ip address) = path ≡ None
 IsEndpoint path (endpoint.Unix name) = path ≡ Some name.now
 
--- a Unix socket that listens at that path, whose file there had just that mode and is removed at the end
+-- a Unix socket that listens at that path, whose file there had just that mode and is removed at the end, by its lock
 pub record IsMadeAt (path : List ℕ) (bits : ℕ) (opened : Opened) : Type 0 where
   pub listens : socket_path opened.socket ≡ Some path
   pub removed : file_path opened.file ≡ Some path
   pub mode : file_mode opened.file ≡ Some bits
+  pub lock : file_lock opened.file ≡ Some (lock_path path)
 
 -- What was opened is of the kind that was asked for: a Unix socket that was made is at its path, with the permission
 -- bits of that mode; any other is left where it is.

@@ -33,8 +33,10 @@ pub enum Reason {
     Answered,
     #[error("what is there is no socket")]
     NoSocket,
-    #[error("another program has the folder locked")]
+    #[error("another server has the socket locked")]
     Locked,
+    #[error("the socket's lock is no plain file of this user alone")]
+    NotOwn,
     #[error("another program changed the socket's file")]
     Changed,
     #[error("no socket was passed, or more than one")]

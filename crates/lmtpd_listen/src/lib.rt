@@ -6,12 +6,12 @@
 
 mod client;
 mod fault;
-mod folder;
 mod inherited;
 mod listen_address;
 mod opened;
 mod server;
 mod socket_file;
+mod socket_lock;
 mod unix;
 
 pub use client::ClientSocket;

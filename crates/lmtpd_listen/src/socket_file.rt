@@ -1,11 +1,11 @@
 //! The file of a Unix socket that was made.
 
 ghost use Rattle.std.specs.Prelude.{◌≡◌, Some, None};
-ghost use Rattle.lmtpd_listen.specs.Opened.{IsListenFault, file_mode, file_path};
-ghost use Rattle.std.specs.Prelude.{IfErr};
+ghost use Rattle.lmtpd_listen.specs.Opened.{IsListenFault, file_lock, file_mode, file_path};
+ghost use Rattle.std.specs.Prelude.{IfErr, string_bytes};
 
 use crate::fault::{ListenFault, Reason};
-use crate::folder::lock_folder;
+use crate::socket_lock::lock_at;
 use mbox_locks::FileLock;
 use std::fs::{Files, Metadata};
 use std::os::unix::fs::{FileTypeExt, MetadataExt};
@@ -15,6 +15,8 @@ use std::{fs, io};
 /// The file of a Unix socket, where one was made. It can't be dropped: whoever opened it removes it.
 pub struct SocketFile<'a> {
     made: Option<Made<'a>>,
+    // where its lock is
+    lock: Option<String>,
 }
 
 /// A file that was made, and the permission bits that it had when it was looked at last.
@@ -55,15 +57,22 @@ impl<'a> SocketFile<'a> {
         ensures path { file_path result ≡ None }
         ensures mode { file_mode result ≡ None }
     {
-        SocketFile { made: None }
+        SocketFile {
+            made: None,
+            lock: None,
+        }
     }
 
-    /// The file that was made.
-    pub(crate) fn of(made: Made<'a>) -> SocketFile<'a>
+    /// The file that was made, and the path of its lock.
+    pub(crate) fn of(made: Made<'a>, lock: String) -> SocketFile<'a>
         ensures path { file_path result ≡ Some made.entry.path.now }
         ensures mode { file_mode result ≡ Some made.entry.mode }
+        ensures lock { file_lock result ≡ Some (string_bytes lock) }
     {
-        SocketFile { made: Some(made) }
+        SocketFile {
+            made: Some(made),
+            lock: Some(lock),
+        }
     }
 
     /// Removes the file, where it is still the one that was made. What can't be looked at or removed stays: a server
@@ -72,17 +81,17 @@ impl<'a> SocketFile<'a> {
     where
         R::File: FileLock,
     {
-        let SocketFile { made } = self;
-        let Some(made) = made else {
+        let SocketFile { made, lock } = self;
+        let (Some(made), Some(lock)) = (made, lock) else {
             return;
         };
-        if let Ok(_folder) = lock_folder(rt, made.path) {
+        if let Ok(_lock) = lock_at(rt, lock.as_str()) {
             let _ = remove_made(rt, made.path, made.mark);
         }
     }
 }
 
-/// Removes the file at that path where it is that one, while its folder is locked.
+/// Removes the file at that path where it is that one, by whoever has its lock.
 pub(crate) fn remove_made<R: Files>(rt: &R, path: &str, mark: Mark) -> io::Result<()> {
     match mark_of(&fs::symlink_metadata(rt, path)?) {
         Ok(found) if found == mark => fs::remove_file(rt, path),

@@ -1,14 +1,14 @@
 //! A Unix socket at a path.
 
 ghost use Rattle.std.specs.Prelude.{◌≡◌, IfErr, MatchResult, Some, string_bytes};
-ghost use Rattle.lmtpd_listen.specs.Opened.{IsListenFault, IsMadeAt, IsOpenedFor, IsUnopened, socket_path};
+ghost use Rattle.lmtpd_listen.specs.Opened.{IsListenFault, IsMadeAt, IsOpenedFor, IsUnopened, lock_path, socket_path};
 ghost use Rattle.lmtpd_listen.specs.declared.listen_address.ListenAddress.TheVariants as listen_address;
 
 use crate::fault::{ListenFault, Reason, last_fault};
-use crate::folder::lock_folder;
 use crate::opened::Opened;
 use crate::server::ServerSocket;
 use crate::socket_file::{Made, Mark, SocketFile, mark_of, remove_made};
+use crate::socket_lock::{lock_at, lock_path};
 use libc::net::listen;
 use mbox_locks::FileLock;
 use std::alloc::Global;
@@ -42,19 +42,22 @@ where
 {
     let name = format!(in alloc; "{path}")?;
     let address = SocketAddr::from_pathname(path)?;
-    let _folder = lock_folder(rt, path)?;
-    open_locked(rt, path, name, &address, mode & MODE_BITS)
+    let lock = lock_path(alloc, path)?;
+    let _lock = lock_at(rt, lock.as_str())?;
+    open_locked(rt, path, lock, name, &address, mode & MODE_BITS)
 }
 
-// Makes the socket of that name, which is its path, while the folder of its file is locked.
+// Makes the socket of that name, which is its path, while it has its lock, which is at that path.
 fn open_locked<'a, R: Files + Net>(
     rt: &R,
     path: &'a str,
+    lock: String,
     name: String,
     address: &SocketAddr,
     mode: u32,
 ) -> Result<Opened<'a>, ListenFault>
-    requires { string_bytes name ≡ path.now }
+    requires name { string_bytes name ≡ path.now }
+    requires lock { string_bytes lock ≡ lock_path path.now }
     ensures { MatchResult result (IsMadeAt path.now mode)
         (IsUnopened (listen_address.Unix path.entry)) }
 {
@@ -63,7 +66,7 @@ fn open_locked<'a, R: Files + Net>(
     let made = make_file(rt, &socket, path, address, mode)?;
     Ok(Opened {
         socket,
-        file: SocketFile::of(made),
+        file: SocketFile::of(made, lock),
     })
 }
 
