@@ -35,8 +35,8 @@ build: toolchain
 	cd crates/lmtpd && rt run --jobs $$(../../building/jobs_at_once) -- $$(cat args) < stdin > /dev/null
 
 # Installs the program that `make build` made, its manual page, its units for systemd with what begins the server and
-# what looks at leases before that, the user and the folder that they need, those of several servers, what bash completes, the pages for administrators, and
-# the files of its words and mailboxes, each where Debian has it. DESTDIR stands before all paths. Words and mailboxes
+# what looks at its words and at leases before that, the user and the folder that they need, those of several servers,
+# what bash completes, the pages for administrators, and the files of its words and mailboxes, each where Debian has it. DESTDIR stands before all paths. Words and mailboxes
 # that are there already stay as they are.
 PREFIX ?= /usr/local
 CONF := /etc/lmtpd.conf
@@ -60,6 +60,7 @@ install:
 	install -d $(UNITS) $(BEGIN)
 	$(PLACED) packaging/lmtpd.start > $(BEGIN)/start
 	chmod 0755 $(BEGIN)/start
+	install -m 0755 packaging/lmtpd.keys $(BEGIN)/keys
 	install -m 0755 packaging/lmtpd.leases $(BEGIN)/leases
 	install -m 0644 packaging/lmtpd.instance $(BEGIN)/instance.conf
 	for kind in socket service; do \

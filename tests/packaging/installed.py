@@ -13,6 +13,7 @@ INSTALLED = [
     "etc/lmtpd.boxes",
     "etc/lmtpd.conf",
     "usr/lib/lmtpd/instance.conf",
+    "usr/lib/lmtpd/keys",
     "usr/lib/lmtpd/leases",
     "usr/lib/lmtpd/start",
     "usr/lib/systemd/system/lmtpd.service",

@@ -97,7 +97,7 @@ def check_install(folder):
     socket = (folder / "usr/lib/systemd/system/lmtpd.socket").read_text().splitlines()
     for line in ["ListenStream=/var/spool/postfix/private/lmtpd", "SocketUser=postfix", "SocketMode=0600"]:
         assert line in socket, line
-    given = set(re.findall(r"\$\{?([A-Z_]+)", start)) - {"RUNTIME_DIRECTORY", "INSTANCE"}
+    given = set(re.findall(r"\$\{?([A-Z_]+)", start)) - {"RUNTIME_DIRECTORY", "INSTANCE", "ALONE"}
     words, boxes = folder / "etc/lmtpd.conf", folder / "etc/lmtpd.boxes"
     # each word of the service has a line, with a comment of its own above it
     told = re.findall(r"^#[^\n]*\n([A-Z_]+)=", words.read_text(), re.MULTILINE)
@@ -176,7 +176,8 @@ STARTED = [
     ({"BOXES": "--boxes /etc/lmtpd.boxes"}, [*FOLDER, "--boxes", "/etc/lmtpd.boxes"]),
     ({"BOXES": "--mailbox-mode 0660 --boxes /x"}, [*FOLDER, "--mailbox-mode", "0660", "--boxes", "/x"]),
     ({"BOXES": "anna  ben *"}, [*FOLDER, "anna", "ben", "*"]),
-    ({"OPTIONS": " --quota 5\t* $HOME `id` 'a b' "}, [*FOLDER, "--quota", "5", "*", "$HOME", "`id`", "'a", "b'"]),
+    ({"OPTIONS": " --quota *\t--stop $HOME --reads `id` "}, [*FOLDER, "--quota", "*", "--stop", "$HOME", "--reads", "`id`"]),
+    ({"OPTIONS": "--smtputf8 --recipient-delimiter -"}, [*FOLDER, "--smtputf8", "--recipient-delimiter", "-"]),
     ({"BOXES": "/x", "OPTIONS": "--lanes 8"}, [*FOLDER, "--boxes", "/x", "--lanes", "8"]),
     ({"OPTIONS": "--mailbox-suffix= --lanes 8"}, [*FOLDER, "--mailbox-suffix=", "--lanes", "8"]),
     ({"INSTANCE": "a"}, [*FOLDER, "--boxes", "/etc/lmtpd/a.boxes"]),
@@ -184,26 +185,104 @@ STARTED = [
     ({"INSTANCE": "a", "BOXES": "/y"}, [*FOLDER, "--boxes", "/y"]),
     ({"INSTANCE": "a", "BOXES": "anna"}, [*FOLDER, "anna"]),
 ]
+# What OPTIONS can't have, and what is said of it.
+MISTAKEN = {
+    "quota 1000": "a word that nothing takes key=OPTIONS word=quota",
+    "anna": "a word that nothing takes key=OPTIONS word=anna",
+    "--quota 1000 anna": "a word that nothing takes key=OPTIONS word=anna",
+    "--quota=1000 anna": "a word that nothing takes key=OPTIONS word=anna",
+    "--log-addresses yes --quota 5": "a word that nothing takes key=OPTIONS word=yes",
+    "--quota 5 -x": "a word that nothing takes key=OPTIONS word=-x",
+    "--quota '5 MB'": "a word that nothing takes key=OPTIONS word=MB'",
+    "--lanes 8 --quota": "a word without its value key=OPTIONS word=--quota",
+    "-- anna": "not a word of the service key=OPTIONS word=--",
+    "--help": "not a word of the service key=OPTIONS word=--help",
+    "--quota 5 <3>\u00e4\a": "a word that nothing takes key=OPTIONS word=<3>???",
+}
 
 
 def check_start(folder):
-    """What begins the server hands each word on as it stands, and none that is empty."""
+    """What begins the server hands each word on as it stands, and none that is empty; it begins nothing where a file of
+    words or OPTIONS isn't understood."""
     prefix, room = folder / "begun", folder / "room"
     assert said_by("make", "-s", "install", f"DESTDIR={room}", f"PREFIX={prefix}", f"PROGRAM={LMTPD}") == (0, "")
-    program = prefix / "sbin/lmtpd"
-    program.parent.mkdir(parents=True)
-    program.write_text("#!/bin/sh\nprintf '%s\\n' \"$@\"\n")
-    program.chmod(0o755)
+    start = f"{room}{prefix}/lib/lmtpd/start"
+    for name, said in [("sbin/lmtpd", "printf '%s\\n'"), ("lib/lmtpd/keys", 'echo keys "$@"; exit $STATUS; :')]:
+        program = prefix / name
+        program.parent.mkdir(parents=True)
+        program.write_text(f'#!/bin/sh\n{said} "$@"\n')
+        program.chmod(0o755)
+
+    def said_for(given, *more, status="0"):
+        # more folders than its own where a site's drop-in has some; a folder with files that a shell would find
+        usual = {"PATH": os.environ["PATH"], "RUNTIME_DIRECTORY": "/run/lmtpd:/run/other", "STATUS": status}
+        return said_by("sh", start, *more, env=usual | given, cwd=folder)
+
     for given, expected in STARTED:
         for more in [[], ["--check-words"]]:
-            # more folders than its own where a site's drop-in has some
-            environment = {"PATH": os.environ["PATH"], "RUNTIME_DIRECTORY": "/run/lmtpd:/run/other", **given}
-            words = ["sh", f"{room}{prefix}/lib/lmtpd/start", *more]
-            # a folder with files that a shell would find
-            status, said = said_by(*words, env=environment, cwd=folder)
-            found = said.splitlines()
+            status, said = said_for(given, *more)
+            keys, *found = said.splitlines()
+            own = f" /etc/lmtpd/{given['INSTANCE']}.conf" if "INSTANCE" in given else ""
+            assert keys == f"keys /etc/lmtpd.conf{own}", (given, keys)
             assert (status, [word for word in found if word in ALWAYS]) == (0, ALWAYS), (given, found)
             assert [word for word in found if word not in ALWAYS] == ["serve", *more, *expected], (given, found)
+    for options, line in MISTAKEN.items():
+        for more in [[], ["--check-words"]]:
+            found = said_for({"HOST": "mx.example", "BOXES": "anna", "OPTIONS": options}, *more)
+            assert found == (2, f"keys /etc/lmtpd.conf\n<3>{line}\n"), (options, found)
+    assert said_for({"BOXES": "anna"}, status="2") == (2, "keys /etc/lmtpd.conf\n")
+    # the words that have no value are those of the page
+    page = pathlib.Path("docs/operating/WORDS.md").read_text()
+    [alone] = re.findall("^ALONE='(.*)'$", pathlib.Path(start).read_text(), re.MULTILINE)
+    expected = re.findall(r"^\| `(--[a-z0-9-]+)` \|[^|\n]*\| no value \|", page, re.MULTILINE)
+    assert len(expected) > 3 and sorted(alone.split()) == sorted(expected), (alone, expected)
+
+
+# Texts of a file of words, and what is said of each: `!` stands for `<3>`, and so for status 2.
+KEYS = [
+    ("", []),
+    ("HOST=mx.example\n# DOMAIN=x\n ; QUOTA=5\n\n \t\nOPTIONS=\n", []),
+    ("HOST=mx.example\nDOMAIN=b.example\n", ["!unknown word key=DOMAIN file=FILE line=2"]),
+    ("QUOTA=5\nHOST=mx.example\nhost=b", ["!unknown word key=QUOTA file=FILE line=1", "!unknown word key=host file=FILE line=3"]),
+    ("export HOST=mx.example\n", ["!unknown word key=export%20HOST file=FILE line=1"]),
+    ("=x\n", ["!a line without = key==x file=FILE line=1"]),
+    ("  HOST \t= mx.example \n", []),
+    ("HOST=mx.example\nOPTIONS --lanes 8\n", ["!a line without = key=OPTIONS%20--lanes%208 file=FILE line=2"]),
+    ("OPTIONS=--lanes 8 \\\n--quota 5\nHOST=a\n", []),
+    ("OPTIONS=--lanes 8 \\\r\n--quota 5\r\nHOST=a\r\n", ["!a line without = key=--quota%205 file=FILE line=2"]),
+    ("HOST=mx.example\r\n# a\r\nOPTIONS=\r\n", []),
+    ("HOST=mx.example\r\nDOMAIN=b\r\n", ["!unknown word key=DOMAIN file=FILE line=2"]),
+    ("\ufeff# a = b\nHOST=mx.example\n", []),
+    ("\ufeff# a\nHOST=mx.example\n", []),
+    ("\ufeffHOST=mx.example\n", ["!unknown word key=%EF%BB%BFHOST file=FILE line=1"]),
+    ("HOST=a\n\nHOST=b\n", ["<4>a word stands twice, and the last one counts key=HOST file=FILE line=3"]),
+    ("OPTIONS='--lanes 8\n--quota 5'\nHOST=\"a\\\"b\"\nDOMAINS=\"x\" 'y'\n", []),
+    ("OPTIONS=\"--lanes 8\nHOST=mx.example\n", ["!a quote that nothing closes key=OPTIONS file=FILE line=1"]),
+    ("HOST=mx.example'\nDOMAINS=it\"s\n", []),
+    ("HOST=a\nx\u00e4\x1b" + "y" * 80 + "=1\n", ["!unknown word key=x%C3%A4%1B" + "y" * 56 + ".. file=FILE line=2"]),
+]
+
+
+def check_keys(folder):
+    """A file of words with one that the service doesn't know, or that can't be read, is refused, by the word and its
+    line."""
+    folder.mkdir()
+    path, other = folder / "lmtpd.conf", folder / "one.conf"
+    known = re.findall("^([^#=]+)=", pathlib.Path("packaging/lmtpd.conf").read_text(), re.MULTILINE)
+
+    def said_of(*paths):
+        status, said = said_by("sh", "packaging/lmtpd.keys", *map(str, paths))
+        return status, said.splitlines()
+
+    for text, lines in [*KEYS, ("".join(f"{name}=\n" for name in known), [])]:
+        path.write_text(text, newline="")
+        expected = [line.replace("!", "<3>").replace("FILE", str(path)) for line in lines]
+        assert said_of(path) == (2 if "<3>" in "".join(expected) else 0, expected), (text, said_of(path))
+    assert said_of("packaging/lmtpd.conf", folder / "none") == (0, [])
+    path.write_text("HOST=a\n")
+    other.write_text("HOST=b\nBOX=anna\n")
+    assert said_of(path, other) == (2, [f"<3>unknown word key=BOX file={other} line=2"])
+    assert said_of(other, path)[0] == 2
 
 
 # Modes of the folder, and whether its group or others may write there.
@@ -306,9 +385,10 @@ check_version()
 with tempfile.TemporaryDirectory() as room:
     check_install(pathlib.Path(room) / "all")
     check_start(pathlib.Path(room))
+    check_keys(pathlib.Path(room) / "keys")
     check_folder(pathlib.Path(room))
     check_forms(pathlib.Path(room))
     check_map(pathlib.Path(room) / "boxes")
     check_leases(pathlib.Path(room) / "leases")
-print("ok: page, completion, version, unit, words, folder, leases and install")
+print("ok: page, completion, version, unit, words, keys, folder, leases and install")
 sys.exit(0)

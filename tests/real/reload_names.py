@@ -28,6 +28,8 @@ REFUSED = [
     (WORDS.replace("mx.example", ""), b"anna\n", "error: the following required arguments were not provided:"),
     (WORDS.replace("mx.example", "a_b"), b"anna\n", "lmtpd: bad host"),
     (WORDS + "DOMAINS=a_b\n", b"anna\n", "lmtpd: bad domain"),
+    (WORDS + "DOMAIN=b.example\n", b"anna\n", "unknown word key=DOMAIN file=/etc/lmtpd.conf line=3"),
+    (WORDS + "OPTIONS=quota 1000\n", b"anna\n", "a word that nothing takes key=OPTIONS word=quota"),
     (WORDS + "OPTIONS=--lanes none\n", b"anna\n", "error: invalid value 'none' for '--lanes <LANES>'"),
 ]
 

@@ -33,6 +33,11 @@ REFUSED = [
     ("HOST=mx.example\nBOXES=", "lmtpd: no box"),
     ("HOST=mx.example\nOPTIONS=--no-such-word", "error: unexpected argument '--no-such-word' found"),
     ("HOST=mx.example\nMESSAGE_LIMIT=10", "error: invalid value '10' for '--message-limit <BYTES>':"),
+    ("HOST=mx.example\nDOMAIN=b.example", "unknown word key=DOMAIN file=/etc/lmtpd.conf line=3"),
+    ("QUOTA=1000\nHOST=mx.example", "unknown word key=QUOTA file=/etc/lmtpd.conf line=2"),
+    ("HOST=mx.example\nOPTIONS=quota 1000", "a word that nothing takes key=OPTIONS word=quota"),
+    ("HOST=mx.example\nOPTIONS=--log-addresses anna", "a word that nothing takes key=OPTIONS word=anna"),
+    ("HOST=mx.example\nOPTIONS --lanes 8", "a line without = key=OPTIONS%20--lanes%208 file=/etc/lmtpd.conf line=3"),
 ]
 
 
@@ -44,6 +49,11 @@ def words_of_the_service(_folder):
     with Service(["anna"]) as service:
         equal(words_with(service, ALL), ["serve", *OF_THE_UNIT, *MANY, *FIXED, "anna", "ben", "--lanes", "8", "--quota", "1000000"])
         equal(words_with(service, OF_BEFORE), ["serve", *OF_THE_UNIT, *OLD, *FIXED, "--boxes", "/etc/lmtpd.boxes"])
+        crlf = "\ufeff# a comment\r\nHOST=one.example\r\nHOST=mx.example\r\nBOXES=anna\r\nOPTIONS=\"--lanes 8\"\r\n"
+        equal(words_with(service, crlf)[2:4], ["--host", "mx.example"])
+        equal(words_of(service)[-3:], ["anna", "--lanes", "8"])
+        said = "a word stands twice, and the last one counts key=HOST file=/etc/lmtpd.conf line=3"
+        equal([line for line in service.lines("warning") if line == said], [said])
         for text, line in REFUSED:
             CONF.write_text(f"BOXES=anna\n{text}\n")
             service.restart(may_fail=True)
