@@ -23,6 +23,31 @@ systemctl restart postfix
 
 @case
 @in_a_machine()
+def the_service_behind_postfix(_folder):
+    """Postfix by the typed lines of 'Postfix' and then of 'A second domain', as it runs: letters to both domains, one
+    that is nearly as large as both limits, one above Postfix's, and one for a name that there isn't"""
+    with Service(NAMES) as service:
+        type_lines("systemctl start postfix")
+        type_lines(lines_of("SETUP.md", "## Postfix"))
+        send("anna@mx.example")
+        equal(subjects(service, "anna", 1), ["anna@mx.example"])
+        type_lines(lines_of("SETUP.md", "### A second domain") + "systemctl start lmtpd\n")
+        send("anna@two.example", "ben@two.example", subject="two")
+        equal(subjects(service, "anna", 2), ["anna@mx.example", "two"])
+        equal(subjects(service, "ben", 1), ["two"])
+        line = f"{'x' * 70}\n"
+        send("ben@mx.example", text=line * (24_900_000 // len(line)))
+        equal(subjects(service, "ben", 2), ["ben@mx.example", "two"])
+        large = f"Subject: large\n\n{line * (25_100_000 // len(line))}"
+        refused = subprocess.run(["sendmail", "anna@mx.example"], input=large.encode(), capture_output=True)
+        assert b"too big" in refused.stderr, refused
+        send("carla@mx.example")
+        wait_for(r"to=<carla@mx\.example>.* status=bounced .*[Uu]ser unknown")
+        equal("status=deferred" in log(), False)
+
+
+@case
+@in_a_machine()
 def aliases(_folder):
     """Postfix by the typed lines of 'Aliases': two domains in which info isn't the same user's, a catch-all and
     postmaster"""
@@ -122,8 +147,8 @@ def utf8_through_postfix(_folder):
         equal("bounced" in log(), False)
 
 
-for one in [aliases, users_of_the_system, recipients_of_letters, letters_as_written, utf8_through_postfix]:
-    one.seconds = 180
+for one in [the_service_behind_postfix, aliases, users_of_the_system, recipients_of_letters, letters_as_written, utf8_through_postfix]:
+    one.seconds = 240
 
 
 def send(*addresses, subject=None, text="hello\n", more=()):
