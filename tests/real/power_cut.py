@@ -1,7 +1,6 @@
 """What a disk holds of the mailboxes when the power goes."""
 
 import contextlib
-import os
 import pathlib
 import random
 import shutil
@@ -20,31 +19,43 @@ from told_letters import judge
 ROUNDS = 20
 MOST_SECONDS = 20  # until each mailbox has a letter of this round, and until a server stands still
 SIZE = 64 * 1024 * 1024
+XFS_SIZE = 320 * 1024 * 1024  # mkfs.xfs makes none below 300 MiB
 
 
 @case
 def power_cut(folder):
     """the power goes twenty times: git, Python and Dovecot find each letter that was told 250, once and whole, in what
-    the disk had been given by then and the next server went on with"""
+    the disk had been given by then and the next server went on with, at once, whatever lock files were left"""
     need_root()
+    cut(folder, SIZE, program("mkfs.ext4", "e2fsprogs"), "-q", "-F", "-b", "4096")
+
+
+@case
+def power_cut_on_xfs(folder):
+    """the power goes twenty times, on xfs"""
+    need_root()
+    cut(folder, XFS_SIZE, program("mkfs.xfs", "xfsprogs"), "-q", "-f")
+
+
+power_cut.seconds = power_cut_on_xfs.seconds = 480
+
+
+def cut(folder, size, *formatting):
     chance = random.Random(2)
     told = {name: [] for name in BOXES}
     disk, copy = folder / "disk", folder / "copy"
     with disk.open("wb") as file:
-        file.truncate(SIZE)
-    subprocess.run([program("mkfs.ext4", "e2fsprogs"), "-q", "-F", disk], check=True)
+        file.truncate(size)
+    subprocess.run([*formatting, disk], check=True)
     for number in range(ROUNDS):
         with mounted(disk, folder / "mail") as mail:
             run_until_the_cut(mail, disk, copy, told, number, chance.uniform(0.1, 0.4))
         # what was written to the files and not to the disk is gone
         copy.rename(disk)
         with mounted(disk, folder / "mail") as mail:
-            let_go_of_locks(mail)
+            equal([lock.name for lock in mail.glob("*.lock") if not lock.stat().st_size], [])
             deliver_after(mail, told, number)
             judge({name: (mail / f"{name}.mbox").read_bytes() for name in BOXES}, told, unwritten=True)
-
-
-power_cut.seconds = 480
 
 
 def run_until_the_cut(mail, disk, copy, told, load, seconds):
@@ -74,13 +85,6 @@ def stop(process):
 def states_of(process):
     tasks = pathlib.Path(f"/proc/{process.pid}/task").glob("*/stat")
     return {task.read_text().rpartition(")")[2].split()[0] for task in tasks}
-
-
-def let_go_of_locks(mail):
-    """The text of a lock file isn't synced, so that an empty one may be left, which goes by its age: it is as if the
-    machine had been away for longer than that."""
-    for lock in mail.glob("*.lock"):
-        os.utime(lock, times=(0, 0))
 
 
 def deliver_after(mail, told, number):

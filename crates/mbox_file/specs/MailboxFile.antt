@@ -26,6 +26,8 @@ pub record FileState : Type 0 where
   pub is_named : Bool
   -- how often what the path names was opened anew
   pub openings : ℕ
+  -- how often that couldn't be opened
+  pub unopened : ℕ
   -- how often a call that asks for a turn wasn't granted
   pub refusals : ℕ
   -- how often the lock file couldn't be removed
@@ -88,6 +90,12 @@ pub record HasNotLockedRange (old new : FileState) : Type 0 where
 pub record HasReopened (old new : FileState) : Type 0 where
   pub same : IsSharedSince (record old { has_range_lock = false; openings = new.openings }) new
   pub opened : Rises old.openings new.openings
+
+-- what the path names couldn't be opened, and the old file stays open
+pub record HasNotReopened (old new : FileState) : Type 0 where
+  pub same : new ≡ record old { refusals = new.refusals; unopened = new.unopened }
+  pub refused : Rises old.refusals new.refusals
+  pub unopened : Rises old.unopened new.unopened
 
 -- it changed nothing, and wasn't granted
 pub record HasRefused (old new : FileState) : Type 0 where

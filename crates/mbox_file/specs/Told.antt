@@ -17,6 +17,7 @@ at_start = record {
   has_range_lock = false;
   is_named = false;
   openings = 0;
+  unopened = 0;
   refusals = 0;
   unremoved = 0;
   moments = [];
@@ -45,6 +46,7 @@ after old step.Named = record old { is_named = true }
 after old step.NotNamed = record old { is_named = false; refusals = old.refusals + 1 }
 after old step.Refused = record old { refusals = old.refusals + 1 }
 after old step.Reopened = record old { has_range_lock = false; is_named = false; openings = old.openings + 1 }
+after old step.NotReopened = record old { refusals = old.refusals + 1; unopened = old.unopened + 1 }
 after old (step.Measured size last) = record old { bytes = bytes_ending size last.now; kept = 0 }
 after old (step.Holds bytes) = record old { bytes = bytes.now; kept = length bytes.now }
 after old (step.Wrote bytes) = record old {

@@ -1,9 +1,9 @@
 //! The file under a spool, as a trait, so that a test can stand in for it and a proof can speak of it.
 ghost use Rattle.std.specs.Prelude.{◌≡◌, [], true, false, IfOk, OnOk, OnErr};
 ghost use Rattle.mbox_file.specs.MailboxFile.{FileState, HasMadeLockFile, HasNotMadeLockFile, HasRemovedLockFile};
-ghost use Rattle.mbox_file.specs.MailboxFile.{HasLockedRange, HasNotLockedRange, HasReopened, HasRefused, HasLooked};
-ghost use Rattle.mbox_file.specs.MailboxFile.{HasMeasured, HasAppended, HasNotAppended, KeepsFile, FailsToKeep, HasCut};
-ghost use Rattle.mbox_file.specs.MailboxFile.{HasNotCut, IsHeld};
+ghost use Rattle.mbox_file.specs.MailboxFile.{HasLockedRange, HasNotLockedRange, HasReopened, HasNotReopened};
+ghost use Rattle.mbox_file.specs.MailboxFile.{HasRefused, HasLooked, HasMeasured, HasAppended, HasNotAppended};
+ghost use Rattle.mbox_file.specs.MailboxFile.{KeepsFile, FailsToKeep, HasCut, HasNotCut, IsHeld};
 
 use crate::file::FileEnd;
 use mbox_spool::InUse;
@@ -43,7 +43,7 @@ pub trait MailboxFile {
     /// Opens what the path names, or makes it. Where that fails the old file stays open.
     fn reopen(&mut self) -> Result<(), InUse>
         ensures ok { OnOk result (HasReopened (state self.old) (state self.new)) }
-        ensures err { OnErr result (HasRefused (state self.old) (state self.new)) };
+        ensures err { OnErr result (HasNotReopened (state self.old) (state self.new)) };
 
     /// How long the open file is, and how it ends.
     fn end(&mut self) -> Result<FileEnd, InUse>

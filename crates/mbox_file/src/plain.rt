@@ -79,8 +79,8 @@ pub(crate) fn open_plain<R: Files>(
     })
 }
 
-// False: the path names nothing.
-fn names_plain<R: Files>(rt: &R, path: &str, taken: Taken) -> Result<bool, InUse> {
+/// Whether the path names a plain file that is taken. False: it names nothing.
+pub(crate) fn names_plain<R: Files>(rt: &R, path: &str, taken: Taken) -> Result<bool, InUse> {
     match fs::symlink_metadata(rt, path) {
         Ok(found) if taken.is_plain(&found) => Ok(true),
         Ok(_) => Err(InUse::NotPlain),

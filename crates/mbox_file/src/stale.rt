@@ -1,28 +1,76 @@
 //! Lock files that nobody has: their process is gone, or they are older than any turn.
 use crate::plain::node_of;
-use mbox_locks::{holder_of, is_left_behind, since_boot};
+use mbox_locks::{age_at, holder_of, is_left_behind, is_opened, since_boot};
 use std::fs::{Files, Metadata, OpenFile, OpenOptions};
 use std::io;
 use std::io::Read;
 use std::os::unix::fs::MetadataExt;
-use std::time::Clock;
+use std::time::{Clock, Duration};
 
 /// Room for the text of a lock file; one that fills it names nobody.
 const TEXT_SIZE: usize = 320;
 
+/// How long opening and reading a lock file may take, in seconds.
+const SLOW_SECONDS: u64 = 1;
+
+/// For how many seconds after one that took longer no lock file of another user is looked at.
+const CAUTION_SECONDS: u64 = 600;
+
+/// Since when lock files of other users aren't looked at: the owner of a file may have its opening wait.
+#[derive(Clone, Copy, Debug)]
+pub(crate) struct Caution {
+    since: Option<Duration>,
+}
+
+impl Caution {
+    /// They are looked at.
+    pub fn none() -> Caution {
+        Caution { since: None }
+    }
+
+    // A clock that tells no time ends nothing.
+    fn is_on<R: Clock>(&self, rt: &R) -> bool {
+        match (self.since, rt.monotonic()) {
+            (None, _) => false,
+            (Some(since), Ok(now)) => now.saturating_sub(since).as_secs() < CAUTION_SECONDS,
+            (Some(_), Err(_)) => true,
+        }
+    }
+
+    // After a lock file that was opened and read between these two times.
+    fn note(&mut self, began: io::Result<Duration>, ended: io::Result<Duration>) {
+        if let (Ok(began), Ok(ended)) = (began, ended) {
+            if ended.saturating_sub(began) > Duration::from_secs(SLOW_SECONDS) {
+                self.since = Some(ended);
+            }
+        }
+    }
+}
+
 /// Whether the lock file that was found at this path is left behind, where the one who asks, of that text, has none.
+/// With caution another user's isn't.
 pub(crate) fn is_stale<R: Files + Clock>(
     rt: &R,
     lock_path: &str,
     found: &Metadata,
     owner: &str,
+    caution: &mut Caution,
 ) -> bool {
-    let mut bytes = [0; TEXT_SIZE];
-    let n = read_text(rt, lock_path, found, &mut bytes);
-    let text = if n < TEXT_SIZE { &bytes[..n] } else { &[] };
     let is_own_user = found.uid() == libc::geteuid();
+    let age = age_of(rt, found);
+    let mut bytes = [0; TEXT_SIZE];
+    let mut n = 0;
+    if is_opened(is_own_user, age) && (is_own_user || !caution.is_on(rt)) {
+        let began = rt.monotonic();
+        n = read_text(rt, lock_path, found, &mut bytes);
+        caution.note(began, rt.monotonic());
+    }
+    if !is_own_user && caution.is_on(rt) {
+        return false;
+    }
+    let text = if n < TEXT_SIZE { &bytes[..n] } else { &[] };
     let holder = holder_of(str::from_utf8(text).unwrap_or(""), owner, is_own_user);
-    is_left_behind(holder, age_of(rt, found), since_boot())
+    is_left_behind(holder, age, since_boot())
 }
 
 // How many bytes were read of the lock file, as far as there is room. What is no plain file isn't opened, since that
@@ -62,6 +110,7 @@ fn age_of<R: Clock>(rt: &R, found: &Metadata) -> u64 {
     let Ok(now) = rt.since_1970() else {
         return 0;
     };
-    let touched = u64::try_from(found.mtime()).unwrap_or(0);
-    now.as_secs().saturating_sub(touched)
+    let modified = u64::try_from(found.mtime()).unwrap_or(0);
+    let changed = u64::try_from(found.ctime()).unwrap_or(0);
+    age_at(now.as_secs(), modified, changed)
 }

@@ -82,6 +82,12 @@ where
         })
     }
 
+    /// Looks at what the path names, which is never opened, and whether the folder can be read. An error says why no
+    /// turn can be had there.
+    pub fn look(&self) -> io::Result<()> {
+        self.system.look().map_err(error_of)
+    }
+
     // Removes the lock file, if it is its own.
     fn remove_own(&mut self) -> Result<(), InUse>
         ensures ok { OnOk result (self.new.told.state ≡ after self.old.told.state LockFileRemoved) }
@@ -174,7 +180,7 @@ where
                 Ok(())
             }
             Err(in_use) => {
-                self.told.add(Step::Refused);
+                self.told.add(Step::NotReopened);
                 Err(in_use)
             }
         }

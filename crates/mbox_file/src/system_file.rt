@@ -1,7 +1,7 @@
 //! A mailbox's file in the file system, beside its lock file: what the system is asked, and what it answers.
 //!
-//! A lock file is linked from one that is made at the start and stays, `PATH.source.lock`: to make a file and write to
-//! it for each turn takes ten times as long. Where there can be no link it is made.
+//! A lock file is linked from one that is made at the first turn and stays, `PATH.source.lock`: to make a file and
+//! write to it for each turn takes ten times as long. Where there can be no link it is made.
 ghost use Rattle.std.specs.Prelude.{◌≡◌, ◌≤◌, IfOk, OnOk, length, take};
 ghost use Rattle.std.specs.Io.{ReadsAtMost};
 ghost use Rattle.std.specs.Io.KnownBytes.{Appends, ReadConsumes};
@@ -9,12 +9,13 @@ ghost use Rattle.std.specs.Prelude.{string_bytes};
 ghost use Rattle.mbox_file.specs.SystemFile.{known_of};
 ghost use Rattle.mbox_file.specs.Told.{IsEndBy};
 
-use crate::file::{FileEnd, read_end, sync_folder};
+use crate::file::{FileEnd, open_folder, read_end, sync_folder};
 use crate::lock_file::{Held, LockSource};
 use crate::plain::{
-    Node, OpenNode, Taken, is_same, node_of, open_plain, remove_node, remove_open, system_fault,
+    Node, OpenNode, Taken, is_same, names_plain, node_of, open_plain, remove_node, remove_open,
+    system_fault,
 };
-use crate::stale::is_stale;
+use crate::stale::{Caution, is_stale};
 use mail_world::limits::TAIL_SIZE;
 use mbox_locks::{LockKind, RangeLock, Writeback, owner_text};
 use mbox_spool::InUse;
@@ -40,6 +41,9 @@ pub(crate) struct SystemFile<R: Files + Clock + Drop> {
     owner: String,
     source_path: String,
     source: Option<LockSource<R::File>>,
+    // lock files are linked from one that stays, which no turn has tried to make yet
+    awaits_source: bool,
+    caution: Caution,
     lock_file: Held<R::File>,
 }
 
@@ -56,6 +60,8 @@ impl<R: Files + Clock + Drop> Drop for SystemFile<R> {
             owner: _,
             source_path,
             source,
+            awaits_source: _,
+            caution: _,
             lock_file: _,
         } = self;
         if let Some(source) = source {
@@ -82,9 +88,18 @@ where
             owner: owner_text(alloc)?,
             source_path: format!(in alloc; "{path}.source.lock")?,
             source: None,
+            awaits_source: matches!(taken, Taken::Own(_)),
+            caution: Caution::none(),
             lock_file: Held::No,
             rt,
         })
+    }
+
+    /// Whether what the path names is a plain file or nothing, in a folder that can be read.
+    pub fn look(&self) -> Result<(), InUse> {
+        let path = self.path.as_str();
+        names_plain(&self.rt, path, self.taken)?;
+        open_folder(&self.rt, path).map_err(system_fault)
     }
 
     fn open_node(&self) -> Option<Node> {
@@ -102,25 +117,45 @@ where
         }
     }
 
-    // Whether lock files are linked from one that stays.
-    fn has_source(&self) -> bool {
-        matches!(self.taken, Taken::Own(_))
-    }
-
-    // Makes the file that lock files are linked from. One that was left behind goes; where a server has one there is
-    // none for this one.
-    fn make_source(&self) -> io::Result<LockSource<R::File>> {
-        match fs::symlink_metadata(&self.rt, self.source_path.as_str()) {
-            Ok(found) if self.is_left(self.source_path.as_str(), &found) => {
-                remove_node(&self.rt, self.source_path.as_str(), node_of(&found))?;
+    // Makes the file that lock files are linked from, at the first turn that has the mailbox's open. One that was left
+    // behind goes; where a server has one, or it can't be made, there is none for this one.
+    fn have_source(&mut self) {
+        if self.awaits_source && self.open.is_some() {
+            self.awaits_source = false;
+            if self.remove_left_source().is_ok() {
+                self.source = self.make_source().ok();
             }
-            _ => {}
         }
-        Ok(LockSource::of(self.make_file(self.source_path.as_str())?))
     }
 
-    fn is_left(&self, path: &str, found: &Metadata) -> bool {
-        is_stale(&self.rt, path, found, self.owner.as_str())
+    fn remove_left_source(&mut self) -> io::Result<()> {
+        let Ok(found) = fs::symlink_metadata(&self.rt, self.source_path.as_str()) else {
+            return Ok(());
+        };
+        let path = self.source_path.as_str();
+        if is_stale(
+            &self.rt,
+            path,
+            &found,
+            self.owner.as_str(),
+            &mut self.caution,
+        ) {
+            remove_node(&self.rt, self.source_path.as_str(), node_of(&found))?;
+        }
+        Ok(())
+    }
+
+    // What it says is kept through a crash before anything is linked from it, since a lock file that says nothing has to
+    // grow old.
+    fn make_source(&self) -> io::Result<LockSource<R::File>> {
+        let made = self.make_file(self.source_path.as_str())?;
+        match made.file.sync_data() {
+            Ok(()) => Ok(LockSource::of(made)),
+            Err(error) => {
+                remove_open(&self.rt, self.source_path.as_str(), &made.file);
+                Err(error)
+            }
+        }
     }
 
     // Makes a file that says whose it is. Where that can't be written there is none afterwards.
@@ -182,6 +217,7 @@ where
 
     // Makes the lock file, unless there is one.
     fn make_first(&mut self) -> Result<bool, InUse> {
+        self.have_source();
         if let Some(is_linked) = self.link_lock_file() {
             return Ok(is_linked);
         }
@@ -253,12 +289,8 @@ where
         let named = open_plain(&self.rt, self.path.as_str(), self.taken)?;
         // it is compared while both are open, since a closed file's number may be given again
         let is_same = self.open_node() == Some(named.node);
-        let is_first = self.open.is_none();
         self.is_folder_synced = self.is_folder_synced && is_same;
         self.open = Some(named);
-        if is_first && self.has_source() {
-            self.source = self.make_source().ok();
-        }
         Ok(())
     }
 
@@ -298,7 +330,14 @@ where
             Err(error) if error.kind() == ErrorKind::NotFound => return Ok(true),
             Err(error) => return Err(system_fault(error)),
         };
-        if !self.is_left(self.lock_path.as_str(), &found) {
+        let path = self.lock_path.as_str();
+        if !is_stale(
+            &self.rt,
+            path,
+            &found,
+            self.owner.as_str(),
+            &mut self.caution,
+        ) {
             return Ok(false);
         }
         if !self.names_open()? {

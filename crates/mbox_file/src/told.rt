@@ -22,6 +22,7 @@ pub(crate) enum Step<'a> {
     /// What was asked for a turn wasn't granted, and nothing changed.
     Refused,
     Reopened,
+    NotReopened,
     /// The file has that many bytes, of which these are the last.
     Measured(u64, &'a [u8]),
     /// One in memory has these bytes, all of them kept.

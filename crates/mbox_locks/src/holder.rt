@@ -1,6 +1,6 @@
 //! Whom a lock file names, and when it is left behind.
 ghost use Rattle.std.specs.Prelude.{◌≡◌, ℕ, None, IfSome};
-ghost use Rattle.mbox_locks.specs.Holder.{NamesProcess, holder_here, is_left};
+ghost use Rattle.mbox_locks.specs.Holder.{NamesProcess, age_at, holder_here, is_left, is_opened};
 
 /// A lock file that is older is left behind, unless a process of this host has it.
 const STALE_SECONDS: u64 = 300;
@@ -48,6 +48,23 @@ pub fn is_left_behind(holder: Holder, age: u64, since_boot: u64) -> bool
         Holder::Alive => age > STALE_SECONDS && age > since_boot,
         Holder::Nobody => true,
     }
+}
+
+/// Whether a lock file of that age is opened, for what it says. Another user's isn't before its age alone says that it
+/// stays: who owns a file may have its opening wait.
+pub fn is_opened(is_own_user: bool, age: u64) -> bool
+    ensures { result ≡ is_opened is_own_user age }
+{
+    is_own_user || age > STALE_SECONDS
+}
+
+/// How many seconds old a lock file is, by the time that it was given and by the one at which the system changed it,
+/// all in seconds since 1970. A time ahead of now is no age: then the other counts.
+pub fn age_at(now: u64, modified: u64, changed: u64) -> u64
+    ensures { result ≡ age_at now modified changed }
+{
+    let touched = if modified > now { changed } else { modified };
+    now.saturating_sub(touched)
 }
 
 /// What a lock file says: a process, and its host, which is empty where it names none.

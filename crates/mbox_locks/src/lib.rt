@@ -12,7 +12,7 @@ mod range_lock;
 mod writeback;
 
 pub use file_lock::FileLock;
-pub use holder::{Holder, Named, is_left_behind};
+pub use holder::{Holder, Named, age_at, is_left_behind, is_opened};
 pub use process::{holder_of, owner_text, since_boot};
 pub use range_lock::{LockKind, RangeLock};
 pub use writeback::Writeback;
