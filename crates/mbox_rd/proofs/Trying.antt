@@ -25,6 +25,7 @@ between-start s = record {
   unremoved = omega arith;
   refusals = omega arith;
   openings = omega arith;
+  unopened = omega arith;
   untouched = record { cut_off = refl; moments = refl; faults = refl };
 }
 
@@ -34,6 +35,7 @@ between-missed s t u x y = record {
   unremoved = omega (arith, x.unremoved, y.free.no_fewer);
   refusals = omega (arith, x.refusals, no_fewer t.refusals u.refusals y.refused);
   openings = omega (arith, x.openings, y.openings);
+  unopened = omega (arith, x.unopened, y.unopened);
   untouched = untouched-then s t u x.untouched y.untouched;
 }
 
@@ -63,6 +65,7 @@ missed-then s t u x y = record {
   free = free-then s t u x.unremoved y.free;
   refused = Rises-from s.refusals t.refusals u.refusals x.refusals y.refused;
   openings = omega (arith, x.openings, y.openings);
+  unopened = omega (arith, x.unopened, y.unopened);
   untouched = untouched-then s t u x.untouched y.untouched;
 }
 

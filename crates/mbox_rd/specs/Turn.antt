@@ -1,7 +1,9 @@
 -- How a turn at a spool's file begins and ends.
-use Rattle.std.specs.Prelude.{◌≡◌, ◌⊎◌, ℕ, ◌≤◌, Bool, true, false, [], length, take, min, Option, Some, None}
+use Rattle.std.specs.Prelude.{◌≡◌, ◌⊎◌, ℕ, ℤ, pos, ◌≤◌, Bool, true, false, [], length, take, min, Option, Some, None, ⊤}
 use Rattle.mail_world.specs.Failures.{Rises}
 use Rattle.mbox_file.specs.declared.file.FileEnd.{FileEnd}
+use Rattle.mbox_spool.specs.declared.spool.InUse.{InUse}
+use Rattle.mbox_spool.specs.declared.spool.InUse.TheVariants as in_use
 use Rattle.mbox_file.specs.MailboxFile.{FileState, IsSharedSince, LeavesNoLockFile, HasFoundAnother, IsEnd}
 
 -- nothing of it was written, kept or cut
@@ -26,7 +28,57 @@ pub record HasMissed (old new : FileState) : Type 0 where
   pub free : LeavesNoLockFile old new
   pub refused : Rises old.refusals new.refusals
   pub openings : old.openings ≤ new.openings
+  pub unopened : old.unopened ≤ new.unopened
   pub untouched : IsUntouched old new
+
+-- What the path names was opened, or couldn't be. The lock file stays as it is.
+pub record HasTriedToOpen (old new : FileState) : Type 0 where
+  pub same : IsSharedSince (record old {
+    has_range_lock = new.has_range_lock;
+    openings = new.openings;
+    unopened = new.unopened;
+    refusals = new.refusals;
+  }) new
+  pub range_lock : old.has_range_lock ≡ false → new.has_range_lock ≡ false
+  pub refusals : old.refusals ≤ new.refusals
+  pub openings : old.openings ≤ new.openings
+  pub unopened : old.unopened ≤ new.unopened
+  pub tried : Rises old.openings new.openings ⊎ Rises old.unopened new.unopened
+
+-- what is opened for the next try after one that was refused so: after the system's word alone
+abbrev pub OpensFor : FileState → FileState → InUse → Type 0
+OpensFor old new (in_use.System code) = HasTriedToOpen old new
+OpensFor old new in_use.Locked = new ≡ old
+OpensFor old new in_use.Failed = new ≡ old
+OpensFor old new in_use.NotPlain = new ≡ old
+
+-- The system's numbers for a folder that takes no lock file: rights, a file system that is only read, no room (EPERM,
+-- EACCES, ENOSPC, EROFS, EDQUOT). They say nothing of the open file.
+abbrev pub IsOfFolder : ℤ → Type 0
+IsOfFolder code = (code ≡ pos 1) ⊎ (code ≡ pos 13) ⊎ (code ≡ pos 28) ⊎ (code ≡ pos 30) ⊎ (code ≡ pos 122)
+
+-- it is the system's word, with such a number
+abbrev pub IfSystem : InUse → (ℤ → Type 0) → Type 0
+IfSystem (in_use.System code) P = P code
+IfSystem in_use.Locked P = ⊥
+IfSystem in_use.Failed P = ⊥
+IfSystem in_use.NotPlain P = ⊥
+
+-- A turn was missed for that reason. Where it is the system's word, and none of a folder's, what the path names was
+-- opened then, or couldn't be.
+abbrev pub OpensAfter : FileState → FileState → InUse → Type 0
+OpensAfter old new (in_use.System code) =
+    IsOfFolder code ⊎ Rises old.openings new.openings ⊎ Rises old.unopened new.unopened
+OpensAfter old new in_use.Locked = ⊤
+OpensAfter old new in_use.Failed = ⊤
+OpensAfter old new in_use.NotPlain = ⊤
+
+-- so it is of one try, which opens nothing where others hold a lock
+abbrev pub OpensAfterTry : FileState → FileState → InUse → Type 0
+OpensAfterTry old new (in_use.System code) = OpensAfter old new (in_use.System code)
+OpensAfterTry old new in_use.Locked = new.openings ≡ old.openings
+OpensAfterTry old new in_use.Failed = ⊤
+OpensAfterTry old new in_use.NotPlain = ⊤
 
 -- both locks were taken
 abbrev pub HasTakenLocks : FileState → FileState → Type 0
@@ -77,6 +129,7 @@ pub record IsBetweenTries (old new : FileState) : Type 0 where
   pub unremoved : old.unremoved ≤ new.unremoved
   pub refusals : old.refusals ≤ new.refusals
   pub openings : old.openings ≤ new.openings
+  pub unopened : old.unopened ≤ new.unopened
   pub untouched : IsUntouched old new
 
 -- only that many of the first bytes are left, and a crash leaves them

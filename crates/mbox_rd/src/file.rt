@@ -129,7 +129,7 @@ impl<F: MailboxFile + Drop, C: Clock + Drop> FileSpool<F, C> {
 
 impl<F: MailboxFile + Drop, C: Clock + Drop> FileSpool<F, C> {
     ghost use Rattle.mbox_file.specs.MailboxFile.{IsEnd};
-    ghost use Rattle.mbox_rd.specs.Turn.{HasBegun, HasMissed, StaysThere};
+    ghost use Rattle.mbox_rd.specs.Turn.{HasBegun, HasMissed, StaysThere, OpensAfter};
     ghost use Rattle.mbox_rd.specs.FileSpool.{StartsTurn, CountsRefusal, failed_again};
 
     // Why a call is refused that the file isn't asked for: it is in no turn in which none failed, or else what was cut
@@ -165,9 +165,25 @@ impl<F: MailboxFile + Drop, C: Clock + Drop> FileSpool<F, C> {
         ensures anew { self.old.has_failed ≡ true
             → OnOk result (Rises (F.state self.old.file).openings (F.state self.new.file).openings) }
         ensures err { OnErr result (HasMissed (F.state self.old.file) (F.state self.new.file)) }
+        ensures opened { IfErr result (OpensAfter (F.state self.old.file) (F.state self.new.file)) }
+    {
+        let tries = self.patience.tries(&self.clock, self.wait);
+        let answer = self.try_for_turn(tries);
+        self.patience.end_wait(&self.clock);
+        answer
+    }
+
+    // Tries for a turn that often.
+    fn try_for_turn(&mut self, tries: u64) -> Result<FileEnd, InUse>
+        requires free { self.old.in_turn ≡ false }
+        ensures same { self.new ≡ record self.old { file = self.new.file } }
+        ensures ok { IfOk result (HasBegun (F.state self.old.file) (F.state self.new.file)) }
+        ensures anew { self.old.has_failed ≡ true
+            → OnOk result (Rises (F.state self.old.file).openings (F.state self.new.file).openings) }
+        ensures err { OnErr result (HasMissed (F.state self.old.file) (F.state self.new.file)) }
+        ensures opened { IfErr result (OpensAfter (F.state self.old.file) (F.state self.new.file)) }
     {
         open_anew(&mut self.file, self.has_failed)?;
-        let tries = self.patience.tries(&self.clock, self.wait);
         wait_for_turn(&mut self.file, &self.clock, &mut self.patience, tries)
     }
 
@@ -209,7 +225,6 @@ impl<F: MailboxFile + Drop, C: Clock + Drop> FileSpool<F, C> {
         self.in_turn = true;
         self.has_failed = false;
         self.is_unsynced = false;
-        self.patience.was_missed = false;
         let begun = Turns::after::<Brand, F>(&self.turns, &self.file, self.failures);
         self.turns = begun;
     }
@@ -231,7 +246,7 @@ impl<F: MailboxFile + Drop, C: Clock + Drop> Spool for FileSpool<F, C> {
     ghost use Rattle.mbox_rd.specs.FileSpool.{HasTaken, KeepsAll, StaysSound, Breaks, HasLost, failed_again};
     ghost use Rattle.mbox_rd.specs.FileSpool.{AddsLines, KnowsEnd, contents_of, state_of};
     ghost use Rattle.mbox_rd.specs.Moments.{AnyMoment, Stores};
-    ghost use Rattle.mbox_rd.specs.Turn.{HasMissed};
+    ghost use Rattle.mbox_rd.specs.Turn.{HasMissed, OpensAfter};
 
     ghost state = { λ s. state_of F.state s };
 
@@ -240,9 +255,10 @@ impl<F: MailboxFile + Drop, C: Clock + Drop> Spool for FileSpool<F, C> {
     ghost MayRefuse = { λ broke refused. ⊤ };
 
     /// Waits for programs that have the mailbox locked, as far as what may be waited within a minute isn't used up, and
-    /// after a missed turn not at all. After a turn that broke, what the path names is opened again first; and what was
-    /// cut off is kept so where that is owed, or else this turn's first append and sync fail. In a turn it is refused,
-    /// and the turn goes on.
+    /// for a minute after a missed turn not at all. After a turn that broke, what the path names is opened again first;
+    /// where the system refuses a lock, or a look at the open file, it is opened for the next turn. What was cut off is
+    /// kept so where that is owed, or else this turn's first append and sync fail. In a turn it is refused, and the turn
+    /// goes on.
     fn lock(&mut self) -> Result<u64, InUse>
         ensures within { self.old.in_turn ≡ true → (result ≡ Err InUse.Locked) × (self.new.file ≡ self.old.file) }
         ensures starts { OnOk result (StartsTurn F.state self.old self.new) }
@@ -256,6 +272,8 @@ impl<F: MailboxFile + Drop, C: Clock + Drop> Spool for FileSpool<F, C> {
         ensures refused { OnErr result (CountsRefusal self.old self.new) }
         ensures not_had { self.old.in_turn ≡ false
             → OnErr result (HasMissed (F.state self.old.file) (F.state self.new.file)) }
+        ensures opened { self.old.in_turn ≡ false
+            → IfErr result (OpensAfter (F.state self.old.file) (F.state self.new.file)) }
 
         // what every spool ensures
         ensures asks { AsksForTurn (⟦<FileSpool<F, C> as Spool>⟧.state self.old)
@@ -271,7 +289,7 @@ impl<F: MailboxFile + Drop, C: Clock + Drop> Spool for FileSpool<F, C> {
                 Ok(end.at)
             }
             Err(in_use) => {
-                self.patience.was_missed = true;
+                self.patience.miss(&self.clock);
                 self.refuse(in_use)
             }
         }

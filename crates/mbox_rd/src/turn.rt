@@ -1,10 +1,11 @@
 //! How a turn at a mailbox's file begins and ends: both locks are taken, on the file that the path names, and its end
 //! is looked at again; what is to be cut is cut while both are held.
-ghost use Rattle.std.specs.Prelude.{◌≡◌, [], true, false, IfOk, OnOk, OnErr};
+ghost use Rattle.std.specs.Prelude.{◌≡◌, [], true, false, IfOk, IfErr, OnOk, OnErr};
 ghost use Rattle.mail_world.specs.Failures.{Rises};
 ghost use Rattle.mbox_file.specs.MailboxFile.{IsHeld};
 ghost use Rattle.mbox_rd.specs.Turn.{HasBegun, HasMissed, HasTried, HasSeen, HasNotSeen, HasTakenLocks, HasLetGo};
-ghost use Rattle.mbox_rd.specs.Turn.{HasCutBack, HasEndedTurn, IsBetweenTries};
+ghost use Rattle.mbox_rd.specs.Turn.{HasCutBack, HasEndedTurn, IsBetweenTries, OpensFor, OpensAfter, OpensAfterTry};
+ghost use Rattle.mbox_rd.specs.Turn.{IfSystem, IsOfFolder};
 ghost use Rattle.mbox_rd.specs.Moments.{LeavesInTurn};
 
 use crate::patience::Patience;
@@ -15,6 +16,16 @@ use std::time::Clock;
 /// How many files are looked at in one try, where the path names another one each time.
 const OPENINGS: usize = 4;
 
+const EPERM: i32 = 1;
+
+const EACCES: i32 = 13;
+
+const ENOSPC: i32 = 28;
+
+const EROFS: i32 = 30;
+
+const EDQUOT: i32 = 122;
+
 /// Takes both locks as a turn does, on the file that the path names. Other programs that have one are waited for, that
 /// many seconds in all and 3,600 at most.
 pub fn hold_locks<F: MailboxFile, C: Clock>(
@@ -24,6 +35,7 @@ pub fn hold_locks<F: MailboxFile, C: Clock>(
 ) -> Result<FileEnd, InUse>
     ensures ok { IfOk result (HasBegun (F.state file.old) (F.state file.new)) }
     ensures err { OnErr result (HasMissed (F.state file.old) (F.state file.new)) }
+    ensures opened { IfErr result (OpensAfter (F.state file.old) (F.state file.new)) }
 {
     let mut patience = Patience::new();
     let tries = patience.tries(clock, seconds);
@@ -36,6 +48,7 @@ pub(crate) fn open_anew<F: MailboxFile>(file: &mut F, is_asked: bool) -> Result<
     ensures ok { OnOk result (IsBetweenTries (F.state file.old) (F.state file.new)) }
     ensures anew { is_asked ≡ true → OnOk result (Rises (F.state file.old).openings (F.state file.new).openings) }
     ensures err { OnErr result (HasMissed (F.state file.old) (F.state file.new)) }
+    ensures opened { IfErr result (OpensAfter (F.state file.old) (F.state file.new)) }
 {
     if !is_asked {
         return Ok(());
@@ -49,7 +62,8 @@ pub(crate) fn open_anew<F: MailboxFile>(file: &mut F, is_asked: bool) -> Result<
     }
 }
 
-/// Tries for a turn that often, and pauses after each try that others' locks were in the way of, but the last.
+/// Tries for a turn that often, and pauses after each try that others' locks were in the way of, but the last, as long
+/// as there is time.
 pub(crate) fn wait_for_turn<F: MailboxFile, C: Clock>(
     file: &mut F,
     clock: &C,
@@ -58,11 +72,12 @@ pub(crate) fn wait_for_turn<F: MailboxFile, C: Clock>(
 ) -> Result<FileEnd, InUse>
     ensures ok { IfOk result (HasBegun (F.state file.old) (F.state file.new)) }
     ensures err { OnErr result (HasMissed (F.state file.old) (F.state file.new)) }
+    ensures opened { IfErr result (OpensAfter (F.state file.old) (F.state file.new)) }
 {
     for pauses in 1..tries {
         match begin_turn(file) {
             Ok(end) => return Ok(end),
-            Err(InUse::Locked) => patience.pause(clock, pauses),
+            Err(InUse::Locked) if patience.pause(clock, pauses) => {}
             Err(in_use) => return Err(in_use),
         }
     }
@@ -73,6 +88,7 @@ pub(crate) fn wait_for_turn<F: MailboxFile, C: Clock>(
 fn begin_turn<F: MailboxFile>(file: &mut F) -> Result<FileEnd, InUse>
     ensures ok { IfOk result (HasBegun (F.state file.old) (F.state file.new)) }
     ensures err { OnErr result (HasMissed (F.state file.old) (F.state file.new)) }
+    ensures opened { IfErr result (OpensAfter (F.state file.old) (F.state file.new)) }
 {
     for _ in 1..OPENINGS {
         if let Some(end) = begin_or_reopen(file)? {
@@ -86,10 +102,12 @@ fn begin_turn<F: MailboxFile>(file: &mut F) -> Result<FileEnd, InUse>
 }
 
 // With both locks it is seen whether they are on the file that the path names. None: they weren't, and were given
-// back, and that file is open now.
+// back, and that file is open now. Where the system refuses a lock, or the look, the open file may be why: what the
+// path names is opened for the next try.
 fn begin_or_reopen<F: MailboxFile>(file: &mut F) -> Result<Option<FileEnd>, InUse>
     ensures ok { IfOk result (HasTried (F.state file.old) (F.state file.new)) }
     ensures err { OnErr result (HasMissed (F.state file.old) (F.state file.new)) }
+    ensures opened { IfErr result (OpensAfterTry (F.state file.old) (F.state file.new)) }
 {
     take_locks(file)?;
     match own_end(file) {
@@ -101,6 +119,7 @@ fn begin_or_reopen<F: MailboxFile>(file: &mut F) -> Result<Option<FileEnd>, InUs
         }
         Err(in_use) => {
             let_go(file);
+            open_for_next(file, in_use);
             Err(in_use)
         }
     }
@@ -112,15 +131,48 @@ fn begin_or_reopen<F: MailboxFile>(file: &mut F) -> Result<Option<FileEnd>, InUs
 fn take_locks<F: MailboxFile>(file: &mut F) -> Result<(), InUse>
     ensures ok { OnOk result (HasTakenLocks (F.state file.old) (F.state file.new)) }
     ensures err { OnErr result (HasMissed (F.state file.old) (F.state file.new)) }
+    ensures opened { IfErr result (OpensAfterTry (F.state file.old) (F.state file.new)) }
 {
-    file.try_lock_file()?;
+    if let Err(in_use) = file.try_lock_file() {
+        if !is_of_folder(in_use) {
+            open_for_next(file, in_use);
+        }
+        return Err(in_use);
+    }
     match file.try_range_lock() {
         Ok(()) => Ok(()),
         Err(in_use) => {
             file.remove_lock_file();
+            open_for_next(file, in_use);
             Err(in_use)
         }
     }
+}
+
+// Opens what the path names, where the system refused something: the open file may have gone bad.
+fn open_for_next<F: MailboxFile>(file: &mut F, in_use: InUse)
+    ensures { OpensFor (F.state file.old) (F.state file.new) in_use }
+{
+    if let InUse::System(_) = in_use {
+        let _ = file.reopen();
+    }
+}
+
+// Whether the folder takes no lock file, which says nothing of the open file: there is no right to it or no room, or
+// its file system is only read.
+fn is_of_folder(in_use: InUse) -> bool
+    ensures { result ≡ true → IfSystem in_use IsOfFolder }
+{
+    match in_use {
+        InUse::System(code) => is_folders(code),
+        _ => false,
+    }
+}
+
+fn is_folders(code: i32) -> bool
+    ensures { result ≡ true → IsOfFolder code }
+{
+    code == EPERM || code == EACCES || code == ENOSPC || code == EROFS || code == EDQUOT
 }
 
 // The open file's end, if the path names it.
