@@ -21,7 +21,7 @@
 #   power_cut (copies of its disk), read_only (a mailbox on a file system of its own, which goes read-only),
 #   torn_writes_read (a library that ends it within a write);
 # - those of what the unit never does: a Unix socket that the server makes itself (hundred_restarts), a server that is
-#   root (mailbox_of_user).
+#   root (mailbox_of_user), a folder of the case's own as /var/mail (lease_in_var_mail).
 # usage: tests/real/run.sh [NAME..]: the cases whose text has one of these words, or all. LMTPD names a program that
 # is built already.
 set -euo pipefail

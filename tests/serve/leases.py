@@ -6,8 +6,9 @@ import signal
 import time
 
 from cases import case, equal
-from clients import Client
+from clients import Client, deliver_one
 from neighbours import ANNA, Senders, Site, done_by, need_undisturbed, seconds_of_letters
+from replies import stored
 from restarts import SECONDS_TO_END, asked_to_stop, ended_in_time
 
 WITHIN = 5  # seconds, in which a server listens beside leases
@@ -77,7 +78,7 @@ def leases_at_the_start(folder):
     with done_by(ANNA, hold_leases, *(site.mail / name for name in NAMES)), site.serve() as server:
         took = time.monotonic() - began
         assert server.first.startswith("listening on ") and took < WITHIN, f"it listened after {took:.1f} s"
-        need_undisturbed(seconds_of_letters(server.address, "ben", 1))
+        equal(deliver_one(server.address, ["ben"], "hello"), [stored("ben")])
 
 
 @case
