@@ -44,6 +44,14 @@ impl Taken {
         metadata.is_file() && metadata.nlink() <= 1 && self.takes_owner(metadata.uid())
     }
 
+    // Where nothing is there.
+    fn is_made(self) -> bool {
+        match self {
+            Taken::Own(_) => true,
+            Taken::Anybodys => false,
+        }
+    }
+
     fn takes_owner(self, uid: u32) -> bool {
         match self {
             Taken::Own(_) => uid == 0 || libc::geteuid() != 0,
@@ -59,15 +67,17 @@ impl Taken {
     }
 }
 
-/// Opens the plain file at that path, or makes it, where that is asked for. A link that leads elsewhere is seen before
-/// it is followed, or, where it was put there meanwhile, by what the path names afterwards: a turn looks at that once
-/// more.
+/// Opens the plain file at that path, or makes it, where that is asked for; else nothing is opened that wasn't seen to
+/// be plain. A link that leads elsewhere is seen before it is followed, or, where it was put there meanwhile, by what
+/// the path names afterwards: a turn looks at that once more.
 pub(crate) fn open_plain<R: Files>(
     rt: &R,
     path: &str,
     taken: Taken,
 ) -> Result<OpenNode<R::File>, InUse> {
-    names_plain(rt, path, taken)?;
+    if !names_plain(rt, path, taken)? && !taken.is_made() {
+        return Err(InUse::System(libc::ENOENT));
+    }
     let file = taken.open(rt, path).map_err(system_fault)?;
     let metadata = file.metadata().map_err(system_fault)?;
     if !taken.is_plain(&metadata) || !names_plain(rt, path, taken)? {
