@@ -9,14 +9,14 @@ from clients import deliver_one
 from packages import program, need_root
 from power_cut import SIZE, mounted
 from replies import not_stored, stored
-from server import Server, run, words
+from server import Server
 
 STORED = [stored("anna"), stored("ben")]
 
 
 @case
 def a_file_system_gone_read_only(folder):
-    """a file system goes read-only: its mailbox is told 451, the other 250; none begins there till it may be written"""
+    """a file system goes read-only: its mailbox is told 451, the other 250, also by a server that begins then"""
     need_root()
     disk, mail = folder / "disk", folder / "mail"
     with disk.open("wb") as file:
@@ -31,13 +31,13 @@ def a_file_system_gone_read_only(folder):
             for text in ["two", "three"]:
                 finals = deliver_one(server.address, ["anna", "ben"], text)
                 equal(finals, [not_stored("anna"), STORED[1]])
-        ended = run(words(mail, ["anna", "ben"], 1))
-        equal(vars(ended), {"status": 1, "said": [], "errors": ["lmtpd: cannot open anna.mbox"]})
+        with Server(mail, ["anna", "ben"], 100) as server:
+            equal(deliver_one(server.address, ["anna", "ben"], "then"), [not_stored("anna"), STORED[1]])
     with mounted(disk, folder / "other") as other, in_place_of(mail / "anna.mbox", other / "anna.mbox"):
         with Server(mail, ["anna", "ben"], 100) as server:
             equal(deliver_one(server.address, ["anna", "ben"], "four"), STORED)
             equal(letters.messages(server.mailbox("anna")), [b"one\n", b"four\n"])
-            equal(letters.messages(server.mailbox("ben")), [b"one\n", b"two\n", b"three\n", b"four\n"])
+            equal(letters.messages(server.mailbox("ben")), [b"one\n", b"two\n", b"three\n", b"then\n", b"four\n"])
 
 
 @contextlib.contextmanager

@@ -2,6 +2,7 @@
 
 import concurrent.futures
 import fcntl
+import shutil
 import time
 
 import letters
@@ -28,6 +29,9 @@ def a_reader_holds_for_good(_folder):
     """a reader holds anna's range lock for good: her first letter is told 451 after ten seconds, the next ones at once,
     ben's are stored at once meanwhile; 250 once it lets go, a line with their count, and status 0"""
     with Service(["anna", "ben"]) as service, Client(service.address).greet() as client:
+        # the server makes none before its first letter
+        service.mailbox("anna").touch()
+        shutil.chown(service.mailbox("anna"), "lmtpd", "lmtpd")
         with service.mailbox("anna").open("r+b") as held, concurrent.futures.ThreadPoolExecutor(1) as pool:
             fcntl.lockf(held, fcntl.LOCK_EX)
             beside = pool.submit(deliver_to_ben, service.address)

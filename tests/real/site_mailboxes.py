@@ -86,7 +86,8 @@ def one_mailbox_holds_up_its_own_mail_alone(folder):
             equal(there.run("printf 'Subject: two\n\nhello\n' | sendmail anna@mx.example ben@mx.example")[0], 0)
             # the letter of the ten lines is anna's
             wait_until(there, checked(anna=number + 2), f"lmtpd check {FOLDER}/anna.mbox")
-            wait_until(there, f"{number + 1}\n", "journalctl -u lmtpd --no-pager | grep -c 'cannot open mailbox=ben '")
+            lines = "journalctl -u lmtpd --no-pager | grep -c 'mailbox in use mailbox=ben '"
+            wait_until(there, f"{number + 1}\n", lines)
             process = there.run("systemctl show -p MainPID --value lmtpd")
             there.run(f"cd {FOLDER}; {mend}")
             wait_until(there, checked(ben=number + 1), f"postqueue -f; lmtpd check {FOLDER}/ben.mbox")

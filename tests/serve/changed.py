@@ -242,15 +242,16 @@ def two_servers(folder):
 
 @case
 def the_mode_of_a_file_that_is_made(folder):
-    """--mailbox-mode: a mailbox that is made, at the start and in a turn, has just that mode, and 0600 without the
-    word; one that is there keeps its own"""
+    """--mailbox-mode: a mailbox that is made, at its first letter and at a later one, has just that mode, and 0600
+    without the word; one that is there keeps its own"""
     for given, mode in [([], 0o600), (["--mailbox-mode", "0660"], 0o660), (["--mailbox-mode", "640"], 0o640)]:
         place = folder / oct(mode)
         place.mkdir()
         (place / "ben.mbox").touch()
         (place / "ben.mbox").chmod(0o644)
         hidden = {"preexec_fn": lambda: os.umask(0o077)}
-        with Server(place, ["anna", "ben"], 1, "--lanes", 1, *given, **hidden) as server:
+        with Server(place, ["anna", "ben"], 2, "--lanes", 1, *given, **hidden) as server:
+            equal(deliver_one(server.address, ["anna"], "hello"), [stored("anna")])
             modes = [mode_of(server.mailbox("anna"))]
             server.mailbox("anna").unlink()
             equal(deliver_one(server.address, ["anna", "ben"], "hello"), [stored("anna"), stored("ben")])

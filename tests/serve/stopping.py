@@ -140,7 +140,7 @@ def nobody_is_taken_after_it(folder):
 def a_wait_for_a_lock_goes_on(folder):
     """a copy that waits for a mailbox is stored where that is unlocked within five seconds of the stop"""
     with stoppable(folder, "--lock-wait", 60) as server, Client(server.address) as client:
-        with open(server.mailbox("anna"), "rb+") as held:
+        with open(server.mailbox("anna"), "ab") as held:
             fcntl.lockf(held, fcntl.LOCK_EX)
             client.greet().start_message("anna", "hello")
             client.send(".")
@@ -159,7 +159,7 @@ def a_wait_for_a_lock_goes_on(folder):
 def a_wait_for_a_lock_has_its_end(folder):
     """a copy that waits for a mailbox which another program has locked is told 451 five seconds after the stop"""
     with stoppable(folder, "--lock-wait", 60) as server, Client(server.address) as client:
-        with open(server.mailbox("anna"), "rb+") as held:
+        with open(server.mailbox("anna"), "ab") as held:
             fcntl.lockf(held, fcntl.LOCK_EX)
             client.greet().start_message("anna", "hello")
             client.send(".")

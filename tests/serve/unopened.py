@@ -79,7 +79,13 @@ def starts_anyway(folder, break_file, mend, reason, **how):
     logged = f"[ERROR lmtpd] cannot open mailbox=anna reason={reason}"
     given = words(folder, ["anna", "ben"], 1, "--lanes", 1, "--log", "error")
     equal(run_with(given, **how), {"status": 1, "said": [], "errors": [logged, REFUSED]})
-    with Server(folder, ["anna", "ben"], 1, "--lanes", 1, "--log", "error", ANYWAY, **how) as server:
+    serves_meanwhile(folder, mend, reason, [logged], ANYWAY, **how)
+
+
+def serves_meanwhile(folder, mend, reason, logged, *more, **how):
+    """A server starts, after it logged that. Each copy for anna is told 451 and the other mailbox's 250, `in use`
+    counts them, and the first turn that finds anna's mailbox in order stores."""
+    with Server(folder, ["anna", "ben"], 1, "--lanes", 1, "--log", "error", *more, **how) as server:
         with Client(server.address).greet() as client:
             for _ in range(2):
                 equal(client.deliver(["anna", "ben"], "one")[1], [not_stored("anna"), stored("ben")])
@@ -90,7 +96,7 @@ def starts_anyway(folder, break_file, mend, reason, **how):
             client.quit()
         ended = vars(server.end())
     in_use = f"[ERROR lmtpd] mailbox in use mailbox=anna reason={reason}"
-    errors = [logged, in_use, "[ERROR lmtpd] mailbox free again mailbox=anna", "lmtpd: anna in use 2"]
+    errors = [*logged, in_use, "[ERROR lmtpd] mailbox free again mailbox=anna", "lmtpd: anna in use 2"]
     equal(ended, {"status": 0, "said": ["anna stored 2", "ben stored 4"], "errors": errors})
     equal(letters.messages(folder / "anna.mbox"), [b"two\n"] * 2)
     equal(letters.messages(folder / "ben.mbox"), [b"one\n"] * 2 + [b"two\n"] * 2)
@@ -120,12 +126,30 @@ def as_nobody(folder):
 
 
 @case
-def no_right_is_no_hindrance(folder):
-    """--start-anyway, as a user who isn't root: a mailbox of mode 0000 is told 451, the other one 250, and 250 once it
-    may be read and written; without the word cannot open, status 1"""
-    place = folder / "mail"
-    place.mkdir()
-    starts_anyway(place, no_right, give_right, PERMISSION_DENIED, **as_nobody(place))
+def a_missing_right_is_a_missed_turn(folder):
+    """as a user who isn't root, with --start-anyway and without: no mailbox is opened at the start, so that one of mode
+    0000 is told 451 at its turns, the other one 250, and 250 once it may be read and written"""
+    for more in [], [ANYWAY]:
+        place = folder / f"mail{len(more)}"
+        place.mkdir()
+        how = as_nobody(place)
+        no_right(place / "anna.mbox")
+        serves_meanwhile(place, give_right, PERMISSION_DENIED, [], *more, **how)
+
+
+@case
+def nothing_is_made_before_a_letter(folder):
+    """a server starts and ends without a letter: its folder is empty, as it was, also as the mailboxes that are there
+    are"""
+    (folder / "ben.mbox").write_bytes(b"From a\n\n")
+    before = (folder / "ben.mbox").stat()
+    with Server(folder, ["anna", "ben"], 1, "--lanes", 1) as server:
+        with Client(server.address).greet() as client:
+            client.quit()
+        equal([path.name for path in folder.iterdir()], ["ben.mbox"])
+        equal(server.end().status, 0)
+    equal([path.name for path in folder.iterdir()], ["ben.mbox"])
+    equal((folder / "ben.mbox").stat().st_atime_ns, before.st_atime_ns)
 
 
 @case

@@ -41,9 +41,10 @@ pub struct Access<'a> {
     pub anyway: bool,
 }
 
-/// Opens the file of each mailbox, `FOLDER/NAME` and the suffix, in their order, up to the first that can't be opened,
-/// of which the log says why. With `anyway` it goes on after such a one, whose turns are missed until its file is in
-/// order; only a folder that can't be read ends it. Each has a log of its own, which was told of no turn yet.
+/// Looks at the file of each mailbox, `FOLDER/NAME` and the suffix, in their order, up to the first that shows as one
+/// that can't be opened, of which the log says why. None is opened or made before a turn. With `anyway` it goes on after
+/// such a one, whose turns are missed until its file is in order; only a folder that can't be read ends it. Each has a
+/// log of its own, which was told of no turn yet.
 pub fn open_mailboxes<'a, R, G>(
     rt: R,
     alloc: Global,
@@ -97,7 +98,7 @@ where
     Ok(Watched { inner, observer })
 }
 
-// What can't be opened, and is had all the same, is opened by the first turn that can.
+// It is looked at and not opened, since the owner of a file may have that wait: the first turn opens it, or makes it.
 fn open_file<'a, R: Files + Clock + Copy + Drop, G: Log>(
     rt: R,
     alloc: Global,
@@ -116,14 +117,14 @@ where
         Err(_) => return Err(Stop::Fault(Fault::Memory)),
     };
     let path = path.as_str();
-    match StdMailboxFile::open(rt, alloc, path, access.mode) {
-        Ok(file) => return Ok(file),
-        Err(reason) => allow_unopened(&rt, access, name, reason, log)?,
+    let file = match StdMailboxFile::unopened(rt, alloc, path, access.mode) {
+        Ok(file) => file,
+        Err(_) => return Err(Stop::Fault(Fault::Memory)),
+    };
+    if let Err(reason) = file.look() {
+        allow_unopened(&rt, access, name, reason, log)?;
     }
-    match StdMailboxFile::unopened(rt, alloc, path, access.mode) {
-        Ok(file) => Ok(file),
-        Err(_) => Err(Stop::Fault(Fault::Memory)),
-    }
+    Ok(file)
 }
 
 // Where the mailbox of that name is.
