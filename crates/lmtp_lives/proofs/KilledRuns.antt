@@ -1,5 +1,5 @@
 -- A run that is killed within a record, and another after it.
-use Rattle.std.proofs.Common.{◌≡◌, ℕ, zero, suc, ◌+◌, ◌<◌, ◌≤◌, List, [], ◌∷◌, ◌++◌, length, map, false, Some, None}
+use Rattle.std.proofs.Common.{◌≡◌, ℕ, zero, suc, ◌+◌, ◌<◌, ◌≤◌, List, [], ◌∷◌, ◌++◌, length, map, true, false, Some, None}
 use Rattle.std.proofs.Common.{refl, sym, ap, ◌∙◌, subst, inl, inr, lit<, lit≤, arith, append-nil, take-append-drop}
 use Rattle.std.specs.Prelude.{slice_get, count_by, flat_map, take, drop, codes, ⊤}
 use Rattle.std.specs.declared.io.ErrorKind.TheVariants as kinds
