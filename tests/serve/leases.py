@@ -34,37 +34,22 @@ def hold_leases(*paths):
         time.sleep(0.0005)
 
 
-def hold_a_lease_on_another(folder):
-    """Puts another file in the place of anna's mailbox, with a lease on it."""
-    os.umask(0)
-    other, path = folder / "other", folder / "anna.mbox"
-    os.close(os.open(other, os.O_CREAT | os.O_WRONLY, 0o660))
-    for _ in hold_leases(other):
-        other.rename(path)
-        yield
+def letters_beside_a_lease(folder, *words):
+    """What another user's letters take while four clients send letters to one with a lease on his lock file, once a
+    letter of his was put off."""
+    site = Site(folder)
+    with site.serve(*words) as server:
+        lock = site.put("anna.mbox.lock", ANNA, b"1", 0o666)
+        with done_by(ANNA, hold_leases, lock), Senders(server.address, ["anna"]) as senders:
+            senders.wait_until_put_off()
+            return seconds_of_letters(server.address, "ben")
 
 
 @case
 def lease_on_a_lock_file(folder):
-    """a user holds a lease on his lock file, and four clients send him letters: another user's letters go on, 0.1 s in
-    the middle and 1 s at most, once a letter of his was put off"""
-    site = Site(folder)
-    with site.serve() as server:
-        lock = site.put("anna.mbox.lock", ANNA, b"1", 0o666)
-        with done_by(ANNA, hold_leases, lock), Senders(server.address, ["anna"]) as senders:
-            senders.wait_until_put_off()
-            need_undisturbed(seconds_of_letters(server.address, "ben"))
-
-
-@case
-def lease_on_a_mailbox(folder):
-    """a user puts a file with a lease in the place of his mailbox, and four clients send him letters: another user's
-    letters go on, 0.1 s in the middle and 1 s at most, once a letter of his was put off"""
-    site = Site(folder)
-    with site.serve("--lanes", 4) as server:
-        with done_by(ANNA, hold_a_lease_on_another, site.mail), Senders(server.address, ["anna"]) as senders:
-            senders.wait_until_put_off()
-            need_undisturbed(seconds_of_letters(server.address, "ben"))
+    """a user holds a lease on his lock file, four clients send him letters, and a turn waits for a second: another
+    user's letters go on, 0.1 s in the middle and 1 s at most, once a letter of his was put off"""
+    need_undisturbed(letters_beside_a_lease(folder, "--lock-wait", 1))
 
 
 @case

@@ -1,5 +1,6 @@
 """All cases of this folder, for tests/serve.sh."""
 
+import os
 import sys
 
 import accepts  # noqa: F401  (each adds its cases)
@@ -18,7 +19,6 @@ import largest  # noqa: F401
 import leases  # noqa: F401
 import limits  # noqa: F401
 import lock_texts  # noqa: F401
-import lockers  # noqa: F401
 import logs  # noqa: F401
 import neighbour_files  # noqa: F401
 import no_descriptors  # noqa: F401
@@ -36,5 +36,8 @@ import torn_writes  # noqa: F401
 import unopened  # noqa: F401
 import written  # noqa: F401
 from cases import run_all
+
+if os.environ.get("HELD_UP"):
+    import held_up  # noqa: F401
 
 sys.exit(0 if run_all(sys.argv[1:]) else 1)
