@@ -48,6 +48,9 @@ PLACED := sed 's|@PREFIX@|$(PREFIX)|g'
 install:
 	@[ -x $(PROGRAM) ] || { echo 'make install: no proved program is built yet (make build)' >&2; exit 1; }
 	install -D -m 0755 $(PROGRAM) $(DESTDIR)$(PREFIX)/sbin/lmtpd
+	$(PLACED) packaging/lmtpd.run > $(DESTDIR)$(PREFIX)/sbin/lmtpd-run
+	chmod 0755 $(DESTDIR)$(PREFIX)/sbin/lmtpd-run
+	install -m 0755 packaging/lmtpd.metrics $(DESTDIR)$(PREFIX)/sbin/lmtpd-metrics
 	install -d $(DESTDIR)$(PREFIX)/share/man/man8
 	gzip -9n < packaging/lmtpd.8 > $(DESTDIR)$(PREFIX)/share/man/man8/lmtpd.8.gz
 	chmod 0644 $(DESTDIR)$(PREFIX)/share/man/man8/lmtpd.8.gz
@@ -67,6 +70,10 @@ install:
 	    $(PLACED) packaging/lmtpd.$$kind > $(UNITS)/lmtpd.$$kind || exit 1; \
 	    sed -f packaging/instances.sed packaging/lmtpd.$$kind | $(PLACED) > $(UNITS)/lmtpd@.$$kind || exit 1; \
 	    chmod 0644 $(UNITS)/lmtpd.$$kind $(UNITS)/lmtpd@.$$kind || exit 1; \
+	done
+	for kind in timer service; do \
+	    $(PLACED) packaging/lmtpd-metrics.$$kind > $(UNITS)/lmtpd-metrics.$$kind || exit 1; \
+	    chmod 0644 $(UNITS)/lmtpd-metrics.$$kind || exit 1; \
 	done
 	[ -e $(DESTDIR)$(CONF) ] || install -D -m 0644 packaging/lmtpd.conf $(DESTDIR)$(CONF)
 	[ -e $(DESTDIR)$(BOXES) ] || install -D -m 0644 packaging/lmtpd.boxes $(DESTDIR)$(BOXES)

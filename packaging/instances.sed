@@ -5,6 +5,7 @@ s|lmtpd\.socket|lmtpd@%i.socket|g
 s|^Description=.*|& (%i)|
 s|^ListenStream=.*|&-%i|
 s|^RuntimeDirectory=.*|&-%i|
+s|^SyslogIdentifier=.*|&@%i|
 s|/run/lmtpd/|/run/lmtpd-%i/|g
 /^EnvironmentFile=/a\
 EnvironmentFile=@PREFIX@/lib/lmtpd/instance.conf\

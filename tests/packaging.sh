@@ -1,7 +1,8 @@
 #!/usr/bin/env bash
 # The manual page, what bash completes and what `--help` says name the same words; the page's numbers are those of the
 # help; `make install` puts each file in its place, with a unit that names what begins the program, which hands each
-# word of the service on as it stands. The installed pages lead to pages and headings that are there. Where root runs it
+# word of the service on as it stands, and refuses what isn't understood in its files. What runs the server in a
+# container stops it in order. What counts the log counts each line of a made-up journal once. The installed pages lead to pages and headings that are there. Where root runs it
 # and `systemd-tmpfiles` is there, the folder of the mailboxes is made, and one that is there stays as it is. What looks
 # at leases before the service begins says its line where they are on and others may write the folder. Where
 # `systemd-analyze` and `groff` are there, they must find nothing wrong with unit and page. Where Debian's dpkg-dev is,
@@ -13,4 +14,5 @@ cd "$(dirname "$0")/.."
 . tests/needs bash gzip make python3
 . tests/built_program
 python3 -B tests/packaging/run.py
+python3 -B tests/packaging/metrics.py
 exec python3 -B tests/packaging/deb.py

@@ -49,6 +49,9 @@ mkdir -p "$root/DEBIAN" "$room/debian" "$root/usr/share/doc/lmtpd"
 
 make -s install DESTDIR="$root" PREFIX=/usr PROGRAM="$program"
 strip --remove-section=.comment --remove-section=.note "$root/usr/sbin/lmtpd"
+# The list of mailboxes is the site's: no part of the package, which makes one where none is.
+install -d "$root/usr/share/lmtpd"
+mv "$root/etc/lmtpd.boxes" "$root/usr/share/lmtpd/lmtpd.boxes"
 cp packaging/debian/control "$room/debian/"
 sed "s/@VERSION@/$version/" packaging/debian/changelog > "$room/debian/changelog"
 gzip -9n < "$room/debian/changelog" > "$root/usr/share/doc/lmtpd/changelog.gz"

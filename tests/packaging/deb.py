@@ -14,7 +14,9 @@ from installed import INSTALLED, said_by
 LMTPD = os.environ["LMTPD"]
 ABSENT = 77  # the status by which the gate counts a script apart
 TOOLS = ["dpkg-deb", "dpkg-shlibdeps", "dpkg-gencontrol", "dpkg-parsechangelog", "strip"]
-FILES = sorted([*INSTALLED, "usr/share/doc/lmtpd/changelog.gz"])
+# The list of mailboxes is no file of the package, which makes it where none is.
+LIST = {"etc/lmtpd.boxes": "usr/share/lmtpd/lmtpd.boxes"}
+FILES = sorted([*(LIST.get(it, it) for it in INSTALLED), "usr/share/doc/lmtpd/changelog.gz"])
 WORDS = {
     "HOST": "mx.example",
     "DOMAINS": "",
@@ -62,7 +64,7 @@ def check_files(package, root, version):
     assert [it for it in found if not it.startswith("DEBIAN/")] == FILES, found
     owners = {line.split()[1] for line in told("dpkg-deb", "-c", str(package)).splitlines()}
     assert owners == {"root/root"}, owners
-    assert (root / "DEBIAN/conffiles").read_text() == "/etc/lmtpd.boxes\n/etc/lmtpd.conf\n"
+    assert (root / "DEBIAN/conffiles").read_text() == "/etc/lmtpd.conf\n"
     assert dict(re.findall(r"^([A-Z_]+)=(.*)$", (root / "etc/lmtpd.conf").read_text(), re.MULTILINE)) == WORDS
     for line in (root / "DEBIAN/md5sums").read_text().splitlines():
         total, path = line.split("  ")

@@ -5,6 +5,7 @@ import os
 import pathlib
 import re
 import shutil
+import signal
 import subprocess
 import sys
 import tempfile
@@ -90,6 +91,8 @@ def check_install(folder):
         "LogRateLimitIntervalSec=1s",
         "LogRateLimitBurst=1000000",
         "SyslogFacility=mail",
+        "SyslogIdentifier=lmtpd",
+        "ExecReload=-+/bin/systemctl --no-block restart %n",
     ]:
         assert line in unit.splitlines(), line
     start = (folder / "usr/lib/lmtpd/start").read_text()
@@ -142,6 +145,7 @@ def check_instances(unit, units):
         "Requires=lmtpd@%i.socket",
         "After=network.target lmtpd@%i.socket",
         "RuntimeDirectory=lmtpd-%i",
+        "SyslogIdentifier=lmtpd@%i",
         "ExecStartPre=/bin/rm -f /run/lmtpd-%i/stop",
         "ExecStartPre=+/usr/lib/lmtpd/leases",
         "EnvironmentFile=/etc/lmtpd.conf",
@@ -179,6 +183,7 @@ STARTED = [
     ({"OPTIONS": " --quota *\t--stop $HOME --reads `id` "}, [*FOLDER, "--quota", "*", "--stop", "$HOME", "--reads", "`id`"]),
     ({"OPTIONS": "--smtputf8 --recipient-delimiter -"}, [*FOLDER, "--smtputf8", "--recipient-delimiter", "-"]),
     ({"BOXES": "/x", "OPTIONS": "--lanes 8"}, [*FOLDER, "--boxes", "/x", "--lanes", "8"]),
+    ({"OPTIONS": "--lanes 8 --no-such-word"}, [*FOLDER, "--lanes", "8", "--no-such-word"]),
     ({"OPTIONS": "--mailbox-suffix= --lanes 8"}, [*FOLDER, "--mailbox-suffix=", "--lanes", "8"]),
     ({"INSTANCE": "a"}, [*FOLDER, "--boxes", "/etc/lmtpd/a.boxes"]),
     ({"INSTANCE": "a", "BOXES": ""}, [*FOLDER, "--boxes", "/etc/lmtpd/a.boxes"]),
@@ -194,7 +199,6 @@ MISTAKEN = {
     "--log-addresses yes --quota 5": "a word that nothing takes key=OPTIONS word=yes",
     "--quota 5 -x": "a word that nothing takes key=OPTIONS word=-x",
     "--quota '5 MB'": "a word that nothing takes key=OPTIONS word=MB'",
-    "--lanes 8 --quota": "a word without its value key=OPTIONS word=--quota",
     "-- anna": "not a word of the service key=OPTIONS word=--",
     "--help": "not a word of the service key=OPTIONS word=--help",
     "--quota 5 <3>\u00e4\a": "a word that nothing takes key=OPTIONS word=<3>???",
@@ -231,11 +235,53 @@ def check_start(folder):
             found = said_for({"HOST": "mx.example", "BOXES": "anna", "OPTIONS": options}, *more)
             assert found == (2, f"keys /etc/lmtpd.conf\n<3>{line}\n"), (options, found)
     assert said_for({"BOXES": "anna"}, status="2") == (2, "keys /etc/lmtpd.conf\n")
+    # of the program's signals HUP, INT, QUIT, USR1, USR2 and ALRM are ignored, and no others
+    (prefix / "sbin/lmtpd").write_text("#!/bin/sh\ngrep SigIgn /proc/self/status\n")
+    ignored = int(said_for({})[1].split()[-1], 16)
+    assert [number for number in range(1, 65) if ignored >> (number - 1) & 1] == [1, 2, 3, 10, 12, 14], ignored
     # the words that have no value are those of the page
     page = pathlib.Path("docs/operating/WORDS.md").read_text()
     [alone] = re.findall("^ALONE='(.*)'$", pathlib.Path(start).read_text(), re.MULTILINE)
     expected = re.findall(r"^\| `(--[a-z0-9-]+)` \|[^|\n]*\| no value \|", page, re.MULTILINE)
     assert len(expected) > 3 and sorted(alone.split()) == sorted(expected), (alone, expected)
+
+
+def check_run(folder):
+    """What runs the server in a container: TERM and INT stop it in order, also before it listens, and else its status
+    is the server's."""
+    folder.mkdir()
+    (folder / "mail").mkdir()
+    start = folder / "lmtpd-run"
+    text = pathlib.Path("packaging/lmtpd.run").read_text()
+    start.write_text(text.replace("@PREFIX@/sbin/lmtpd", LMTPD))
+    words = ["sh", str(start), "--host", "mx.example", "--listen", "127.0.0.1:0", "--dir", str(folder / "mail")]
+    own = dict(os.environ, TMPDIR=str(folder))
+
+    def begun(*more):
+        ends = {"stdout": subprocess.PIPE, "stderr": subprocess.STDOUT, "text": True}
+        return subprocess.Popen([*words, *more, "anna"], env=own, **ends)
+
+    for number in [signal.SIGTERM, signal.SIGINT]:
+        with begun() as running:
+            assert running.stdout.readline().startswith("listening on 127.0.0.1:")
+            for harmless in [signal.SIGHUP, signal.SIGQUIT, signal.SIGUSR1]:
+                running.send_signal(harmless)
+            running.send_signal(number)
+            running.send_signal(number)
+            said = running.communicate(timeout=60)[0]
+            assert (running.returncode, said) == (0, "anna stored 0\n"), (running.returncode, said)
+    for more, status in [(["--no-such-word"], 2), (["--dir", "/none"], 2), (["--boxes", "/none"], 1)]:
+        with begun(*more) as running:
+            assert "listening" not in running.communicate(timeout=60)[0]
+            assert running.returncode == status, (more, running.returncode)
+    # a server that somebody kills
+    with begun() as running:
+        assert running.stdout.readline().startswith("listening on 127.0.0.1:")
+        [child] = pathlib.Path(f"/proc/{running.pid}/task/{running.pid}/children").read_text().split()
+        os.kill(int(child), signal.SIGKILL)
+        running.communicate(timeout=60)
+        assert running.returncode == 128 + signal.SIGKILL, running.returncode
+    assert not list(folder.glob("tmp*")), list(folder.iterdir())
 
 
 # Texts of a file of words, and what is said of each: `!` stands for `<3>`, and so for status 2.
@@ -390,5 +436,6 @@ with tempfile.TemporaryDirectory() as room:
     check_forms(pathlib.Path(room))
     check_map(pathlib.Path(room) / "boxes")
     check_leases(pathlib.Path(room) / "leases")
-print("ok: page, completion, version, unit, words, keys, folder, leases and install")
+    check_run(pathlib.Path(room) / "run")
+print("ok: page, completion, version, unit, words, keys, folder, leases, what runs it in a container, and install")
 sys.exit(0)

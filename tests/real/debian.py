@@ -128,7 +128,8 @@ def letters(between, **counts):
 
 def look_at_purge(there):
     equal(there.run("dpkg -P lmtpd")[0], 0)
-    equal(there.run("find /etc /usr /var/lib/systemd -name '*lmtpd*' | grep -v /share/doc/"), (1, ""))
+    # the list of mailboxes is the site's
+    equal(there.run("find /etc /usr /var/lib -name '*lmtpd*' | grep -v /share/doc/"), (0, "/etc/lmtpd.boxes\n"))
     equal(there.run("systemctl is-active lmtpd.socket lmtpd")[1], "inactive\ninactive\n")
     equal(there.run("stat -c '%U %G %a' /var/mail/lmtpd"), (0, "lmtpd lmtpd 700\n"))
     equal(there.run("grep -c ^hello /var/mail/lmtpd/anna.mbox"), (0, "1\n"))

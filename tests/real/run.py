@@ -3,6 +3,7 @@
 import sys
 
 import all_through_dovecot  # noqa: F401  (each adds its cases)
+import as_other_services  # noqa: F401
 import debian  # noqa: F401
 import disk_full_heals  # noqa: F401
 import dovecot_under_the_unit  # noqa: F401
@@ -10,6 +11,7 @@ import exim_delivers  # noqa: F401
 import file_changed  # noqa: F401
 import five_questions  # noqa: F401
 import hundred_restarts  # noqa: F401
+import instead  # noqa: F401
 import killed_server_lock  # noqa: F401
 import killed_under_load  # noqa: F401
 import lease_in_var_mail  # noqa: F401
@@ -22,6 +24,7 @@ import many_mailboxes  # noqa: F401
 import marks_of_senders  # noqa: F401
 import moved_users  # noqa: F401
 import named_as_users  # noqa: F401
+import numbers_shown  # noqa: F401
 import odd_clients  # noqa: F401
 import opensmtpd_delivers  # noqa: F401
 import other_mailboxes  # noqa: F401

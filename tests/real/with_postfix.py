@@ -2,6 +2,7 @@
 
 import re
 import smtplib
+import socket
 import subprocess
 import time
 
@@ -24,8 +25,8 @@ systemctl restart postfix
 @case
 @in_a_machine()
 def the_service_behind_postfix(_folder):
-    """Postfix by the typed lines of 'Postfix' and then of 'A second domain', as it runs: letters to both domains, one
-    that is nearly as large as both limits, one above Postfix's, and one for a name that there isn't"""
+    """Postfix by the typed lines of 'Postfix' and then of 'A second domain', as it runs: letters to both domains, and
+    one for a name that there isn't; Postfix's limit is large, and below the server's"""
     with Service(NAMES) as service:
         type_lines("systemctl start postfix")
         type_lines(lines_of("SETUP.md", "## Postfix"))
@@ -35,14 +36,14 @@ def the_service_behind_postfix(_folder):
         send("anna@two.example", "ben@two.example", subject="two")
         equal(subjects(service, "anna", 2), ["anna@mx.example", "two"])
         equal(subjects(service, "ben", 1), ["two"])
-        line = f"{'x' * 70}\n"
-        send("ben@mx.example", text=line * (24_900_000 // len(line)))
-        equal(subjects(service, "ben", 2), ["ben@mx.example", "two"])
-        large = f"Subject: large\n\n{line * (25_100_000 // len(line))}"
-        refused = subprocess.run(["sendmail", "anna@mx.example"], input=large.encode(), capture_output=True)
-        assert b"too big" in refused.stderr, refused
-        send("carla@mx.example")
-        wait_for(r"to=<carla@mx\.example>.* status=bounced .*[Uu]ser unknown")
+        # what Postfix lets in the server takes, with the lines that Postfix adds
+        with smtplib.SMTP("127.0.0.1", 25, local_hostname="client.example", timeout=20) as client:
+            client.ehlo()
+            limits = [int(client.esmtp_features["size"]), largest(service)]
+            client.mail("carl@a.example")
+            known = [client.rcpt(f"{name}@two.example")[0] for name in ["anna", "carla"]]
+        equal((limits[0] > 20_000_000, limits[1] - limits[0] > 1_000_000, limits), (True, True, limits))
+        equal(known, [250, 550])
         equal("status=deferred" in log(), False)
 
 
@@ -149,6 +150,15 @@ def utf8_through_postfix(_folder):
 
 for one in [the_service_behind_postfix, aliases, users_of_the_system, recipients_of_letters, letters_as_written, utf8_through_postfix]:
     one.seconds = 240
+
+
+def largest(service):
+    """The bytes that a message may have, as the server offers it."""
+    with socket.socket(socket.AF_UNIX) as stream:
+        stream.connect(service.address)
+        stream.sendall(b"LHLO relay.example\r\nQUIT\r\n")
+        said = stream.makefile("r").read()
+    return int(re.search(r"^250[ -]SIZE (\d+)", said, re.MULTILINE)[1])
 
 
 def send(*addresses, subject=None, text="hello\n", more=()):
