@@ -206,7 +206,8 @@ try 0 none help copy
 try 0 none serve --help
 try 0 none check --help
 try 0 none help serve
-try 0 none check /dev/null
+: > "$folder/empty.mbox"
+try 0 none check "$folder/empty.mbox"
 try 1 none check /nowhere/anna.mbox
 try 0 none "${good[@]}" anna
 try 0 none "${good[@]}" --quota 0 anna
