@@ -111,7 +111,33 @@ def a_list_of_an_earlier_package(_folder):
         equal((change, BOXES.read_bytes(), BOXES.stat().st_mode), (change, text, mode))
 
 
-for each in [signals_that_end_nothing, reloads_that_meet, a_package_that_comes_again, a_list_of_an_earlier_package]:
+@case
+@in_a_machine()
+def an_upgrade_beside_a_mistake(_folder):
+    """an upgrade of the package while /etc/lmtpd.conf has a word that the service doesn't know: it is said, and the
+    server runs on; once it is mended, an upgrade has it begin again"""
+    package = next(pathlib.Path("/root/site").glob("lmtpd_*.deb"))
+    pathlib.Path("/usr/sbin/policy-rc.d").unlink(missing_ok=True)
+    with Service(["anna"]) as service:
+        words, process = CONF.read_text(), service.told("MainPID")
+        CONF.write_text(f"{words}DOMAIN=b.example\n")
+        said = dpkg("-i", package)
+        for text in [f"unknown word key=DOMAIN file={CONF} line=", "goes on with the program of before"]:
+            assert text in said, said
+        equal((service.told("MainPID"), service.told("ActiveState")), (process, "active"))
+        equal(deliver_one(service.address, ["anna"], "hello"), [stored("anna")])
+        CONF.write_text(words)
+        dpkg("-i", package)
+        equal((service.told("MainPID") != process, service.told("ActiveState")), (True, "active"))
+
+
+for each in [
+    signals_that_end_nothing,
+    reloads_that_meet,
+    a_package_that_comes_again,
+    a_list_of_an_earlier_package,
+    an_upgrade_beside_a_mistake,
+]:
     each.seconds = 240
 
 
@@ -131,6 +157,7 @@ def made_earlier(package):
 def dpkg(*words):
     said = subprocess.run(["dpkg", *map(str, words)], stdout=subprocess.PIPE, stderr=subprocess.STDOUT, text=True)
     equal((words, said.returncode, said.stdout if said.returncode else ""), (words, 0, ""))
+    return said.stdout
 
 
 def states(*services):

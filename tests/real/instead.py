@@ -30,8 +30,8 @@ def site():
 @case
 @in_a_machine(*NEEDS, ("sievec", "dovecot-sieve"))
 def some_users_by_dovecot(_folder):
-    """the typed lines of 'Some users by Dovecot': one user's letters go through Dovecot's LMTP, into the folder that his
-    Sieve says, the others' into their mailboxes"""
+    """the typed lines of 'Some users by Dovecot': one user's letters go through Dovecot's LMTP, into the folder that
+    his Sieve says, the others' into their mailboxes"""
     with Service(NAMES) as service:
         site()
         type_lines(f"useradd --create-home ben\n{CERTIFICATE}")
@@ -56,7 +56,7 @@ def forwarding(_folder):
     with Service(NAMES) as service:
         site()
         # the other site, which keeps what comes for it
-        type_lines("postconf -e relay_domains=else.example 'transport_maps=inline:{else.example=retry:elsewhere}'; touch /etc/postfix/virtual")
+        type_lines("postconf -e relay_domains=else.example 'transport_maps=inline:{else.example=retry:elsewhere}'")
         type_lines(lines_of(PAGE, "## Forwarding"))
         send("anna@mx.example", "ben@mx.example", subject="one")
         equal(subjects(service, "anna", 1), ["one"])
@@ -68,9 +68,9 @@ def forwarding(_folder):
 @case
 @in_a_machine()
 def users_of_the_system(_folder):
-    """the typed lines of 'Users of the system's list' and 'One list of users': a new user of the system has mail, a name
-    that can't be used changes nothing; Postfix refuses at its door whom the server doesn't know, and a new one once it
-    asked again"""
+    """the typed lines of 'Users of the system's list' and 'One list of users': a new user of the system has mail, a
+    name that can't be used changes nothing; Postfix refuses at its door whom the server doesn't know, and a new one
+    until it asked again"""
     with Service(NAMES) as service:
         service.set("BOXES", BOXES)
         service.set("OPTIONS")
@@ -99,8 +99,8 @@ def users_of_the_system(_folder):
 @case
 @in_a_machine()
 def snapshots_by_hard_links(_folder):
-    """a snapshot of the installed service's mailboxes by cp -al: each letter is told 451 until it is gone, and none is in
-    it that came later"""
+    """a snapshot of the installed service's mailboxes by cp -al: each letter is told 451 until it is gone, and none is
+    in it that came later"""
     with Service(NAMES) as service:
         equal(deliver_one(service.address, NAMES, "before"), [stored(name) for name in NAMES])
         type_lines(f"cp -al {FOLDER} {FOLDER}.snapshot")

@@ -1,15 +1,18 @@
 """The journal of the service as it is installed, under journald's own limits: each line is there, at facility mail."""
 
 import concurrent.futures
+import pathlib
 import re
 import subprocess
+import time
 
 from cases import case, equal
 from clients import Client
 from in_a_machine import in_a_machine
 from replies import stored
-from service import Service
+from service import Service, systemctl
 
+UNIT = "/usr/lib/systemd/system/lmtpd.service"
 LETTERS = 45_000
 NAMES = ["anna", "ben", "carla", "dora"]  # a client and a lane for each
 COPY = re.compile(r"\[INFO  lmtpd\] copy answered id=(\S+) mailbox=(\w+) outcome=stored code=250 ")
@@ -33,6 +36,27 @@ def each_letter_has_a_line(_folder):
 
 
 each_letter_has_a_line.seconds = 420
+
+
+@case
+@in_a_machine(("rsyslogd", "rsyslog"))
+def a_syslog_beside_it(_folder):
+    """45,000 lines in a burst, as the unit logs, and rsyslog beside journald: the journal has each, /var/log/mail.log
+    has no more than that"""
+    log = pathlib.Path("/var/log/mail.log")
+    given = [f"-p{line}" for line in pathlib.Path(UNIT).read_text().splitlines() if line.startswith(("Log", "Syslog"))]
+    systemctl("start", "syslog.socket", "rsyslog")
+    lines = ["seq", "-f", "copy answered id=%.0f", str(LETTERS)]
+    subprocess.run(["systemd-run", "--quiet", "--wait", "--unit=burst", *given, *lines], check=True)
+    subprocess.run(["journalctl", "--sync"], check=True)
+    time.sleep(5)
+    kept = subprocess.run(["journalctl", "-u", "burst", "-o", "cat", "--no-pager"], capture_output=True, text=True)
+    counts = [len(re.findall(r"copy answered id=\d", text)) for text in [kept.stdout, log.read_text()]]
+    equal((counts[0], counts[1] <= LETTERS, counts[1] > 0), (LETTERS, True, True))
+    print(f"of {LETTERS} lines {counts[1]} in {log}", end="; ")
+
+
+a_syslog_beside_it.seconds = 180
 
 
 def deliver(address, name, count):

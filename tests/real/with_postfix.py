@@ -148,7 +148,14 @@ def utf8_through_postfix(_folder):
         equal("bounced" in log(), False)
 
 
-for one in [the_service_behind_postfix, aliases, users_of_the_system, recipients_of_letters, letters_as_written, utf8_through_postfix]:
+for one in [
+    the_service_behind_postfix,
+    aliases,
+    users_of_the_system,
+    recipients_of_letters,
+    letters_as_written,
+    utf8_through_postfix,
+]:
     one.seconds = 240
 
 
