@@ -126,6 +126,14 @@ def lines_of(said):
     return lines, bool(lines and re.match(r"\d+ passed, \d+ failed", lines[-1]))
 
 
+def wait_for_a_crate(said):
+    """Waits until `rt ci` has come to its first crate: before that it looks at each folder, and refuses a copy's."""
+    lines, has_ended = lines_of(said)
+    while not has_ended and not any(re.match(r"rt: \w+ (proved|is kept)", line) for line in lines):
+        time.sleep(0.5)
+        lines, has_ended = lines_of(said)
+
+
 def are_proved(names, said):
     """Waits until `rt ci`, which says so in the file, has proved these crates; false where it ends first."""
     left, has_ended = set(names), False
@@ -194,6 +202,8 @@ def main(root, jobs, words):
     turns, more = threading.Semaphore(jobs), max(0, os.cpu_count() - jobs)
     if said and more:
         threading.Thread(target=give_turns, args=(turns, more, said), daemon=True).start()
+    if said:
+        wait_for_a_crate(said)
     with tempfile.TemporaryDirectory(prefix=".trying-", dir=root) as folder:
         with concurrent.futures.ThreadPoolExecutor(jobs + more) as pool:
             room = pathlib.Path(folder)
