@@ -72,7 +72,7 @@ class Killer:
             with Client(server.address).greet() as client:
                 if told:
                     equal(client.deliver_at_once(names, *told)[1], [stored(name) for name in names])
-                before = [path.read_bytes() for path in paths]
+                before = [path.read_bytes() if path.exists() else b"" for path in paths]
                 for path, old, (_, place) in zip(paths, before, boxes, strict=True):
                     path.with_name(f"{path.name}.cut").write_text(str(len(old) + place))
                 client.send("MAIL FROM:<carl@a.example>", *(f"RCPT TO:<{name}@mx.example>" for name in names), "DATA")

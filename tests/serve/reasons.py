@@ -57,7 +57,7 @@ def a_mailbox_in_use_is_logged(folder):
 
 @contextlib.contextmanager
 def made_a_folder(path):
-    path.unlink()
+    path.unlink(missing_ok=True)  # its first letter makes it
     path.mkdir()
     yield
     path.rmdir()

@@ -50,7 +50,8 @@ def the_lock_file_of_a_file_without_suffix(folder):
         finals = deliver_one(server.address, ["anna", "ben"], "hello")
         equal(finals, [not_stored("anna"), stored("ben")])
         equal(server.end().status, 0)
-    equal([(folder / name).read_text() for name in ["anna", "anna.mbox", "anna.lock"]], ["", "", ""])
+    equal([(folder / name).read_text() for name in ["anna.mbox", "anna.lock"]], ["", ""])
+    equal((folder / "anna").exists(), False)  # its first letter would make it
     equal(letters.messages(folder / "ben"), [b"hello\n"])
 
 
