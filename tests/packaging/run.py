@@ -205,6 +205,12 @@ MISTAKEN = {
 }
 
 
+def signals_in(line):
+    """The numbers of the signals in a line of /proc/PID/status."""
+    mask = int(line.split()[-1], 16)
+    return {number for number in range(1, 65) if mask >> (number - 1) & 1}
+
+
 def check_start(folder):
     """What begins the server hands each word on as it stands, and none that is empty; it begins nothing where a file of
     words or OPTIONS isn't understood."""
@@ -235,10 +241,11 @@ def check_start(folder):
             found = said_for({"HOST": "mx.example", "BOXES": "anna", "OPTIONS": options}, *more)
             assert found == (2, f"keys /etc/lmtpd.conf\n<3>{line}\n"), (options, found)
     assert said_for({"BOXES": "anna"}, status="2") == (2, "keys /etc/lmtpd.conf\n")
-    # of the program's signals HUP, INT, QUIT, USR1, USR2 and ALRM are ignored, and no others
-    (prefix / "sbin/lmtpd").write_text("#!/bin/sh\ngrep SigIgn /proc/self/status\n")
-    ignored = int(said_for({})[1].split()[-1], 16)
-    assert [number for number in range(1, 65) if ignored >> (number - 1) & 1] == [1, 2, 3, 10, 12, 14], ignored
+    # of the program's signals HUP, INT, QUIT, USR1, USR2 and ALRM are ignored, and else those that were before
+    asks = ["grep", "SigIgn", "/proc/self/status"]
+    (prefix / "sbin/lmtpd").write_text(f"#!/bin/sh\n{' '.join(asks)}\n")
+    before = signals_in(subprocess.run(asks, capture_output=True, text=True, check=True).stdout)
+    assert signals_in(said_for({})[1]) == before | {1, 2, 3, 10, 12, 14}, before
     # the words that have no value are those of the page
     page = pathlib.Path("docs/operating/WORDS.md").read_text()
     [alone] = re.findall("^ALONE='(.*)'$", pathlib.Path(start).read_text(), re.MULTILINE)
