@@ -16,9 +16,10 @@ use Rattle.mail_world.specs.Data.{dot, end_of_data, data_end, message}
 use Rattle.mail_world.specs.Site.{Site, extensions_of}
 use Rattle.mail_world.specs.Commands.{Command, Lhlo, Mail, Rcpt, StartData, Rset, command_at}
 use Rattle.mail_world.specs.Targets.{box_of}
-use Rattle.mail_world.specs.Session.{Session, fresh, Input, Line, DataEnded, Outcomes, Transition, add_recipient}
+use Rattle.mail_world.specs.Session.{Session, fresh, Input, Line, Busy, DataEnded, Outcomes, Transition, add_recipient}
 use Rattle.mail_world.specs.Session.{on_mail, on_rcpt, on_data, on_rset, on_command, on_verdict, step}
-use Rattle.mail_world.specs.Conversation.{Disposition, Part, CommandLine, MailData, Cut, cut, cut_then, inputs_of}
+use Rattle.mail_world.proofs.BusyLines.{after_busy}
+use Rattle.mail_world.specs.Conversation.{Disposition, Part, CommandLine, MailData, is_busy, Cut, cut, cut_then, inputs_of}
 use Rattle.mail_world.specs.Conversation.{session_after, parts_within, parts, Conversation}
 use Rattle.mail_world.specs.Lists.{Transaction, accepted_after, transactions_of, transactions, copies, copies_if}
 use Rattle.mail_world.specs.Lists.{copies_from, due}
@@ -67,7 +68,7 @@ after_verdict s _ h = (h.0, none)
 
 -- ---- what is read at once: data has a message of whole lines
 abbrev HasLines : Part → Type 0
-HasLines (CommandLine text) = ⊤
+HasLines (CommandLine text busy) = ⊤
 HasLines (MailData text d) = EmptyOrEndsIn crlf (message text)
 
 abbrev CutHasLines : Cut → Type 0
@@ -87,30 +88,30 @@ data_lines s n e =
     (record { prefix = at.prefix; rest = []; whole = whole; place = at.place }) in
     message_lines (take (n + 3) s) found.place found.found
 
-some_cut : (part : ℕ → Part) (size : ℕ → ℕ) (ds : List Disposition) (o : Option ℕ)
+some_cut : (part : ℕ → Part) (size : ℕ → ℕ) (ds : List Disposition) (bs : List Bool) (o : Option ℕ)
     → ((n : ℕ) → o ≡ Some n → HasLines (part n))
-    → IfSome (option_map (λ n. record { part = part n; size = size n; dispositions = ds }) o) CutHasLines
-some_cut part size ds None h = tt
-some_cut part size ds (Some n) h = h n refl
+    → IfSome (option_map (λ n. record { part = part n; size = size n; dispositions = ds; busy = bs }) o) CutHasLines
+some_cut part size ds bs None h = tt
+some_cut part size ds bs (Some n) h = h n refl
 
-cut_lines : (state : State) (s : List ℕ) (ds : List Disposition) → IfSome (cut state s ds) CutHasLines
-cut_lines Content s [] = tt
-cut_lines Content s (d ∷ ds) = some_cut (λ n. MailData (take (n + 3) s) d) (λ n. n + 3) ds (data_end s) (data_lines s)
-cut_lines Waiting s ds = tt
-cut_lines Ended s ds = tt
-cut_lines _ s ds = some_cut (λ n. CommandLine (take n s)) (λ n. n + 2) ds (place_of crlf s) (λ n e. tt)
+cut_lines : (state : State) (s : List ℕ) (ds : List Disposition) (bs : List Bool) → IfSome (cut state s ds bs) CutHasLines
+cut_lines Content s [] bs = tt
+cut_lines Content s (d ∷ ds) bs = some_cut (λ n. MailData (take (n + 3) s) d) (λ n. n + 3) ds bs (data_end s) (data_lines s)
+cut_lines Waiting s ds bs = tt
+cut_lines Ended s ds bs = tt
+cut_lines _ s ds bs = some_cut (λ n. CommandLine (take n s) (is_busy bs)) (λ n. n + 2) ds (drop 1 bs) (place_of crlf s) (λ n e. tt)
 
 then_lines : (o : Option Cut) (more : Cut → List Part) → IfSome o CutHasLines
     → ((c : Cut) → AllByRecursion HasLines (more c)) → AllByRecursion HasLines (cut_then o more)
 then_lines None more h all = tt
 then_lines (Some c) more h all = (h, all c)
 
-parts_lines : (k : ℕ) (site : Site) (session : Session) (s : List ℕ) (ds : List Disposition)
-    → AllByRecursion HasLines (parts_within k site session s ds)
-parts_lines zero site session s ds = tt
-parts_lines (suc k) site session s ds =
-    then_lines (cut session.state s ds) _ (cut_lines session.state s ds)
-    (λ c. parts_lines k site (session_after site session (inputs_of c.part)) (drop c.size s) c.dispositions)
+parts_lines : (k : ℕ) (site : Site) (session : Session) (s : List ℕ) (ds : List Disposition) (bs : List Bool)
+    → AllByRecursion HasLines (parts_within k site session s ds bs)
+parts_lines zero site session s ds bs = tt
+parts_lines (suc k) site session s ds bs =
+    then_lines (cut session.state s ds bs) _ (cut_lines session.state s ds bs)
+    (λ c. parts_lines k site (session_after site session (inputs_of c.part)) (drop c.size s) c.dispositions c.busy)
 
 -- ---- transactions, and the copies that they owe
 abbrev IsOfLines : Transaction → Type 0
@@ -130,6 +131,9 @@ module _ (site : Site) where
   after_input : (s : Session) (x : Input) → HoldsLines s → HoldsLines (step site s x).next
   after_input s (Line text) h =
       after_command s (command_at (extensions_of site) text) (command_lines (extensions_of site) text) h
+  after_input s (Busy text) h =
+      let answer : Result Command BadCommand = command_at (extensions_of site) text in
+      after_busy HoldsLines site s answer h (after_command s answer (command_lines (extensions_of site) text) h)
   after_input s (DataEnded v) h = after_verdict s v h
   after_input s (Outcomes os) h = (h.0, none)
   after_input s _ h = h
@@ -141,8 +145,8 @@ module _ (site : Site) where
   parts_mailed : (n : ℕ) (s : Session) (ps : List Part) → HoldsLines s → AllByRecursion HasLines ps
       → AllByRecursion IsOfLines (transactions_of site n s ps)
   parts_mailed n s [] h all = tt
-  parts_mailed n s (CommandLine text ∷ ps) h all =
-      let p : Part = CommandLine text in
+  parts_mailed n s (CommandLine text busy ∷ ps) h all =
+      let p : Part = CommandLine text busy in
       parts_mailed (accepted_after_part site n s p) (session_after site s (inputs_of p)) ps
       (after_inputs s (inputs_of p) h) all.1
   parts_mailed n s (MailData text d ∷ ps) h all =
@@ -153,9 +157,9 @@ module _ (site : Site) where
   unfolding transactions parts
   all_mailed n [] = tt
   all_mailed n (c ∷ cs) =
-      let ps : List Part = parts site fresh c.bytes c.dispositions in
+      let ps : List Part = parts site fresh c.bytes c.dispositions c.busy in
       all_both IsOfLines (transactions_of site n fresh ps) _
-      (parts_mailed n fresh ps (none, none) (parts_lines (length c.bytes) site fresh c.bytes c.dispositions))
+      (parts_mailed n fresh ps (none, none) (parts_lines (length c.bytes) site fresh c.bytes c.dispositions c.busy))
       (all_mailed (accepted_after site n fresh ps) cs)
 
 places_mailed : (k : ℕ) (t : Transaction) (place : ℕ) (boxes : List ℕ) → IsOfLines t

@@ -14,8 +14,9 @@ use Rattle.mail_world.specs.Site.{Site, extensions_of}
 use Rattle.mail_world.specs.Grammar.{Target}
 use Rattle.mail_world.specs.Commands.{Command, Lhlo, Mail, Rcpt, StartData, Rset, Noop, Quit, Vrfy, Help, is_word, command_at}
 use Rattle.mail_world.specs.Targets.{local_name, is_here, box_or, box_named, user_of, found_or, box_for, box_of}
-use Rattle.mail_world.specs.Session.{Session, fresh, Input, Line, LongLine, DataEnded, Outcomes, Stop, Transition, add_recipient, on_mail, on_rcpt, on_data}
+use Rattle.mail_world.specs.Session.{Session, fresh, Input, Line, LongLine, Busy, DataEnded, Outcomes, Stop, Transition, add_recipient, on_mail, on_rcpt, on_data}
 use Rattle.mail_world.specs.Session.{on_rset, on_command, on_verdict, step}
+use Rattle.mail_world.proofs.BusyLines.{after_busy}
 use Rattle.mail_world.specs.Conversation.{Part, CommandLine, MailData, inputs_of, session_after, parts, Conversation}
 use Rattle.mail_world.specs.Lists.{Transaction, accepted_after, transactions_of, transactions, copies, copies_if, copies_from}
 use Rattle.mail_world.proofs.Owed.{accepted_after_part}
@@ -128,6 +129,8 @@ module _ (site : Site) (some : 0 < length site.boxes) where
 
   after_input : (s : Session) (x : Input) → Knows s → Knows (step site s x).next
   after_input s (Line text) h = after_command s (command_at (extensions_of site) text) h
+  after_input s (Busy text) h =
+      let answer : Result Command BadCommand = command_at (extensions_of site) text in after_busy Knows site s answer h (after_command s answer h)
   after_input s LongLine h = h
   after_input s (DataEnded v) h = after_verdict s v h
   after_input s (Outcomes os) h = tt
@@ -143,8 +146,8 @@ module _ (site : Site) (some : 0 < length site.boxes) where
 
   conversation_known : (n : ℕ) (s : Session) (ps : List Part) → Knows s → AllByRecursion KnowsOf (transactions_of site n s ps)
   conversation_known n s [] h = tt
-  conversation_known n s (CommandLine text ∷ ps) h =
-      let p : Part = CommandLine text in
+  conversation_known n s (CommandLine text busy ∷ ps) h =
+      let p : Part = CommandLine text busy in
       conversation_known (accepted_after_part site n s p) (session_after site s (inputs_of p)) ps (after_inputs s (inputs_of p) h)
   conversation_known n s (MailData text d ∷ ps) h =
       let p : Part = MailData text d in
@@ -154,7 +157,7 @@ module _ (site : Site) (some : 0 < length site.boxes) where
   unfolding transactions
   all_known n [] = tt
   all_known n (c ∷ cs) =
-      let ps : List Part = parts site fresh c.bytes c.dispositions in
+      let ps : List Part = parts site fresh c.bytes c.dispositions c.busy in
       let last : ℕ = accepted_after site n fresh ps in
       all_both KnowsOf (transactions_of site n fresh ps) (transactions site last cs) (conversation_known n fresh ps tt) (all_known last cs)
 

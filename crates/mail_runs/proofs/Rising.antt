@@ -11,7 +11,7 @@ use Rattle.mail_world.specs.declared.State.TheVariants.{Fresh, Greeted, Sender, 
 use Rattle.mail_world.specs.Text.{crlf, place_of}
 use Rattle.mail_world.specs.Site.{Site}
 use Rattle.mail_world.specs.Session.{Session, fresh}
-use Rattle.mail_world.specs.Conversation.{Disposition, Part, CommandLine, MailData, Cut, cut, cut_then, inputs_of, session_after, parts_within, parts}
+use Rattle.mail_world.specs.Conversation.{Disposition, Part, CommandLine, MailData, is_busy, Cut, cut, cut_then, inputs_of, session_after, parts_within, parts}
 use Rattle.mail_world.specs.Conversation.{Conversation}
 use Rattle.mail_world.specs.Lists.{Transaction, is_content, accepted_after, transactions_of, transactions, copies, copies_if, copies_from}
 use Rattle.mail_world.proofs.Owed.{accepted_after_part, same_after_data}
@@ -28,30 +28,30 @@ numbers_rise_from m n (t ∷ ts) le h = let low : n ≤ t.number = h.0 in (omega
 
 -- data stands only where a DATA command was accepted
 abbrev FitsState : State → Part → Type 0
-FitsState state (CommandLine text) = ⊤
+FitsState state (CommandLine text busy) = ⊤
 FitsState state (MailData text d) = is_content state ≡ true
 
-line_fits : (state : State) (s : List ℕ) (ds : List Disposition) (o : Option ℕ) (c : Cut)
-    → option_map (λ n. record { part = CommandLine (take n s); size = n + 2; dispositions = ds }) o ≡ Some c → FitsState state c.part
-line_fits state s ds None c e = cc
-line_fits state s ds (Some n) c e =
-    let one : Cut = record { part = CommandLine (take n s); size = n + 2; dispositions = ds } in
+line_fits : (state : State) (s : List ℕ) (ds : List Disposition) (bs : List Bool) (o : Option ℕ) (c : Cut)
+    → option_map (λ n. record { part = CommandLine (take n s) (is_busy bs); size = n + 2; dispositions = ds; busy = drop 1 bs }) o ≡ Some c → FitsState state c.part
+line_fits state s ds bs None c e = cc
+line_fits state s ds bs (Some n) c e =
+    let one : Cut = record { part = CommandLine (take n s) (is_busy bs); size = n + 2; dispositions = ds; busy = drop 1 bs } in
     let is : one ≡ c = cc in
     let P : Cut → Type 0 = λ x. FitsState state x.part in
     subst P is tt
 
 always_fits : (part : Part) → FitsState Content part
-always_fits (CommandLine text) = tt
+always_fits (CommandLine text busy) = tt
 always_fits (MailData text d) = refl
 
-fits_state : (state : State) (s : List ℕ) (ds : List Disposition) (c : Cut) → cut state s ds ≡ Some c → FitsState state c.part
-fits_state Fresh s ds c e = line_fits Fresh s ds (place_of crlf s) c e
-fits_state Greeted s ds c e = line_fits Greeted s ds (place_of crlf s) c e
-fits_state Sender s ds c e = line_fits Sender s ds (place_of crlf s) c e
-fits_state Recipients s ds c e = line_fits Recipients s ds (place_of crlf s) c e
-fits_state Content s ds c e = always_fits c.part
-fits_state Waiting s ds c e = cc
-fits_state Ended s ds c e = cc
+fits_state : (state : State) (s : List ℕ) (ds : List Disposition) (bs : List Bool) (c : Cut) → cut state s ds bs ≡ Some c → FitsState state c.part
+fits_state Fresh s ds bs c e = line_fits Fresh s ds bs (place_of crlf s) c e
+fits_state Greeted s ds bs c e = line_fits Greeted s ds bs (place_of crlf s) c e
+fits_state Sender s ds bs c e = line_fits Sender s ds bs (place_of crlf s) c e
+fits_state Recipients s ds bs c e = line_fits Recipients s ds bs (place_of crlf s) c e
+fits_state Content s ds bs c e = always_fits c.part
+fits_state Waiting s ds bs c e = cc
+fits_state Ended s ds bs c e = cc
 
 -- the number of the next transaction, where n DATA commands were accepted
 abbrev pub next_number : ℕ → State → ℕ
@@ -75,8 +75,8 @@ part_rises : (site : Site) (n : ℕ) (session : Session) (p : Part) (ps : List P
     → ((m : ℕ) → NumbersRise (next_number m (session_after site session (inputs_of p)).state)
     (transactions_of site m (session_after site session (inputs_of p)) ps))
     → NumbersRise (next_number n session.state) (transactions_of site n session (p ∷ ps))
-part_rises site n session (CommandLine text) ps fits more =
-    let next : Session = session_after site session (inputs_of (CommandLine text)) in
+part_rises site n session (CommandLine text busy) ps fits more =
+    let next : Session = session_after site session (inputs_of (CommandLine text busy)) in
     let m : ℕ = cond (is_content next.state) (n + 1) n in
     numbers_rise_from (next_number n session.state) (n + 1) (transactions_of site m next ps) (next_low n (is_content session.state))
     (after_one_line n (is_content next.state) (transactions_of site m next ps) (more m))
@@ -93,13 +93,13 @@ rises_then : (site : Site) (n : ℕ) (session : Session) (o : Option Cut) (more 
 rises_then site n session None more fits rise = tt
 rises_then site n session (Some c) more fits rise = part_rises site n session c.part (more c) (fits c refl) (rise c)
 
-pub numbers_rise : (k : ℕ) (site : Site) (n : ℕ) (session : Session) (s : List ℕ) (ds : List Disposition)
-    → NumbersRise (next_number n session.state) (transactions_of site n session (parts_within k site session s ds))
-numbers_rise zero site n session s ds = tt
-numbers_rise (suc k) site n session s ds =
-    rises_then site n session (cut session.state s ds) (λ c. parts_within k site (session_after site session (inputs_of c.part)) (drop c.size s) c.dispositions)
-    (fits_state session.state s ds)
-    (λ c m. numbers_rise k site m (session_after site session (inputs_of c.part)) (drop c.size s) c.dispositions)
+pub numbers_rise : (k : ℕ) (site : Site) (n : ℕ) (session : Session) (s : List ℕ) (ds : List Disposition) (bs : List Bool)
+    → NumbersRise (next_number n session.state) (transactions_of site n session (parts_within k site session s ds bs))
+numbers_rise zero site n session s ds bs = tt
+numbers_rise (suc k) site n session s ds bs =
+    rises_then site n session (cut session.state s ds bs) (λ c. parts_within k site (session_after site session (inputs_of c.part)) (drop c.size s) c.dispositions c.busy)
+    (fits_state session.state s ds bs)
+    (λ c m. numbers_rise k site m (session_after site session (inputs_of c.part)) (drop c.size s) c.dispositions c.busy)
 
 -- how many DATA commands were accepted never falls
 grows_by : (t : Bool) (n last : ℕ) → (if t then n + 1 else n) ≤ last → n ≤ last
@@ -117,8 +117,8 @@ accepted_grows site n session (p ∷ ps) =
 numbers_most : (site : Site) (n : ℕ) (session : Session) (ps : List Part)
     → AllByRecursion (λ t. t.number ≤ accepted_after site n session ps) (transactions_of site n session ps)
 numbers_most site n session [] = tt
-numbers_most site n session (CommandLine text ∷ ps) =
-    let p : Part = CommandLine text in
+numbers_most site n session (CommandLine text busy ∷ ps) =
+    let p : Part = CommandLine text busy in
     numbers_most site (accepted_after_part site n session p) (session_after site session (inputs_of p)) ps
 numbers_most site n session (MailData text d ∷ ps) =
     let p : Part = MailData text d in
@@ -140,11 +140,11 @@ all_rise : (site : Site) (n : ℕ) (cs : List Conversation) → NumbersRise (n +
 unfolding transactions parts
 all_rise site n [] = tt
 all_rise site n (c ∷ cs) =
-    let ps : List Part = parts site fresh c.bytes c.dispositions in
+    let ps : List Part = parts site fresh c.bytes c.dispositions c.busy in
     let last : ℕ = accepted_after site n fresh ps in
     let grows = accepted_grows site n fresh ps in
     numbers_then (n + 1) last (transactions_of site n fresh ps) (transactions site last cs) (omega (arith, grows))
-    (numbers_rise (length c.bytes) site n fresh c.bytes c.dispositions) (numbers_most site n fresh ps) (all_rise site last cs)
+    (numbers_rise (length c.bytes) site n fresh c.bytes c.dispositions c.busy) (numbers_most site n fresh ps) (all_rise site last cs)
 
 rise_above : (n m : ℕ) (ts : List Transaction) → n < m → NumbersRise m ts → RiseAbove n ts
 rise_above n m [] low h = tt

@@ -37,8 +37,8 @@ pub transactions-append : (site : Site) (n : ℕ) (session : Session) (ps qs : L
     → transactions_of site n session (ps ++ qs)
     ≡ transactions_of site n session ps ++ transactions_of site (accepted_after site n session ps) (session_after_parts site session ps) qs
 transactions-append site n session [] qs = refl
-transactions-append site n session (CommandLine text ∷ ps) qs =
-    let p : Part = CommandLine text in
+transactions-append site n session (CommandLine text busy ∷ ps) qs =
+    let p : Part = CommandLine text busy in
     transactions-append site (accepted_after_part site n session p) (session_after site session (inputs_of p)) ps qs
     ∙ ap (λ x. transactions_of site n session (p ∷ ps) ++ transactions_of site (accepted_after site n session (p ∷ ps)) x qs)
     (sym (session_after-append site session (inputs_of p) (flat_map inputs_of ps)))

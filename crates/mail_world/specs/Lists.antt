@@ -42,8 +42,8 @@ accepted_after site n session (p ∷ ps) =
 -- the transactions of a conversation, before which n DATA commands were accepted
 abbrev pub transactions_of : Site → ℕ → Session → List Part → List Transaction
 transactions_of site n session [] = []
-transactions_of site n session (CommandLine text ∷ ps) =
-    let next = session_after site session (inputs_of (CommandLine text)) in
+transactions_of site n session (CommandLine text busy ∷ ps) =
+    let next = session_after site session (inputs_of (CommandLine text busy)) in
     transactions_of site (if is_content next.state then n + 1 else n) next ps
 transactions_of site n session (MailData text d ∷ ps) =
     record { number = n; session = session; message = message text; disposition = d }
@@ -53,7 +53,7 @@ transactions_of site n session (MailData text d ∷ ps) =
 unfoldable pub transactions : Site → ℕ → List Conversation → List Transaction
 transactions site n [] = []
 transactions site n (c ∷ cs) =
-    let ps = parts site fresh c.bytes c.dispositions in
+    let ps = parts site fresh c.bytes c.dispositions c.busy in
     transactions_of site n fresh ps ++ transactions site (accepted_after site n fresh ps) cs
 
 -- a copy for each recipient from the place on

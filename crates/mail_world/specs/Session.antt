@@ -29,10 +29,11 @@ pub record Session : Type 0 where
 abbrev pub fresh : Session
 fresh = record { state = Fresh; client = []; sender = []; utf8 = false; recipients = [] }
 
--- what a session is given: a line without its CRLF, a line that is too long, what was found at the end of data, what
--- became of the copies, the order to stop
+-- what a session is given: a line without its CRLF, the same while the mailbox that it may name is busy, a line that is
+-- too long, what was found at the end of data, what became of the copies, the order to stop
 pub data Input : Type 0 where
   Line : (text : List ℕ) → Input
+  Busy : (text : List ℕ) → Input
   LongLine : Input
   DataEnded : (verdict : Verdict) → Input
   Outcomes : (list : List Outcome) → Input
@@ -72,6 +73,17 @@ on_rcpt Sender s box = add_recipient s box
 on_rcpt Recipients s box = add_recipient s box
 on_rcpt _ s box = says replies.OutOfOrder s
 
+-- a recipient whose mailbox is busy: one who would be added isn't, and may be sent again (RFC 5321, 4.2.2: 450)
+abbrev pub put_off_recipient : Session → Option ℕ → Transition
+put_off_recipient s None = says replies.NoSuchBox s
+put_off_recipient s (Some box) =
+    if nat_lt (length s.recipients) RECIPIENT_LIMIT then says replies.Busy s else says replies.TooMany s
+
+abbrev pub on_busy_rcpt : State → Session → Option ℕ → Transition
+on_busy_rcpt Sender s box = put_off_recipient s box
+on_busy_rcpt Recipients s box = put_off_recipient s box
+on_busy_rcpt _ s box = says replies.OutOfOrder s
+
 abbrev pub on_data : State → Session → Transition
 on_data Recipients s = says replies.GoAhead (moved_to Content s)
 on_data _ s = says replies.OutOfOrder s
@@ -91,6 +103,11 @@ on_command site s (Ok Noop) = says replies.NoopOk s
 on_command site s (Ok Vrfy) = says replies.NotChecked s
 on_command site s (Ok Help) = says replies.HelpText s
 on_command site s (Ok Quit) = says replies.Bye (moved_to Ended s)
+
+-- only a recipient's mailbox can be busy
+abbrev pub on_busy_command : Site → Session → Result Command BadCommand → Transition
+on_busy_command site s (Ok (Rcpt target)) = on_busy_rcpt s.state s (box_of site target)
+on_busy_command site s answer = on_command site s answer
 
 -- a reply for each recipient, in their order (RFC 2033, 4.2)
 abbrev pub results : List Outcome → List ℕ → List Reply
@@ -115,6 +132,7 @@ on_verdict s verdicts.NoRoom = record { replies = result_for_all outcomes.NoRoom
 -- and stop in any of the first five.
 abbrev pub step : Site → Session → Input → Transition
 step site s (Line text) = on_command site s (command_at (extensions_of site) text)
+step site s (Busy text) = on_busy_command site s (command_at (extensions_of site) text)
 step site s LongLine = says replies.LineTooLong s
 step site s (DataEnded verdict) = on_verdict s verdict
 step site s (Outcomes os) = record { replies = results os s.recipients; next = greeted s.client }

@@ -11,7 +11,8 @@ use Rattle.mail_world.specs.declared.Extensions.{Extensions}
 
 -- the host's name, the further domains, the names of the mailboxes, how many bytes a message may have, the byte that
 -- parts user and detail of a recipient's address, if one does (RFC 5233), whether addresses may be in UTF-8 (RFC 6531),
--- whether records have the marks in a message's head renamed, and whether malformed messages are refused
+-- whether records have the marks in a message's head renamed, whether malformed messages are refused, whether copies
+-- over a quota are refused for good, and whether a recipient may be told that its mailbox is busy
 pub record Site : Type 0 where
   pub host : List ℕ
   pub domains : List (List ℕ)
@@ -21,6 +22,8 @@ pub record Site : Type 0 where
   pub utf8 : Bool
   pub renames_marks : Bool
   pub refuses_malformed : Bool
+  pub rejects_over_quota : Bool
+  pub tells_busy : Bool
 
 -- what the site offers of the extensions that name something
 abbrev pub extensions_of : Site → Extensions

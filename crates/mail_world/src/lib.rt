@@ -178,6 +178,8 @@ pub enum Reply {
     Stopping,
     NoSuchBox,
     TooMany,
+    /// The recipient's mailbox is busy; the relay keeps the message for this one.
+    Busy,
     OutOfOrder,
     LineTooLong,
     /// The line was no command.
