@@ -1,17 +1,15 @@
 -- A command that is taken is taken as the same where no less is offered, and one that is refused, but for its size, is
 -- refused alike whatever size is offered.
 use Rattle.std.proofs.Common.{◌≡◌, ℕ, ◌≤◌, Bool, true, false, not, ◌&&◌, ◌||◌, ◌==◌, List, [], ◌∷◌, refl, sym, ap, ◌∙◌, subst, arith, rules}
-use Rattle.std.specs.Prelude.{⊤, nat_lt, if◌then◌else◌, Option, Some, None, Ok, Err, codes, option_map}
+use Rattle.std.specs.Prelude.{⊤, if◌then◌else◌, Option, Some, None, Ok, Err, codes, option_map}
 use Rattle.std.specs.List.{list_any, list_all, before_first, after_first}
-use Rattle.std.specs.Str.Parse.{digits_value}
 use Rattle.std.proofs.lemmas.Bool.Decides.{nat_tests}
 use Rattle.mail_world.specs.declared.BadCommand.{BadCommand}
 use Rattle.mail_world.specs.declared.BadCommand.TheVariants as bad
 use Rattle.mail_world.specs.declared.Extensions.{Extensions}
 use Rattle.mail_world.specs.Text.{begins_with, space}
-use Rattle.mail_world.specs.Grammar.{Target}
 use Rattle.mail_world.specs.Paths.{Found, Path, reverse_path, forward_path}
-use Rattle.mail_world.specs.Commands.{Answer, Command, Mail, Parameter, is_known, is_well_valued, is_too_large, is_above_limit, has_keyword, stands_twice, mail_with}
+use Rattle.mail_world.specs.Commands.{Answer, Command, Mail, Parameter, is_known, is_too_large, is_above_limit, has_keyword, mail_with}
 use Rattle.mail_world.specs.Commands.{mail_path, mail, rcpt_path, rcpt, by_verb, command_at, parameters, trimmed, after_spaces, ends_path}
 use Rattle.mail_world.proofs.PathsSpelled.{and_parts}
 use Rattle.lmtp_text.specs.Offers.{NoLess}

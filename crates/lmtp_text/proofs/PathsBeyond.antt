@@ -1,17 +1,17 @@
 -- A path in ASCII is read as the same where it may be in UTF-8.
-use Rattle.std.proofs.Common.{◌≡◌, ℕ, zero, suc, ◌<◌, Bool, true, false, not, ◌&&◌, ◌||◌, ◌==◌, List, [], ◌∷◌, ◌++◌, length, map, refl, sym, ap, ◌∙◌, subst}
+use Rattle.std.proofs.Common.{◌≡◌, ℕ, zero, suc, Bool, true, false, not, ◌&&◌, ◌||◌, ◌==◌, List, [], ◌∷◌, ◌++◌, map, refl, sym, ap, ◌∙◌, subst}
 use Rattle.std.proofs.Common.{Option, Some, None, inl, inr, arith, IsAscii}
 use Rattle.std.specs.Prelude.{nat_lt, codes}
 use Rattle.std.specs.List.{list_all, join_with_byte, AllByRecursion}
 use Rattle.std.specs.Char.{is_ascii_alphanumeric}
-use Rattle.std.specs.Str.{byte, is_utf8}
+use Rattle.std.specs.Str.{byte}
 use Rattle.std.proofs.lemmas.Bool.Decides.{nat_tests}
 use Rattle.std.proofs.lemmas.List.Folds.{list_all-append}
 use Rattle.std.proofs.lemmas.Str.{IsUtf8-from_ascii, is_utf8-from_IsUtf8}
 use Rattle.mail_world.specs.Text.{has_byte}
-use Rattle.mail_world.specs.Grammar.{is_between, is_plain, is_of_domain, is_of_literal, is_of_quoted, is_domain, Target, IsSomeOf, IsQuotedText, IsLocalPart, IsLiteral, IsHostPart}
-use Rattle.mail_world.specs.Grammar.{IsMailbox, IsPath, local_text, host_text, mailbox_text, route_text, path_text}
-use Rattle.mail_world.specs.Paths.{Found, Path, forward_path, IsPathRead}
+use Rattle.mail_world.specs.Grammar.{is_between, is_plain, is_of_domain, is_of_literal, is_of_quoted, is_domain, Target, IsQuotedText, IsLocalPart, IsLiteral, IsHostPart}
+use Rattle.mail_world.specs.Grammar.{IsPath, local_text, host_text, mailbox_text, route_text, path_text}
+use Rattle.mail_world.specs.Paths.{Found, Path, forward_path}
 use Rattle.mail_world.proofs.PathsRead.{forward_path_reads}
 use Rattle.mail_world.proofs.PathsSpelled.{and_parts, forward_path_spelled}
 

@@ -29,6 +29,8 @@ site_of host domains boxes =
       utf8 = false;
       renames_marks = false;
       refuses_malformed = false;
+      rejects_over_quota = false;
+      tells_busy = false;
     }
 
 -- a byte that may stand in the name of a host, of a mailbox

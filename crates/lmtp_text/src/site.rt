@@ -46,7 +46,8 @@ impl From<AllocError> for SiteFault {
 
 /// A host, the further domains that it serves (`*` is each one), its mailboxes in their order, how many bytes a message
 /// may have, the byte that parts user and detail of a recipient's address, if one does, whether addresses may be in
-/// UTF-8, whether records have the marks in a message's head renamed, and whether malformed messages are refused.
+/// UTF-8, whether records have the marks in a message's head renamed, whether malformed messages are refused, whether
+/// copies over a quota are refused for good, and whether a recipient may be told that its mailbox is busy.
 #[derive(Debug, Drop)]
 pub struct Site {
     host: Vec<u8>,
@@ -57,6 +58,8 @@ pub struct Site {
     utf8: bool,
     renames_marks: bool,
     refuses_malformed: bool,
+    rejects_over_quota: bool,
+    tells_busy: bool,
 }
 
 /// Whether user and detail of a recipient's address may be parted by this byte.
@@ -82,6 +85,8 @@ impl Model for Site {
       utf8 = s.utf8;
       renames_marks = s.renames_marks;
       refuses_malformed = s.refuses_malformed;
+      rejects_over_quota = s.rejects_over_quota;
+      tells_busy = s.tells_busy;
     } };
 
     ghost invariant = { λ s. m.IsSite
@@ -94,6 +99,8 @@ impl Model for Site {
           utf8 = s.utf8;
           renames_marks = s.renames_marks;
           refuses_malformed = s.refuses_malformed;
+          rejects_over_quota = s.rejects_over_quota;
+          tells_busy = s.tells_busy;
         }) };
 }
 
@@ -118,8 +125,9 @@ fn name_at(names: &[Vec<u8>], i: usize) -> &[u8]
 
 impl Site {
     /// A site takes memory for its names; its messages have at most 1,048,576 bytes, it has no delimiter, offers no
-    /// UTF-8, renames no marks and refuses no malformed messages. Of several broken rules the answer is the first in the order `Host`, `Domain`,
-    /// `Count`, `Box`, `Twice`.
+    /// UTF-8, renames no marks, refuses no malformed messages, puts off copies over a quota and tells nobody that a
+    /// mailbox is busy. Of several broken rules the answer is the first in the order `Host`, `Domain`, `Count`, `Box`,
+    /// `Twice`.
     pub fn new(
         alloc: Global,
         host: &[u8],
@@ -148,6 +156,8 @@ impl Site {
             utf8: false,
             renames_marks: false,
             refuses_malformed: false,
+            rejects_over_quota: false,
+            tells_busy: false,
         })
     }
 
@@ -247,6 +257,40 @@ impl Site {
         ensures { result ≡ self.now.refuses_malformed }
     {
         self.refuses_malformed
+    }
+
+    /// The same site that refuses copies over a quota for good (552, where it is 452 else).
+    pub fn with_over_quota_rejected(self) -> Site
+        ensures { result ≡ record self { rejects_over_quota = true } }
+    {
+        Site {
+            rejects_over_quota: true,
+            ..self
+        }
+    }
+
+    /// Whether copies over a quota are refused for good.
+    pub fn rejects_over_quota(&self) -> bool
+        ensures { result ≡ self.now.rejects_over_quota }
+    {
+        self.rejects_over_quota
+    }
+
+    /// The same site that may tell a recipient that its mailbox is busy.
+    pub fn with_busy_told(self) -> Site
+        ensures { result ≡ record self { tells_busy = true } }
+    {
+        Site {
+            tells_busy: true,
+            ..self
+        }
+    }
+
+    /// Whether a recipient may be told that its mailbox is busy.
+    pub fn tells_busy(&self) -> bool
+        ensures { result ≡ self.now.tells_busy }
+    {
+        self.tells_busy
     }
 
     /// The host's name.

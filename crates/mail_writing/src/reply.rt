@@ -2,7 +2,7 @@
 
 ghost use Rattle.std.specs.Prelude.{◌≡◌, ℕ, ◌≤◌, List, ◌++◌, length, take, drop, IfSome, IfNone};
 ghost use Rattle.mail_world.specs.Text.{crlf};
-ghost use Rattle.mail_world.specs.Replies.{refusal_text, outcome_text, reply_text};
+ghost use Rattle.mail_world.specs.Replies.{refusal_text, over_quota_text, outcome_text, reply_text};
 ghost use Rattle.mail_writing.specs.Offer.{offers};
 
 use crate::writing::put;
@@ -35,8 +35,20 @@ fn refusal(why: BadCommand) -> &'static [u8]
     }
 }
 
-fn outcome_prefix(outcome: Outcome) -> &'static [u8]
-    ensures value { (name : List ℕ) → result.now ++ name ++ crlf ≡ outcome_text outcome name }
+fn over_quota(is_rejected: bool) -> &'static [u8]
+    ensures value { result.now ≡ over_quota_text is_rejected }
+    ensures size { length result.now ≤ 64 }
+    ensures code { 3 ≤ length result.now }
+{
+    if is_rejected {
+        b"552 5.2.2 Over quota for "
+    } else {
+        b"452 4.2.2 Over quota for "
+    }
+}
+
+fn outcome_prefix(site: &Site, outcome: Outcome) -> &'static [u8]
+    ensures value { (name : List ℕ) → result.now ++ name ++ crlf ≡ outcome_text site.now outcome name }
     ensures size { length result.now ≤ 64 }
     ensures code { 3 ≤ length result.now }
 {
@@ -45,7 +57,7 @@ fn outcome_prefix(outcome: Outcome) -> &'static [u8]
         Outcome::Failed => b"451 4.3.0 Not stored for ",
         Outcome::NoRoom => b"452 4.3.1 No room for ",
         Outcome::TooLarge => b"552 5.3.4 Too large for ",
-        Outcome::OverQuota => b"452 4.2.2 Over quota for ",
+        Outcome::OverQuota => over_quota(site.rejects_over_quota()),
         Outcome::Malformed => b"554 5.6.0 Malformed for ",
     }
 }
@@ -78,10 +90,15 @@ fn pieces<'a>(reply: Reply, site: &'a Site) -> Option<Pieces<'a>>
         Reply::Stopping => Some((b"421 4.3.2 ", site.host(), b" stopping\r\n")),
         Reply::NoSuchBox => Some((b"550 5.1.1 No such mailbox\r\n", b"", b"")),
         Reply::TooMany => Some((b"452 4.5.3 Too many recipients\r\n", b"", b"")),
+        Reply::Busy => Some((b"450 4.2.1 Mailbox busy\r\n", b"", b"")),
         Reply::OutOfOrder => Some((b"503 5.5.1 Out of order\r\n", b"", b"")),
         Reply::LineTooLong => Some((b"500 5.5.2 Line too long\r\n", b"", b"")),
         Reply::Refused(why) => Some((refusal(why), b"", b"")),
-        Reply::Result(outcome, i) => Some((outcome_prefix(outcome), site.box_name(i), b"\r\n")),
+        Reply::Result(outcome, i) => Some((
+            outcome_prefix(site, outcome),
+            site.box_name(i),
+            b"\r\n",
+        )),
     }
 }
 
