@@ -1,4 +1,5 @@
 pub mod View
 pub mod Fields
 pub mod Steps
+pub mod Added
 pub mod CommandLimits

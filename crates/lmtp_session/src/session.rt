@@ -2,14 +2,15 @@
 
 ghost use Rattle.std.specs.Prelude.{◌≡◌, ◌<◌, ◌≤◌, [], length, slice_get, slice_index, Some, IfOk};
 ghost use Rattle.std.specs.Arc.{arc_value};
-ghost use Rattle.mail_world.specs.Session.{Line, LongLine, DataEnded, Outcomes, Stop, fresh};
+ghost use Rattle.mail_world.specs.Session.{Line, Busy, LongLine, DataEnded, Outcomes, Stop, fresh};
 ghost use Rattle.mail_world.specs.Site.{extensions_of};
 ghost use Rattle.lmtp_text.specs.Readings.{line_read, offered_for};
 ghost use Rattle.lmtp_session.specs.View.{reserved};
 ghost use Rattle.lmtp_session.specs.Steps.{TakesLines, MayStop, IsStep};
+ghost use Rattle.lmtp_session.specs.Added.{added_box};
 
 use crate::act::Act;
-use lmtp_text::{Reading, Site};
+use lmtp_text::{Command, Reading, Site};
 use mail_world::limits::{NAME_LIMIT, PATH_LIMIT, RECIPIENT_LIMIT};
 use mail_world::{Outcome, Reply, State, Verdict};
 use smallvec::SmallVec;
@@ -108,6 +109,33 @@ impl Session {
         ensures no_memory { self.new.room ≡ self.old.room }
     {
         self.on_command(said.command())
+    }
+
+    /// The number of the mailbox that the line, read for the site, would add as a recipient's; none where it would add
+    /// none: it is another command, comes too soon, has no mailbox, or is one recipient too many.
+    pub fn added_box(&self, said: &Reading<'_>) -> Option<u32>
+        requires offered { offered_for said.now ≡ extensions_of self.now.site }
+        ensures { result ≡ added_box self.now.site self.now.session (line_read said.now) }
+    {
+        match said.command() {
+            Ok(Command::Rcpt(target)) => self.box_to_add(&target),
+            _ => None,
+        }
+    }
+
+    /// Takes a command line that was read for the site, while the mailbox that it may name is busy: a recipient whom it
+    /// would add isn't added (RFC 5321, 4.2.2: 450), and else it is taken as any line.
+    #[tactic(auto, using(crate::proofs::Limits::command_within))]
+    pub fn busy_line(&mut self, said: Reading<'_>) -> Act
+        requires state { TakesLines self.old.session.state }
+        requires offered { offered_for said ≡ extensions_of self.old.site }
+        ensures step { IsStep self.old (Busy (line_read said.entry)) result self.new }
+        ensures no_memory { self.new.room ≡ self.old.room }
+    {
+        match said.command() {
+            Ok(Command::Rcpt(target)) => self.put_off(&target),
+            answer => self.on_command(answer),
+        }
     }
 
     /// Takes note of a line that was too long to be a command.

@@ -1,7 +1,7 @@
 -- Where a conversation stands with more bytes handled.
 use Rattle.std.proofs.Common.{◌≡◌, ℕ, ◌+◌, ◌<◌, ◌≤◌, true, false, List, [], ◌∷◌, ◌++◌, length, take, Some, refl, sym, ap, ◌∙◌, subst, arith, append_assoc}
 use Rattle.std.proofs.Common.{append-nil, length-take-le}
-use Rattle.std.specs.Prelude.{nat_lt, if◌then◌else◌, flat_map}
+use Rattle.std.specs.Prelude.{Bool, nat_lt, if◌then◌else◌, flat_map}
 use Rattle.std.proofs.Math.Seq.{take-append-add}
 use Rattle.std.proofs.lemmas.List.{take_all}
 use Rattle.std.proofs.lemmas.Grind.{flat_map-append}
@@ -15,7 +15,7 @@ use Rattle.mail_world.specs.Data.{message}
 use Rattle.mail_world.specs.Site.{Site}
 use Rattle.mail_world.specs.Replies.{reply_text, reply_texts}
 use Rattle.mail_world.specs.Session.{Session, fresh, Input, Line, LongLine, step}
-use Rattle.mail_world.specs.Conversation.{Disposition, Part, CommandLine, MailData, inputs_of, session_after, session_after_parts, replies_to}
+use Rattle.mail_world.specs.Conversation.{Disposition, Part, CommandLine, MailData, line_input, inputs_of, session_after, session_after_parts, replies_to}
 use Rattle.mail_world.specs.Lists.{Transaction, is_content, accepted_after, transactions_of}
 use Rattle.mail_world.proofs.Handled.{inputs-snoc, session_after_parts-snoc, replies_to-append, line_within}
 use Rattle.mail_world.proofs.Owed.{accepted_after_part, accepted-append, transactions-append}
@@ -30,7 +30,7 @@ use Rattle.lmtp_talk.specs.Steps.{TakesInputs, TellsLine, Talk, talk, BeginsIf, 
 use Rattle.lmtp_talk.specs.Entries.{line_kept, line_in}
 use Rattle.lmtp_talk.proofs.Entered.{logged_more, entries_line}
 use Rattle.lmtp_talk.proofs.CutUp.{cut_line}
-use Rattle.lmtp_talk.proofs.Quits.{IsNotEnded, line_goes_on, long_goes_on, quits_line, quits_long}
+use Rattle.lmtp_talk.proofs.Quits.{IsNotEnded, said_goes_on, long_goes_on, quits_said, quits_long}
 
 -- the state says what is inside
 in_line : (state : State) (dialogue : Dialogue) (rest : List ℕ) (come : Type 0) (drafts : List ℕ → Type 0) → TakesLines state
@@ -98,9 +98,9 @@ pub accepted-snoc : (site : Site) (n : ℕ) (ps : List Part) (p : Part)
     → accepted_after site n fresh (ps ++ p ∷ []) ≡ accepted_after_part site (accepted_after site n fresh ps) (session_after_parts site fresh ps) p
 accepted-snoc site n ps p = accepted-append site n fresh ps (p ∷ [])
 
-transactions-line : (site : Site) (n : ℕ) (ps : List Part) (text : List ℕ)
-    → transactions_of site n fresh (ps ++ CommandLine text ∷ []) ≡ transactions_of site n fresh ps
-transactions-line site n ps text = transactions-append site n fresh ps (CommandLine text ∷ []) ∙ append-nil (transactions_of site n fresh ps)
+transactions-line : (site : Site) (n : ℕ) (ps : List Part) (text : List ℕ) (busy : Bool)
+    → transactions_of site n fresh (ps ++ CommandLine text busy ∷ []) ≡ transactions_of site n fresh ps
+transactions-line site n ps text busy = transactions-append site n fresh ps (CommandLine text busy ∷ []) ∙ append-nil (transactions_of site n fresh ps)
 
 pub transactions-data : (site : Site) (n : ℕ) (ps : List Part) (text : List ℕ) (d : Disposition)
     → transactions_of site n fresh (ps ++ MailData text d ∷ [])
@@ -141,20 +141,21 @@ taken_is rest piece used k e = ap (λ n. take n (rest ++ piece)) (sym e) ∙ tak
 -- a line that ends leads on by its input
 ended_line : (site : Site) (start : Parties) (Before : ℕ → List Transaction → Type 0) {D : Type 0} (HasCome : D → ℕ → List Transaction → Type 0)
     (IsDrafting : D → ℕ → List Transaction → List ℕ → Type 0)
-    (old new : Dialogue) (wire : WireView) (before after : Parties) (delivery later : D) (handled came piece : List ℕ) (used end : ℕ) (input : Input)
+    (old new : Dialogue) (wire : WireView) (before after : Parties) (delivery later : D) (handled came piece : List ℕ) (used end : ℕ) (busy : Bool) (input : Input)
     → TakesLines old.session.session.state
     → (h : IsSoFar (beginning site start Before) (talk_state old before (HasCome delivery) (IsDrafting delivery)) handled came)
     → EndsLine wire (h.rest ++ piece) (length h.rest) used end
-    → inputs_of (CommandLine (take end (h.rest ++ piece))) ≡ input ∷ []
+    → inputs_of (CommandLine (take end (h.rest ++ piece)) busy) ≡ input ∷ []
     → line_kept (take end (h.rest ++ piece)) ≡ line_in input
+    → (old.session.site.tells_busy ≡ false → busy ≡ false)
     → TakesLine HasCome IsDrafting input (talk (record old { wire = wire }) before delivery) (talk new after later)
     → IsNotEnded (step old.session.site old.session.session input).next.state
     → QuitsWith (session_after old.session.site old.session.session (input ∷ [])).state (flat_map inputs_of h.done ++ input ∷ [])
     → IsSoFar (beginning site start Before) (talk_state new after (HasCome later) (IsDrafting later)) (handled ++ take used piece) came
-ended_line site start Before {D} HasCome IsDrafting old new wire before after delivery later handled came piece used end input lines h ends input_is line_is t
-    goes quits =
+ended_line site start Before {D} HasCome IsDrafting old new wire before after delivery later handled came piece used end busy input lines h ends input_is line_is
+    calm t goes quits =
     let bytes : List ℕ = h.rest ++ piece in
-    let p : Part = CommandLine (take end bytes) in
+    let p : Part = CommandLine (take end bytes) busy in
     let mid : Dialogue = record old { wire = wire } in
     let line = in_line old.session.session.state old h.rest _ _ lines h.inside in
     let takes : TakesInputs (inputs_of p) mid new before.peer after.peer =
@@ -171,7 +172,7 @@ ended_line site start Before {D} HasCome IsDrafting old new wire before after de
       rest = [];
       whole = ap (λ l. l ++ take used piece) h.whole ∙ append_assoc h.prefix h.rest (take used piece)
           ∙ ap (λ l. h.prefix ++ l) (sym (taken_is h.rest piece used (end + 2) ends.taken)) ∙ sym (append-nil (h.prefix ++ take (end + 2) bytes));
-      cut = cut_line site h.prefix bytes h.done end h.cut after_lines ends.ends;
+      cut = cut_line site h.prefix bytes h.done end busy h.cut after_lines ends.ends (λ e. calm (ap (λ (x : Site). x.tells_busy) h.same_site ∙ e));
       same_site = takes.site ∙ h.same_site;
       session = session_is;
       quits = subst (λ (s : Session). QuitsWith s.state (flat_map inputs_of (h.done ++ p ∷ []))) (sym t.takes.session)
@@ -181,7 +182,7 @@ ended_line site start Before {D} HasCome IsDrafting old new wire before after de
       goes = takes.same ∙ h.goes;
       logged = λ n ts first. logged_more site n h.done p start.told before.told after.told _ t.told (h.logged n ts first)
           (entries_line site old.session.site (accepted_after site n fresh h.done) old.session.session (session_after_parts site fresh h.done) (take end bytes)
-          (line_in input) input h.same_site h.session input_is line_is);
+          (line_in input) busy input h.same_site h.session input_is line_is);
       inside = after_one_line new.session.session.state new _ _ goes' (subst (λ w. IsAfter w []) (sym takes.wire) ends.after)
           (λ content.
           let begins : BeginsIf HasCome IsDrafting true delivery (talk new after later) =
@@ -195,7 +196,7 @@ ended_line site start Before {D} HasCome IsDrafting old new wire before after de
                 ap (λ b. if b then accepted_after site n fresh h.done + 1 else accepted_after site n fresh h.done) (sym content ∙ state_is)
                 ∙ sym (accepted-snoc site n h.done p) in
                 subst (λ k. IsDrafting later k (ts ++ transactions_of site n fresh (h.done ++ p ∷ [])) []) count
-                (subst (λ l. IsDrafting later (accepted_after site n fresh h.done + 1) (ts ++ l) []) (sym (transactions-line site n h.done (take end bytes)))
+                (subst (λ l. IsDrafting later (accepted_after site n fresh h.done + 1) (ts ++ l) []) (sym (transactions-line site n h.done (take end bytes) busy))
                 (begins.1 _ _ (line.comes n ts first)));
           })
           (λ content.
@@ -205,12 +206,16 @@ ended_line site start Before {D} HasCome IsDrafting old new wire before after de
           ap (λ b. if b then accepted_after site n fresh h.done + 1 else accepted_after site n fresh h.done) (sym content ∙ state_is)
           ∙ sym (accepted-snoc site n h.done p) in
           subst (λ k. HasCome later k (ts ++ transactions_of site n fresh (h.done ++ p ∷ []))) count
-          (subst (λ l. HasCome later (accepted_after site n fresh h.done) (ts ++ l)) (sym (transactions-line site n h.done (take end bytes)))
+          (subst (λ l. HasCome later (accepted_after site n fresh h.done) (ts ++ l)) (sym (transactions-line site n h.done (take end bytes) busy))
           (subst (λ x. HasCome x (accepted_after site n fresh h.done) (ts ++ transactions_of site n fresh h.done)) (sym same) (line.comes n ts first))));
     }
 
 size_is : (bytes : List ℕ) (end : ℕ) → place_of crlf bytes ≡ Some end → length (take end bytes) ≡ end
 size_is bytes end e = let within : end + 2 ≤ length bytes = line_within bytes end e in length-take-le end bytes (omega arith)
+
+line_in_said : (text : List ℕ) (busy : Bool) → line_in (line_input text busy) ≡ text
+line_in_said text true = refl
+line_in_said text false = refl
 
 pub line_of : (site : Site) (start : Parties) (Before : ℕ → List Transaction → Type 0) {D : Type 0} (HasCome : D → ℕ → List Transaction → Type 0)
     (IsDrafting : D → ℕ → List Transaction → List ℕ → Type 0)
@@ -218,20 +223,21 @@ pub line_of : (site : Site) (start : Parties) (Before : ℕ → List Transaction
     → TakesLines old.session.session.state
     → ((taken : List ℕ) → IsAfter old.wire taken
     → (end : ℕ) × EndsLine wire (taken ++ piece) (length taken) used end × (end + 2 ≤ LINE_LIMIT) × (wire.line ≡ take end (taken ++ piece)))
-    → TakesLine HasCome IsDrafting (Line wire.line) (talk (record old { wire = wire }) before delivery) (talk new after later)
+    → (busy : Bool) → (old.session.site.tells_busy ≡ false → busy ≡ false)
+    → TakesLine HasCome IsDrafting (line_input wire.line busy) (talk (record old { wire = wire }) before delivery) (talk new after later)
     → IsSoFar (beginning site start Before) (talk_state old before (HasCome delivery) (IsDrafting delivery)) handled came
     → IsSoFar (beginning site start Before) (talk_state new after (HasCome later) (IsDrafting later)) (handled ++ take used piece) came
-line_of site start Before {D} HasCome IsDrafting old new wire before after delivery later handled came piece used lines takes t h =
+line_of site start Before {D} HasCome IsDrafting old new wire before after delivery later handled came piece used lines takes busy calm t h =
     let line = in_line old.session.session.state old h.rest _ _ lines h.inside in
     let e = takes h.rest line.after in
     let bytes : List ℕ = h.rest ++ piece in
     let short : nat_lt LINE_LIMIT (length (take e.0 bytes) + 2) ≡ false =
     (let size : length (take e.0 bytes) ≡ e.0 = size_is bytes e.0 e.1.ends in let fits : e.0 + 2 ≤ LINE_LIMIT = e.2 in grind (arith, nat_tests, size, fits)) in
-    ended_line site start Before HasCome IsDrafting old new wire before after delivery later handled came piece used e.0 (Line wire.line) lines h e.1
-    (ap (λ b. (if b then LongLine else Line (take e.0 bytes)) ∷ []) short ∙ ap (λ l. Line l ∷ []) (sym e.3))
-    (ap (λ b. if b then [] else take e.0 bytes) short ∙ sym e.3)
-    t (line_goes_on old.session.site old.session.session wire.line lines)
-    (quits_line old.session.site old.session.session (flat_map inputs_of h.done) wire.line lines h.quits)
+    ended_line site start Before HasCome IsDrafting old new wire before after delivery later handled came piece used e.0 busy (line_input wire.line busy) lines h e.1
+    (ap (λ b. (if b then LongLine else line_input (take e.0 bytes) busy) ∷ []) short ∙ ap (λ l. line_input l busy ∷ []) (sym e.3))
+    (ap (λ b. if b then [] else take e.0 bytes) short ∙ sym e.3 ∙ sym (line_in_said wire.line busy)) calm
+    t (said_goes_on old.session.site old.session.session wire.line busy lines)
+    (quits_said old.session.site old.session.session (flat_map inputs_of h.done) wire.line busy lines h.quits)
 
 pub long_line_of : (site : Site) (start : Parties) (Before : ℕ → List Transaction → Type 0) {D : Type 0} (HasCome : D → ℕ → List Transaction → Type 0)
     (IsDrafting : D → ℕ → List Transaction → List ℕ → Type 0)
@@ -250,9 +256,9 @@ long_line_of site start Before {D} HasCome IsDrafting old new wire before after 
     let long : nat_lt LINE_LIMIT (length (take e.0 bytes) + 2) ≡ true =
     (let size : length (take e.0 bytes) ≡ e.0 = size_is bytes e.0 e.1.ends in let over : LINE_LIMIT < e.0 + 2 = e.2 in grind (arith, nat_tests, size, over)) in
     let same : new.session.session.state ≡ old.session.session.state = ap (λ (s : Session). s.state) t.session in
-    ended_line site start Before HasCome IsDrafting old new wire before after delivery delivery handled came piece used e.0 LongLine lines h e.1
+    ended_line site start Before HasCome IsDrafting old new wire before after delivery delivery handled came piece used e.0 false LongLine lines h e.1
     (ap (λ b. (if b then LongLine else Line (take e.0 bytes)) ∷ []) long)
-    (ap (λ b. if b then [] else take e.0 bytes) long)
+    (ap (λ b. if b then [] else take e.0 bytes) long) (λ e. refl)
     (record {
       takes = t;
       told = told;

@@ -1,7 +1,7 @@
 -- Parts at the beginning of a text stay its parts, whatever follows them.
 use Rattle.std.proofs.Common.{◌≡◌, ℕ, ◌+◌, ◌-◌, ◌≤◌, List, [], ◌∷◌, ◌++◌, length, take, drop, Option, Some, sym, ap, ◌∙◌, subst, arith, append_assoc}
 use Rattle.std.proofs.Common.{length-append, length-take-le, take-append-drop, take-take}
-use Rattle.std.specs.Prelude.{Bool, flat_map}
+use Rattle.std.specs.Prelude.{Bool, false, flat_map}
 use Rattle.std.proofs.lemmas.List.{take-append-le}
 use Rattle.std.proofs.Math.Seq.{drop-append_seam, take-append_seam, take-append-add}
 use Rattle.mail_world.specs.declared.State.{State}
@@ -12,7 +12,7 @@ use Rattle.mail_world.specs.Site.{Site}
 use Rattle.mail_world.specs.Session.{fresh}
 use Rattle.mail_world.specs.Conversation.{Disposition, Part, CommandLine, MailData, inputs_of, session_after_parts, parts, OutcomesFit, stop_at, inputs}
 use Rattle.mail_world.specs.Conversation.{IsAccount}
-use Rattle.mail_world.specs.Dispositions.{dispositions_of}
+use Rattle.mail_world.specs.Dispositions.{dispositions_of, busy_of}
 use Rattle.mail_world.proofs.Places.{place_of_stands, place_of_least, StandsAt-more}
 use Rattle.mail_world.proofs.Handled.{HasNoPart, Handled, ReadsLines, handled_none, handled_line, handled_data, line_within, all_parts}
 use Rattle.mail_world.proofs.Handled.{all_accounted as accounted_at}
@@ -22,17 +22,19 @@ use Rattle.lmtp_talk.specs.TalkState.{IsCutUp}
 -- the same in the words of one text
 handled : (site : Site) (prefix more : List ℕ) (ps : List Part) → IsCutUp site prefix ps → Handled site (prefix ++ more) (length prefix) ps
 handled site prefix more ps c = record {
-  goes = λ ds. c.goes more ds ∙ ap (λ l. ps ++ parts site (session_after_parts site fresh ps) l ds) (sym (drop-append_seam prefix more));
+  goes = λ ds bs. c.goes more ds bs ∙ ap (λ l. ps ++ parts site (session_after_parts site fresh ps) l ds bs) (sym (drop-append_seam prefix more));
   size = c.size;
   within = omega (arith, length-append prefix more);
   fit = c.fit;
+  none_busy = c.none_busy;
 }
 
 cut_up : (site : Site) (prefix : List ℕ) (ps : List Part) → ((more : List ℕ) → Handled site (prefix ++ more) (length prefix) ps) → IsCutUp site prefix ps
 cut_up site prefix ps h = record {
-  goes = λ more ds. (h more).goes ds ∙ ap (λ l. ps ++ parts site (session_after_parts site fresh ps) l ds) (drop-append_seam prefix more);
+  goes = λ more ds bs. (h more).goes ds bs ∙ ap (λ l. ps ++ parts site (session_after_parts site fresh ps) l ds bs) (drop-append_seam prefix more);
   size = (h []).size;
   fit = (h []).fit;
+  none_busy = (h []).none_busy;
 }
 
 -- what is found in a prefix is found in the whole, at the same place, and the other way round
@@ -110,9 +112,10 @@ cut_none site = cut_up site [] [] (λ more. handled_none site more)
 text_after : (prefix text more : List ℕ) → drop (length prefix) ((prefix ++ text) ++ more) ≡ text ++ more
 text_after prefix text more = ap (drop (length prefix)) (append_assoc prefix text more) ∙ drop-append_seam prefix (text ++ more)
 
-pub cut_line : (site : Site) (prefix bytes : List ℕ) (ps : List Part) (end : ℕ) → IsCutUp site prefix ps → TakesLines (session_after_parts site fresh ps).state
-    → place_of crlf bytes ≡ Some end → IsCutUp site (prefix ++ take (end + 2) bytes) (ps ++ CommandLine (take end bytes) ∷ [])
-cut_line site prefix bytes ps end c lines e = cut_up site (prefix ++ take (end + 2) bytes) (ps ++ CommandLine (take end bytes) ∷ []) (λ more.
+pub cut_line : (site : Site) (prefix bytes : List ℕ) (ps : List Part) (end : ℕ) (busy : Bool) → IsCutUp site prefix ps
+    → TakesLines (session_after_parts site fresh ps).state → place_of crlf bytes ≡ Some end → (site.tells_busy ≡ false → busy ≡ false)
+    → IsCutUp site (prefix ++ take (end + 2) bytes) (ps ++ CommandLine (take end bytes) busy ∷ [])
+cut_line site prefix bytes ps end busy c lines e calm = cut_up site (prefix ++ take (end + 2) bytes) (ps ++ CommandLine (take end bytes) busy ∷ []) (λ more.
     let line : List ℕ = take (end + 2) bytes in
     let s : List ℕ = (prefix ++ line) ++ more in
     let left : drop (length prefix) s ≡ line ++ more = text_after prefix line more in
@@ -120,13 +123,13 @@ cut_line site prefix bytes ps end c lines e = cut_up site (prefix ++ take (end +
     let size : length line ≡ end + 2 = length-take-le (end + 2) bytes long in
     let old : Handled site s (length prefix) ps =
     subst (λ l. Handled site l (length prefix) ps) (sym (append_assoc prefix line more)) (handled site prefix (line ++ more) ps c) in
-    let new : Handled site s (length prefix + (end + 2)) (ps ++ CommandLine (take end (drop (length prefix) s)) ∷ []) =
-    handled_line site s (length prefix) ps end old (reads (session_after_parts site fresh ps).state lines)
-    (ap (λ l. place_of crlf l) left ∙ line_before bytes more end e) in
+    let new : Handled site s (length prefix + (end + 2)) (ps ++ CommandLine (take end (drop (length prefix) s)) busy ∷ []) =
+    handled_line site s (length prefix) ps end busy old (reads (session_after_parts site fresh ps).state lines)
+    (ap (λ l. place_of crlf l) left ∙ line_before bytes more end e) calm in
     let text : take end (drop (length prefix) s) ≡ take end bytes =
     ap (λ l. take end l) left ∙ take-append-le end line more (omega (arith, size)) ∙ take-take end (end + 2) bytes (omega arith) in
-    subst (λ n. Handled site s n (ps ++ CommandLine (take end bytes) ∷ [])) (omega (arith, length-append prefix line, size))
-    (subst (λ l. Handled site s (length prefix + (end + 2)) (ps ++ CommandLine l ∷ [])) text new))
+    subst (λ n. Handled site s n (ps ++ CommandLine (take end bytes) busy ∷ [])) (omega (arith, length-append prefix line, size))
+    (subst (λ l. Handled site s (length prefix + (end + 2)) (ps ++ CommandLine l busy ∷ [])) text new))
 
 pub cut_data : (site : Site) (prefix text : List ℕ) (ps : List Part) (end : ℕ) (d : Disposition) → IsCutUp site prefix ps
     → (session_after_parts site fresh ps).state ≡ Content
@@ -149,19 +152,19 @@ none_left : (state : State) (prefix rest : List ℕ) → HasNoPart state rest �
 none_left state prefix rest none = subst (λ l. HasNoPart state l) (sym (drop-append_seam prefix rest)) none
 
 pub all_cut : (site : Site) (prefix rest : List ℕ) (ps : List Part) → IsCutUp site prefix ps → HasNoPart (session_after_parts site fresh ps).state rest
-    → parts site fresh (prefix ++ rest) (dispositions_of ps) ≡ ps
+    → parts site fresh (prefix ++ rest) (dispositions_of ps) (busy_of ps) ≡ ps
 all_cut site prefix rest ps c none =
     all_parts site (prefix ++ rest) (length prefix) ps (handled site prefix rest ps c) (none_left (session_after_parts site fresh ps).state prefix rest none)
 
 pub all_accounted : (site : Site) (prefix rest : List ℕ) (ps : List Part) (stopped : Bool) → IsCutUp site prefix ps
     → HasNoPart (session_after_parts site fresh ps).state rest
-    → IsAccount site (record { bytes = prefix ++ rest; dispositions = dispositions_of ps; stopped = stopped })
+    → IsAccount site (record { bytes = prefix ++ rest; dispositions = dispositions_of ps; busy = busy_of ps; stopped = stopped })
 all_accounted site prefix rest ps stopped c none =
     accounted_at site (prefix ++ rest) (length prefix) ps (handled site prefix rest ps c) (none_left (session_after_parts site fresh ps).state prefix rest none)
 
 pub all_inputs : (site : Site) (prefix rest : List ℕ) (ps : List Part) (stopped : Bool) → IsCutUp site prefix ps
     → HasNoPart (session_after_parts site fresh ps).state rest
-    → inputs site (record { bytes = prefix ++ rest; dispositions = dispositions_of ps; stopped = stopped }) ≡ flat_map inputs_of ps
+    → inputs site (record { bytes = prefix ++ rest; dispositions = dispositions_of ps; busy = busy_of ps; stopped = stopped }) ≡ flat_map inputs_of ps
     ++ stop_at (session_after_parts site fresh ps).state stopped
 unfolding inputs
 all_inputs site prefix rest ps stopped c none =

@@ -11,7 +11,7 @@ use Rattle.mail_world.specs.Site.{Site}
 use Rattle.mail_world.specs.Session.{Session, fresh, Input, Stop}
 use Rattle.mail_world.specs.Replies.{reply_text, reply_texts}
 use Rattle.mail_world.specs.Conversation.{Conversation, Part, inputs_of, session_after_parts, replies_to, parts, stop_at, inputs, replies, IsAccount}
-use Rattle.mail_world.specs.Dispositions.{dispositions_of}
+use Rattle.mail_world.specs.Dispositions.{dispositions_of, busy_of}
 use Rattle.mail_world.specs.Lists.{Transaction, is_content, accepted_after, transactions_of}
 use Rattle.mail_world.proofs.Handled.{HasNoPart, replies_to-append}
 use Rattle.lmtp_session.specs.Steps.{MayStop}
@@ -186,12 +186,12 @@ finished : (reads : ℕ) (site : Site) (start before now : Parties) (Before Come
     → now.told ≡ before.told → EndsConversation site (final reads dialogue.session.session.state stopped handled) h.done start.peer now.peer end
     → IsServed (terms site reads) start now Before Last end
 finished reads site start before now Before Come Last Drafting dialogue handled stopped end h comes untold f =
-    let c : Conversation = record { bytes = handled; dispositions = dispositions_of h.done; stopped = stopped } in
-    let at : List ℕ → Conversation = λ l. record { bytes = l; dispositions = dispositions_of h.done; stopped = stopped } in
+    let c : Conversation = record { bytes = handled; dispositions = dispositions_of h.done; busy = busy_of h.done; stopped = stopped } in
+    let at : List ℕ → Conversation = λ l. record { bytes = l; dispositions = dispositions_of h.done; busy = busy_of h.done; stopped = stopped } in
     let none : HasNoPart (session_after_parts site fresh h.done).state h.rest =
     subst (λ (s : Session). HasNoPart s.state h.rest) h.session (nothing_ended dialogue.session.session.state dialogue h.rest _ _ h.inside) in
-    let parts_are : parts site fresh handled (dispositions_of h.done) ≡ h.done =
-    ap (λ l. parts site fresh l (dispositions_of h.done)) h.whole ∙ all_cut site h.prefix h.rest h.done h.cut none in
+    let parts_are : parts site fresh handled (dispositions_of h.done) (busy_of h.done) ≡ h.done =
+    ap (λ l. parts site fresh l (dispositions_of h.done) (busy_of h.done)) h.whole ∙ all_cut site h.prefix h.rest h.done h.cut none in
     let inputs_are : inputs site c ≡ last_inputs site h.done stopped =
     ap (λ l. inputs site (at l)) h.whole ∙ all_inputs site h.prefix h.rest h.done stopped h.cut none in
     let quit_is : has_quit (inputs site c) ≡ has_quit (flat_map inputs_of h.done) =

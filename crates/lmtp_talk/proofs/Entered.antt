@@ -1,7 +1,7 @@
 -- The entries of parts, one part after another, and of replies.
 use Rattle.std.proofs.Common.{◌≡◌, ◌<◌, ℕ, ◌+◌, add-one, subst, List, [], ◌∷◌, ◌++◌, length, map, take, Option, Some, None, refl, sym, ap}
 use Rattle.std.proofs.Common.{◌∙◌, append_assoc, append-nil}
-use Rattle.std.specs.Prelude.{flat_map, slice_get}
+use Rattle.std.specs.Prelude.{Bool, flat_map, slice_get}
 use Rattle.std.proofs.Math.Seq.{take-suc, take-length}
 use Rattle.std.proofs.lemmas.Option.{get_or_from_slice_get}
 use Rattle.mail_world.specs.declared.Reply.{Reply}
@@ -99,14 +99,14 @@ logged_more site n ps p start before after entries told was is =
     ∙ ap (λ l. with_entries start (entries_of site n fresh ps ++ l)) is ∙ ap (λ l. with_entries start l) (sym (entries-snoc site n ps p))
 
 -- the entries of a line, and of data, in the words of one site and session
-pub entries_line : (site view : Site) (n : ℕ) (s s' : Session) (text line : List ℕ) (input : Input) → view ≡ site → s ≡ s'
-    → inputs_of (CommandLine text) ≡ input ∷ [] → line_kept text ≡ line
-    → line_entries line (replies_to view s (input ∷ [])) ≡ entries_of_part site n s' (CommandLine text)
-entries_line site view n s s' text line input site_is session_is input_is line_is =
+pub entries_line : (site view : Site) (n : ℕ) (s s' : Session) (text line : List ℕ) (busy : Bool) (input : Input) → view ≡ site → s ≡ s'
+    → inputs_of (CommandLine text busy) ≡ input ∷ [] → line_kept text ≡ line
+    → line_entries line (replies_to view s (input ∷ [])) ≡ entries_of_part site n s' (CommandLine text busy)
+entries_line site view n s s' text line busy input site_is session_is input_is line_is =
     ap (λ (x : Site). line_entries line (replies_to x s (input ∷ []))) site_is
     ∙ ap (λ (x : Session). line_entries line (replies_to site x (input ∷ []))) session_is
     ∙ ap (λ l. line_entries line (replies_to site s' l)) (sym input_is)
-    ∙ ap (λ l. line_entries l (replies_to site s' (inputs_of (CommandLine text)))) (sym line_is)
+    ∙ ap (λ l. line_entries l (replies_to site s' (inputs_of (CommandLine text busy)))) (sym line_is)
 
 pub entries_data : (site view : Site) (n : ℕ) (s s' : Session) (text draft : List ℕ) (d : Disposition) → view ≡ site → s ≡ s' → draft ≡ message text
     → copy_entries (counted n) (counted (length draft)) (message_id_of draft) s.client (replies_to view s (inputs_of (MailData text d))) ≡ entries_of_part site n s' (MailData text d)

@@ -17,8 +17,9 @@ use Rattle.mail_world.specs.Paths.{Found, Path, reverse_path, forward_path}
 use Rattle.mail_world.specs.Text.{space}
 use Rattle.std.specs.List.{before_first, after_first}
 use Rattle.mail_world.specs.Targets.{box_of}
-use Rattle.mail_world.specs.Session.{Session, Input, Line, LongLine, DataEnded, says, on_mail, add_recipient, on_rcpt, on_data, on_rset, on_command, step}
-use Rattle.mail_world.specs.Conversation.{Disposition, outcomes_of, session_after}
+use Rattle.mail_world.specs.Session.{Session, Input, Line, Busy, LongLine, DataEnded, says, on_mail, add_recipient, on_rcpt, on_data, on_rset, on_command, on_busy_command, step}
+use Rattle.mail_world.specs.Conversation.{Disposition, line_input, outcomes_of, session_after}
+use Rattle.mail_world.proofs.BusyLines.{after_busy}
 use Rattle.lmtp_session.specs.Steps.{TakesLines}
 use Rattle.lmtp_talk.specs.Served.{is_quit, is_quit_answer, has_quit}
 use Rattle.lmtp_talk.specs.TalkState.{QuitsWith}
@@ -107,8 +108,14 @@ goes_on Content h = cc
 goes_on Waiting h = cc
 goes_on Ended h = cc
 
-pub line_goes_on : (site : Site) (s : Session) (text : List ℕ) → TakesLines s.state → IsNotEnded (step site s (Line text)).next.state
+line_goes_on : (site : Site) (s : Session) (text : List ℕ) → TakesLines s.state → IsNotEnded (step site s (Line text)).next.state
 line_goes_on site s text h = answer_leads IsNotEnded site s (command_at (extensions_of site) text) (goes_on s.state h) tt tt tt tt (λ e. tt)
+
+pub said_goes_on : (site : Site) (s : Session) (text : List ℕ) (busy : Bool) → TakesLines s.state
+    → IsNotEnded (step site s (line_input text busy)).next.state
+said_goes_on site s text false h = line_goes_on site s text h
+said_goes_on site s text true h =
+    after_busy (λ x. IsNotEnded x.state) site s (command_at (extensions_of site) text) (goes_on s.state h) (line_goes_on site s text h)
 
 pub long_goes_on : (site : Site) (s : Session) → TakesLines s.state → IsNotEnded (step site s LongLine).next.state
 long_goes_on site s h = goes_on s.state h
@@ -195,6 +202,15 @@ quit_ends site s (Ok Quit) e = refl
 quit_ends site s (Ok Vrfy) e = cc
 quit_ends site s (Ok Help) e = cc
 
+busy_ends : (site : Site) (s : Session) (text : List ℕ) → TakesLines s.state → (step site s (Busy text)).next.state ≡ Ended → is_quit (Busy text) ≡ true
+busy_ends site s text h =
+    after_busy (λ x. x.state ≡ Ended → is_quit_answer (command text) ≡ true) site s (command_at (extensions_of site) text)
+    (λ e. absurd (not_ended s.state h e)) (line_ends site s text h)
+
+busy_quit_ends : (site : Site) (s : Session) (a : Answer) → is_quit_answer a ≡ true → (on_busy_command site s a).next.state ≡ Ended
+busy_quit_ends site s (Ok (Rcpt target)) e = cc
+busy_quit_ends site s a e = quit_ends site s a e
+
 or_assoc : (a b c : Bool) → a || (b || c) ≡ (a || b) || c
 or_assoc true b c = refl
 or_assoc false b c = refl
@@ -227,11 +243,22 @@ or_one : (b : Bool) → b || false ≡ true → b ≡ true
 or_one true e = refl
 or_one false e = cc
 
-pub quits_line : (site : Site) (s : Session) (xs : List Input) (text : List ℕ) → TakesLines s.state → QuitsWith s.state xs
+quits_line : (site : Site) (s : Session) (xs : List Input) (text : List ℕ) → TakesLines s.state → QuitsWith s.state xs
     → QuitsWith (session_after site s (Line text ∷ [])).state (xs ++ Line text ∷ [])
 quits_line site s xs text h q = quits_more xs (Line text ∷ []) s.state _ (not_ended s.state h) q
     (λ e. or_last (is_quit (Line text)) (line_ends site s text h e))
     (λ e. quit_ends site s (command_at (extensions_of site) text) (command_quit (extensions_of site) text ∙ or_one (is_quit (Line text)) e))
+
+quits_busy : (site : Site) (s : Session) (xs : List Input) (text : List ℕ) → TakesLines s.state → QuitsWith s.state xs
+    → QuitsWith (session_after site s (Busy text ∷ [])).state (xs ++ Busy text ∷ [])
+quits_busy site s xs text h q = quits_more xs (Busy text ∷ []) s.state _ (not_ended s.state h) q
+    (λ e. or_last (is_quit (Busy text)) (busy_ends site s text h e))
+    (λ e. busy_quit_ends site s (command_at (extensions_of site) text) (command_quit (extensions_of site) text ∙ or_one (is_quit (Busy text)) e))
+
+pub quits_said : (site : Site) (s : Session) (xs : List Input) (text : List ℕ) (busy : Bool) → TakesLines s.state → QuitsWith s.state xs
+    → QuitsWith (session_after site s (line_input text busy ∷ [])).state (xs ++ line_input text busy ∷ [])
+quits_said site s xs text false h q = quits_line site s xs text h q
+quits_said site s xs text true h q = quits_busy site s xs text h q
 
 pub quits_long : (site : Site) (s : Session) (xs : List Input) → TakesLines s.state → QuitsWith s.state xs
     → QuitsWith (session_after site s (LongLine ∷ [])).state (xs ++ LongLine ∷ [])

@@ -6,7 +6,7 @@ use Rattle.mail_world.specs.declared.limits.TheConstants.{LINE_LIMIT}
 use Rattle.mail_world.specs.Counts.{counted}
 use Rattle.mail_world.specs.Data.{message}
 use Rattle.mail_world.specs.Site.{Site}
-use Rattle.mail_world.specs.Session.{Session, fresh, Input, Line}
+use Rattle.mail_world.specs.Session.{Session, fresh, Input, Line, Busy}
 use Rattle.mail_world.specs.Conversation.{Conversation, Part, CommandLine, MailData, inputs_of, session_after}
 use Rattle.mail_world.specs.Conversation.{replies_to, parts}
 use Rattle.mail_world.specs.Lists.{is_content}
@@ -33,12 +33,13 @@ line_kept text = if nat_lt LINE_LIMIT (length text + 2) then [] else text
 
 abbrev pub line_in : Input → List ℕ
 line_in (Line text) = text
+line_in (Busy text) = text
 line_in _ = []
 
 -- an entry for each reply to the part, before which n DATA commands were accepted
 abbrev pub entries_of_part : Site → ℕ → Session → Part → List Entry
-entries_of_part site n session (CommandLine text) =
-    line_entries (line_kept text) (replies_to site session (inputs_of (CommandLine text)))
+entries_of_part site n session (CommandLine text busy) =
+    line_entries (line_kept text) (replies_to site session (inputs_of (CommandLine text busy)))
 entries_of_part site n session (MailData text d) =
     copy_entries (counted n) (counted (length (message text))) (message_id_of (message text)) session.client
     (replies_to site session (inputs_of (MailData text d)))
@@ -51,7 +52,7 @@ entries_of site n session (p ∷ ps) =
 
 -- the entries of a conversation, before which n DATA commands were accepted
 abbrev pub entries_in : Site → ℕ → Conversation → List Entry
-entries_in site n c = entries_of site n fresh (parts site fresh c.bytes c.dispositions)
+entries_in site n c = entries_of site n fresh (parts site fresh c.bytes c.dispositions c.busy)
 
 -- what a log was told, with these further entries, where it tells
 abbrev pub with_entries : Option (List Entry) → List Entry → Option (List Entry)

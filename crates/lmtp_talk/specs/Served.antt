@@ -4,7 +4,7 @@ use Rattle.std.specs.Io.KnownBytes.{IsAtEnd}
 use Rattle.mail_world.specs.Failures.{Rises}
 use Rattle.mail_world.specs.Site.{Site}
 use Rattle.mail_world.specs.Commands.{Answer, Quit, command}
-use Rattle.mail_world.specs.Session.{fresh, Input, Line}
+use Rattle.mail_world.specs.Session.{fresh, Input, Line, Busy}
 use Rattle.mail_world.specs.Conversation.{Conversation, IsAccount, inputs, replies, parts}
 use Rattle.mail_world.specs.Lists.{Transaction, accepted_after, transactions_of}
 use Rattle.mail_world.specs.Prefixes.{IsPrefix}
@@ -21,6 +21,7 @@ is_quit_answer _ = false
 
 abbrev pub is_quit : Input → Bool
 is_quit (Line text) = is_quit_answer (command text)
+is_quit (Busy text) = is_quit_answer (command text)
 is_quit _ = false
 
 abbrev pub has_quit : List Input → Bool
@@ -34,10 +35,10 @@ pub record IsWritten (text : List ℕ) (fails : Type 0) (done : List ℕ) : Type
 
 -- the data of a conversation, before which n DATA commands were accepted, and how many were accepted after it
 abbrev pub transactions_in : Site → ℕ → Conversation → List Transaction
-transactions_in site n c = transactions_of site n fresh (parts site fresh c.bytes c.dispositions)
+transactions_in site n c = transactions_of site n fresh (parts site fresh c.bytes c.dispositions c.busy)
 
 abbrev pub accepted_after_conversation : Site → ℕ → Conversation → ℕ
-accepted_after_conversation site n c = accepted_after site n fresh (parts site fresh c.bytes c.dispositions)
+accepted_after_conversation site n c = accepted_after site n fresh (parts site fresh c.bytes c.dispositions c.busy)
 
 -- what a conversation keeps to: the site, and how many reads it may make
 pub record Terms : Type 0 where

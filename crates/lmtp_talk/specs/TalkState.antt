@@ -1,5 +1,5 @@
 -- Where a conversation stands between two of its bytes.
-use Rattle.std.specs.Prelude.{◌≡◌, ℕ, true, List, [], ◌++◌, length, flat_map, sum_by}
+use Rattle.std.specs.Prelude.{◌≡◌, ℕ, Bool, true, false, List, [], ◌++◌, length, flat_map, sum_by}
 use Rattle.mail_world.specs.declared.State.{State}
 use Rattle.mail_world.specs.declared.State.TheVariants.{Content, Waiting, Ended}
 use Rattle.mail_world.specs.declared.Reply.TheVariants.{Greeting}
@@ -8,7 +8,7 @@ use Rattle.mail_world.specs.Session.{fresh, Input}
 use Rattle.mail_world.specs.Replies.{reply_text, reply_texts}
 use Rattle.mail_world.specs.Conversation.{Disposition, Part, inputs_of, session_after_parts, replies_to, parts, size_of}
 use Rattle.mail_world.specs.Conversation.{AllFit}
-use Rattle.mail_world.specs.Dispositions.{dispositions_of}
+use Rattle.mail_world.specs.Dispositions.{dispositions_of, busy_before, busy_of}
 use Rattle.mail_world.specs.Lists.{Transaction, accepted_after, transactions_of}
 use Rattle.lmtp_wire.specs.Wire.{IsAfter}
 use Rattle.lmtp_wire.specs.Dot.{HasMade}
@@ -20,11 +20,12 @@ use Rattle.lmtp_talk.specs.Served.{has_quit}
 
 -- these parts stand at the beginning, whatever follows them
 pub record IsCutUp (site : Site) (done : List ℕ) (ps : List Part) : Type 0 where
-  pub goes : (more : List ℕ) (ds : List Disposition)
-      → parts site fresh (done ++ more) (dispositions_of ps ++ ds) ≡ ps
-      ++ parts site (session_after_parts site fresh ps) more ds
+  pub goes : (more : List ℕ) (ds : List Disposition) (bs : List Bool)
+      → parts site fresh (done ++ more) (dispositions_of ps ++ ds) (busy_before ps bs) ≡ ps
+      ++ parts site (session_after_parts site fresh ps) more ds bs
   pub size : sum_by size_of ps ≡ length done
   pub fit : AllFit site fresh ps
+  pub none_busy : site.tells_busy ≡ false → busy_of ps ≡ []
 
 -- the session has ended exactly where QUIT was an input
 pub record QuitsWith (state : State) (xs : List Input) : Type 0 where

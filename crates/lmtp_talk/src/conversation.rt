@@ -41,7 +41,9 @@ pub fn serve<P: Peer, D: Delivery, O: Observer>(
     ensures same { D.site delivery.new ≡ D.site delivery.old }
 {
     greet(dialogue, peer);
-    take_rounds(dialogue, buffer, peer, delivery, observer, reads)
+    let end = take_rounds(dialogue, buffer, peer, delivery, observer, reads);
+    delivery.rests();
+    end
 }
 
 // The first reply (RFC 5321, 4.3.1).

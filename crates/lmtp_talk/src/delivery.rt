@@ -77,6 +77,12 @@ pub trait Delivery {
         ensures count { OnOk result (length (outcomes self.new) ≡ length session.now.session.recipients) }
         ensures refused { IfErr result (λ verdict. verdict ≢ Verdict.Whole) };
 
+    /// Whether a recipient with that mailbox is answered now that it is busy; nothing is promised of it.
+    fn is_busy(&self, mailbox: u32) -> bool;
+
+    /// The session's transaction has ended otherwise than by its data (RSET, LHLO), or the conversation has.
+    fn rests(&self);
+
     /// What became of the copies of the last message that was delivered, in the order of its recipients.
     fn outcomes(&self) -> &[Outcome]
         ensures { result.now ≡ outcomes self.now };

@@ -1,9 +1,13 @@
 //! What is done with the bytes that were read: lines go to the session, data goes to the delivery, and their replies to
 //! the outbox and to the observer.
 
-ghost use Rattle.std.specs.Prelude.{◌≡◌, ◌≤◌, ◌<◌, ℕ, List, [], ◌∷◌, ◌++◌, length, take};
+ghost use Rattle.std.specs.Prelude.{◌≡◌, ◌≤◌, ◌<◌, ℕ, List, [], ◌∷◌, ◌++◌, length, take, None, false};
 ghost use Rattle.std.specs.Prelude.{IfSome, MatchOption};
-ghost use Rattle.mail_world.specs.Session.{Line, LongLine};
+ghost use Rattle.mail_world.specs.Session.{LongLine};
+ghost use Rattle.mail_world.specs.Site.{extensions_of};
+ghost use Rattle.mail_world.specs.Conversation.{line_input};
+ghost use Rattle.lmtp_text.specs.Readings.{line_read, offered_for};
+ghost use Rattle.lmtp_session.specs.Added.{added_box};
 ghost use Rattle.lmtp_session.specs.Steps.{TakesLines};
 ghost use Rattle.lmtp_talk.specs.Parties.{Parties, parties};
 ghost use Rattle.lmtp_talk.specs.Steps.{talk, TakesInputs, TellsLine, TakesLine, EndsData, Advances};
@@ -13,7 +17,8 @@ use crate::dialogue::Dialogue;
 use crate::observer::Observer;
 use crate::peer::Peer;
 use crate::telling::{Arrived, Asked};
-use lmtp_session::Act;
+use lmtp_session::{Act, Session};
+use lmtp_text::Reading;
 use lmtp_wire::{Dot, Got};
 use mail_world::{State, Verdict};
 
@@ -95,28 +100,36 @@ fn take_line<P: Peer, D: Delivery, O: Observer>(
     let took = dialogue.wire.command(rest);
     match took.got {
         Got::More => {}
-        Got::Line => handle_line(dialogue, peer, delivery, observer),
+        Got::Line => {
+            handle_line(dialogue, peer, delivery, observer);
+        }
         Got::TooLong => refuse_line(dialogue, peer, observer),
     }
     took.used
 }
 
-// Handles the line that has ended.
+// Handles the line that has ended, and says whether its mailbox was busy.
 fn handle_line<P: Peer, D: Delivery, O: Observer>(
     dialogue: &mut Dialogue,
     peer: &mut P,
     delivery: &mut D,
     observer: &mut O,
-)
+) -> bool
     requires { TakesLines dialogue.old.session.session.state }
-    ensures takes { TakesLine D.HasCome D.IsDrafting (Line dialogue.old.wire.line)
+    ensures busy { dialogue.old.session.site.tells_busy ≡ false → result ≡ false }
+    ensures takes { TakesLine D.HasCome D.IsDrafting (line_input dialogue.old.wire.line result)
         (talk dialogue.old (parties (P.state peer.old) (O.told observer.old)) delivery.old)
         (talk dialogue.new (parties (P.state peer.new) (O.told observer.new)) delivery.new) }
     ensures same { D.site delivery.new ≡ D.site delivery.old }
     ensures reads { (P.state peer.new).reads ≡ (P.state peer.old).reads }
 {
     let said = dialogue.session.read(dialogue.wire.line());
-    let act = dialogue.session.line(said);
+    let is_busy = is_busy(&dialogue.session, delivery, &said);
+    let act = if is_busy {
+        dialogue.session.busy_line(said)
+    } else {
+        dialogue.session.line(said)
+    };
     let asked = Asked::Line(said);
     dialogue
         .outbox
@@ -124,6 +137,25 @@ fn handle_line<P: Peer, D: Delivery, O: Observer>(
     if act == Act::ReadData {
         dialogue.dot = Dot::new();
         delivery.begin();
+    }
+    if dialogue.session.state() == State::Greeted {
+        delivery.rests();
+    }
+    is_busy
+}
+
+// Whether the line would add a recipient whose mailbox is busy, where the site tells of that.
+fn is_busy<D: Delivery>(session: &Session, delivery: &D, said: &Reading<'_>) -> bool
+    requires offered { offered_for said.now ≡ extensions_of session.now.site }
+    ensures told { session.now.site.tells_busy ≡ false → result ≡ false }
+    ensures added { added_box session.now.site session.now.session (line_read said.now) ≡ None → result ≡ false }
+{
+    if !session.site().tells_busy() {
+        return false;
+    }
+    match session.added_box(said) {
+        Some(mailbox) => delivery.is_busy(mailbox),
+        None => false,
     }
 }
 

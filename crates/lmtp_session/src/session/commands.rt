@@ -1,10 +1,11 @@
 //! The steps for each command (RFC 5321, 4.1.4).
 
 ghost use Rattle.std.specs.Prelude.{◌≡◌, ◌≤◌, [], length};
-ghost use Rattle.mail_world.specs.Session.{on_command, on_mail, on_rcpt, on_data, on_rset, says, greeted};
+ghost use Rattle.mail_world.specs.Session.{on_command, on_mail, on_rcpt, on_busy_rcpt, on_data, on_rset, says, greeted};
 ghost use Rattle.mail_world.specs.Targets.{box_of};
 ghost use Rattle.lmtp_text.specs.Seen.{seen_answer, seen_target};
 ghost use Rattle.lmtp_session.specs.Steps.{TakesLines, IsTransition};
+ghost use Rattle.lmtp_session.specs.Added.{box_to_add};
 ghost use Rattle.lmtp_session.specs.CommandLimits.{IsWithinLimits};
 
 use crate::act::Act;
@@ -88,6 +89,38 @@ impl Session {
             },
             _ => Act::Say(Reply::OutOfOrder),
         }
+    }
+
+    /// The mailbox of that recipient, where it may be added.
+    pub(crate) fn box_to_add(&self, target: &Target) -> Option<u32>
+        ensures { result ≡ box_to_add self.now.session.state self.now.session
+            (box_of self.now.site (seen_target target.now)) }
+    {
+        match self.state {
+            State::Sender | State::Recipients if self.recipients.len() < RECIPIENT_LIMIT => {
+                self.site.find(target)
+            }
+            _ => None,
+        }
+    }
+
+    /// Answers for a recipient whose mailbox is busy.
+    pub(crate) fn put_off(&mut self, target: &Target) -> Act
+        requires state { TakesLines self.old.session.state }
+        ensures step { IsTransition self.old
+            (on_busy_rcpt self.old.session.state self.old.session
+            (box_of self.old.site (seen_target target.now))) result self.new }
+        ensures no_memory { self.new.room ≡ self.old.room }
+    {
+        self.answers.clear();
+        let is_known = self.site.find(target).is_some();
+        let is_full = self.recipients.len() == RECIPIENT_LIMIT;
+        Act::Say(match self.state {
+            State::Sender | State::Recipients if !is_known => Reply::NoSuchBox,
+            State::Sender | State::Recipients if is_full => Reply::TooMany,
+            State::Sender | State::Recipients => Reply::Busy,
+            _ => Reply::OutOfOrder,
+        })
     }
 
     fn on_data(&mut self) -> Act

@@ -25,7 +25,7 @@ returns-in-Line-clause-stands g c site start first handled came h =
     c.command-took.new.self
     before after c.args.delivery.now c.handle_line.new.delivery handled came c.args.rest.now
     c.command-took.result.used c.requires.state
-    (λ taken after. subst (by taken) c.in-Line.is (c.command-took.ensures.takes taken after)) c.handle_line.ensures.takes h
+    (λ taken after. subst (by taken) c.in-Line.is (c.command-took.ensures.takes taken after)) c.handle_line.result c.handle_line.ensures.busy c.handle_line.ensures.takes h
 
 pub returns-in-TooLong-clause-stands : goal.returns-in-TooLong-clause-stands
 returns-in-TooLong-clause-stands g c site start first handled came h =
