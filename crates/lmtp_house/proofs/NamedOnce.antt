@@ -18,7 +18,7 @@ use Rattle.mail_world.specs.Data.{message, data_end}
 use Rattle.mail_world.specs.Prefixes.{IsPrefix}
 use Rattle.mail_world.specs.Site.{Site}
 use Rattle.mail_world.specs.Session.{Session, fresh}
-use Rattle.mail_world.specs.Conversation.{Disposition, Part, CommandLine, MailData, Cut, cut, cut_then, is_data, inputs_of, session_after, parts_within, parts}
+use Rattle.mail_world.specs.Conversation.{Disposition, Part, CommandLine, MailData, is_busy, Cut, cut, cut_then, is_data, inputs_of, session_after, parts_within, parts}
 use Rattle.mail_world.specs.Conversation.{Conversation}
 use Rattle.mail_world.specs.Slips.{of_worker, names, times_named, slip_of, slips_from}
 use Rattle.mail_world.specs.Lists.{Transaction, is_content, accepted_after, transactions_of, transactions, copies_from, copies_if, copies, of_lane, due}
@@ -188,26 +188,26 @@ record AreNumbered (site : Site) (n : ℕ) (session : Session) (ps : List Part) 
       ≤ inside (if is_content session.state then n else n + 1) (accepted_after site n session ps) m
 
 -- data is cut where it may stand
-cut_by : (size : ℕ → ℕ) (o : Option ℕ) (p : ℕ → Part) (ds : List Disposition) (t : Bool) (c : Cut) → ((n : ℕ) → is_data (p n) ≡ t)
-    → option_map (λ n. record { part = p n; size = size n; dispositions = ds }) o ≡ Some c → is_data c.part ≡ t
-cut_by size None p ds t c h e = let bad : ◌≡◌ {A = Option Cut} None (Some c) = e in absurd (cc)
-cut_by size (Some n) p ds t c h e =
-    let one : Cut = record { part = p n; size = size n; dispositions = ds } in
+cut_by : (size : ℕ → ℕ) (o : Option ℕ) (p : ℕ → Part) (ds : List Disposition) (bs : List Bool) (t : Bool) (c : Cut) → ((n : ℕ) → is_data (p n) ≡ t)
+    → option_map (λ n. record { part = p n; size = size n; dispositions = ds; busy = bs }) o ≡ Some c → is_data c.part ≡ t
+cut_by size None p ds bs t c h e = let bad : ◌≡◌ {A = Option Cut} None (Some c) = e in absurd (cc)
+cut_by size (Some n) p ds bs t c h e =
+    let one : Cut = record { part = p n; size = size n; dispositions = ds; busy = bs } in
     let is : one ≡ c = cc in
     subst (λ (x : Cut). is_data x.part ≡ t) is (h n)
 
-line_cut : (s : List ℕ) (ds : List Disposition) (c : Cut) → cut Fresh s ds ≡ Some c → is_data c.part ≡ false
-line_cut s ds c e = cut_by (λ n. n + 2) (place_of crlf s) (λ n. CommandLine (take n s)) ds false c (λ n. refl) e
+line_cut : (s : List ℕ) (ds : List Disposition) (bs : List Bool) (c : Cut) → cut Fresh s ds bs ≡ Some c → is_data c.part ≡ false
+line_cut s ds bs c e = cut_by (λ n. n + 2) (place_of crlf s) (λ n. CommandLine (take n s) (is_busy bs)) ds (drop 1 bs) false c (λ n. refl) e
 
-data_cut : (state : State) (s : List ℕ) (ds : List Disposition) (c : Cut) → cut state s ds ≡ Some c → is_data c.part ≡ is_content state
-data_cut Fresh s ds c e = line_cut s ds c e
-data_cut Greeted s ds c e = line_cut s ds c e
-data_cut Sender s ds c e = line_cut s ds c e
-data_cut Recipients s ds c e = line_cut s ds c e
-data_cut Content s [] c e = let bad : ◌≡◌ {A = Option Cut} None (Some c) = e in absurd (cc)
-data_cut Content s (d ∷ ds) c e = cut_by (λ n. n + 3) (data_end s) (λ n. MailData (take (n + 3) s) d) ds true c (λ n. refl) e
-data_cut Waiting s ds c e = let bad : ◌≡◌ {A = Option Cut} None (Some c) = e in absurd (cc)
-data_cut Ended s ds c e = let bad : ◌≡◌ {A = Option Cut} None (Some c) = e in absurd (cc)
+data_cut : (state : State) (s : List ℕ) (ds : List Disposition) (bs : List Bool) (c : Cut) → cut state s ds bs ≡ Some c → is_data c.part ≡ is_content state
+data_cut Fresh s ds bs c e = line_cut s ds bs c e
+data_cut Greeted s ds bs c e = line_cut s ds bs c e
+data_cut Sender s ds bs c e = line_cut s ds bs c e
+data_cut Recipients s ds bs c e = line_cut s ds bs c e
+data_cut Content s [] bs c e = let bad : ◌≡◌ {A = Option Cut} None (Some c) = e in absurd (cc)
+data_cut Content s (d ∷ ds) bs c e = cut_by (λ n. n + 3) (data_end s) (λ n. MailData (take (n + 3) s) d) ds bs true c (λ n. refl) e
+data_cut Waiting s ds bs c e = let bad : ◌≡◌ {A = Option Cut} None (Some c) = e in absurd (cc)
+data_cut Ended s ds bs c e = let bad : ◌≡◌ {A = Option Cut} None (Some c) = e in absurd (cc)
 
 -- after a part the numbers go on
 later_first : (t : Bool) (n m last : ℕ) (w : ℕ) → w ≤ inside (if t then (if t then n + 1 else n) else (if t then n + 1 else n) + 1) last m
@@ -228,12 +228,12 @@ data_by n m last w grows le = grind (arith, nat_tests, grows, le)
 
 one_more : (site : Site) (n : ℕ) (session : Session) (p : Part) (ps : List Part) → is_data p ≡ is_content session.state
     → AreNumbered site (accepted_after_part site n session p) (session_after site session (inputs_of p)) ps → AreNumbered site n session (p ∷ ps)
-one_more site n session (CommandLine text) ps e h =
-    let next = session_after site session (inputs_of (CommandLine text)) in
-    let last = accepted_after site n session (CommandLine text ∷ ps) in record {
+one_more site n session (CommandLine text busy) ps e h =
+    let next = session_after site session (inputs_of (CommandLine text busy)) in
+    let last = accepted_after site n session (CommandLine text busy ∷ ps) in record {
       grows = grows_by (is_content next.state) n last h.grows;
       once = λ m.
-          let w = times_numbered m (transactions_of site n session (CommandLine text ∷ ps)) in
+          let w = times_numbered m (transactions_of site n session (CommandLine text busy ∷ ps)) in
           line_by (is_content session.state) n m last w (later_first (is_content next.state) n m last w (h.once m));
     }
 one_more site n session (MailData text d) ps e h =
@@ -263,18 +263,18 @@ numbered_then : (site : Site) (n : ℕ) (session : Session) (o : Option Cut) (mo
 numbered_then site n session None more f g = none_yet site n session
 numbered_then site n session (Some c) more f g = one_more site n session c.part (more c) (f c refl) (g c (accepted_after_part site n session c.part))
 
-numbered_within : (k : ℕ) (site : Site) (n : ℕ) (session : Session) (s : List ℕ) (ds : List Disposition)
-    → AreNumbered site n session (parts_within k site session s ds)
-numbered_within zero site n session s ds = none_yet site n session
-numbered_within (suc k) site n session s ds =
-    numbered_then site n session (cut session.state s ds)
-    (λ c. parts_within k site (session_after site session (inputs_of c.part)) (drop c.size s) c.dispositions)
-    (data_cut session.state s ds)
-    (λ c m. numbered_within k site m (session_after site session (inputs_of c.part)) (drop c.size s) c.dispositions)
+numbered_within : (k : ℕ) (site : Site) (n : ℕ) (session : Session) (s : List ℕ) (ds : List Disposition) (bs : List Bool)
+    → AreNumbered site n session (parts_within k site session s ds bs)
+numbered_within zero site n session s ds bs = none_yet site n session
+numbered_within (suc k) site n session s ds bs =
+    numbered_then site n session (cut session.state s ds bs)
+    (λ c. parts_within k site (session_after site session (inputs_of c.part)) (drop c.size s) c.dispositions c.busy)
+    (data_cut session.state s ds bs)
+    (λ c m. numbered_within k site m (session_after site session (inputs_of c.part)) (drop c.size s) c.dispositions c.busy)
 
-numbered : (site : Site) (n : ℕ) (c : Conversation) → AreNumbered site n fresh (parts site fresh c.bytes c.dispositions)
+numbered : (site : Site) (n : ℕ) (c : Conversation) → AreNumbered site n fresh (parts site fresh c.bytes c.dispositions c.busy)
 unfolding parts
-numbered site n c = numbered_within (length c.bytes) site n fresh c.bytes c.dispositions
+numbered site n c = numbered_within (length c.bytes) site n fresh c.bytes c.dispositions c.busy
 
 after_by : (n last m w v : ℕ) → n ≤ last → w ≤ inside (n + 1) last m → v ≤ cond (nat_lt last m) 1 0 → w + v ≤ cond (nat_lt n m) 1 0
 after_by n last m w v grows a b = grind (arith, nat_tests, grows, a, b)
@@ -284,7 +284,7 @@ numbers_rise : (site : Site) (n m : ℕ) (cs : List Conversation) → times_numb
 unfolding transactions
 numbers_rise site n m [] = omega arith
 numbers_rise site n m (c ∷ cs) =
-    let ps = parts site fresh c.bytes c.dispositions in
+    let ps = parts site fresh c.bytes c.dispositions c.busy in
     let last = accepted_after site n fresh ps in
     let h = numbered site n c in
     omega (

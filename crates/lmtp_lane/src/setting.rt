@@ -33,6 +33,8 @@ impl LaneStart for Brand {
       utf8 = false;
       renames_marks = false;
       refuses_malformed = false;
+      rejects_over_quota = false;
+      tells_busy = false;
     } };
 
     ghost May = { λ moment. ⊤ };

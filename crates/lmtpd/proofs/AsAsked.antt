@@ -15,7 +15,7 @@ use Rattle.lmtp_tcp.specs.declared.tcp_peer.Bounds.{Bounds}
 use Rattle.lmtpd_serve.specs.Served.{IsServerRun, Serving}
 use Rattle.lmtp_house.specs.declared.house.fault.HouseFault.{HouseFault}
 use Rattle.lmtp_house.specs.declared.house.fault.HouseFault.TheVariants as house
-use Rattle.lmtpd_words.specs.Words.{named_site}
+use Rattle.lmtpd_words.specs.Words.{serving_site}
 use Rattle.lmtpd_words.specs.declared.words.ServeWords.{ServeWords}
 use Rattle.lmtpd_setup.specs.declared.fault.Fault.TheVariants as fault
 use Rattle.lmtpd_setup.specs.declared.stop.Stop.TheVariants as stop
@@ -42,21 +42,21 @@ not_run : (words : ServeWords) (cause : HouseFault) → words.check_words ≡ fa
 not_run words cause served address sound (inl memory) = inl (ap stop.Fault memory)
 not_run words cause served address sound (inr why) = inr (inr (address, inr (sound, served, inr (inr why))))
 
-size_asked : (words : ServeWords) (site : Site) (sizes : Sizes) (count : ℕ) → site ≡ named_site words.site → sizes ≡ sizes_asked words
+size_asked : (words : ServeWords) (site : Site) (sizes : Sizes) (count : ℕ) → site ≡ serving_site words.site → sizes ≡ sizes_asked words
     → count ≡ length words.site.boxes.items
     → IsSize site sizes words.lanes count count → IsSizeAsked words
 size_asked words site sizes count is asked boxes good =
-    subst (λ (n : ℕ). IsSize (named_site words.site) (sizes_asked words) words.lanes n n) boxes
-    (subst (λ (z : Sizes). IsSize (named_site words.site) z words.lanes count count) asked
+    subst (λ (n : ℕ). IsSize (serving_site words.site) (sizes_asked words) words.lanes n n) boxes
+    (subst (λ (z : Sizes). IsSize (serving_site words.site) z words.lanes count count) asked
     (subst (λ (s : Site). IsSize s sizes words.lanes count count) is good))
 
-size_given : (words : ServeWords) (site : Site) (sizes : Sizes) (count : ℕ) → site ≡ named_site words.site → sizes ≡ sizes_asked words
+size_given : (words : ServeWords) (site : Site) (sizes : Sizes) (count : ℕ) → site ≡ serving_site words.site → sizes ≡ sizes_asked words
     → count ≡ length words.site.boxes.items
     → IsSizeAsked words → IsSize site sizes words.lanes count count
 size_given words site sizes count is asked boxes good =
     subst (λ (s : Site). IsSize s sizes words.lanes count count) (sym is)
-    (subst (λ (z : Sizes). IsSize (named_site words.site) z words.lanes count count) (sym asked)
-    (subst (λ (n : ℕ). IsSize (named_site words.site) (sizes_asked words) words.lanes n n) (sym boxes) good))
+    (subst (λ (z : Sizes). IsSize (serving_site words.site) z words.lanes count count) (sym asked)
+    (subst (λ (n : ℕ). IsSize (serving_site words.site) (sizes_asked words) words.lanes n n) (sym boxes) good))
 
 size_of_sum : {X : Type 0} (x : X) (Good : Type 0) → (◌≡◌ {A = Result X HouseFault} (Ok x) (Err house.Size)) ⊎ Good → Good
 size_of_sum x Good (inl e) = cc
@@ -86,7 +86,7 @@ pub served_as_asked : (C : Type 0) {G S : Type 0} (told : G → Option (List Ent
     (words : ServeWords) (before after : Option (List ℕ)) (served : Served) (site : Site) (serving : Serving ServerSocket (ServerCurfew C)) (opened : Opened)
     (curfew : Arc (ServerCurfew C) Global) (spools : List S)
     → words.check_words ≡ false
-    → IsListenedAt words opened → (site ≡ named_site words.site) × (site_fault words.site ≡ None)
+    → IsListenedAt words opened → (site ≡ serving_site words.site) × (site_fault words.site ≡ None)
     → serving ≡ serving_asked words opened.socket curfew
     → (length spools ≡ length words.site.boxes.items) × (map held spools ≡ mailboxes_asked words)
     × AllByRecursion (λ spool. IfSome (view.told spool) (λ ends. ends ≡ [])) spools
@@ -109,12 +109,12 @@ served_as_asked C told shows view held words before after served site serving op
   untold = boxes.2;
   ran =
       let R : Site → Serving ServerSocket (ServerCurfew C) → Type 0 = λ s z. IsServerRun s view told shows z spools before after served in
-      subst (λ z. R (named_site words.site) z) asked (subst (λ s. R s serving) made.0 ran);
+      subst (λ z. R (serving_site words.site) z) asked (subst (λ s. R s serving) made.0 ran);
 }
 
 pub no_server : (words : ServeWords) (cause : HouseFault) (site : Site) (sizes : Sizes) (count : ℕ)
     → words.check_words ≡ false
-    → IsListenAddress words.listen.now → (site ≡ named_site words.site) × (site_fault words.site ≡ None) → sizes ≡ sizes_asked words
+    → IsListenAddress words.listen.now → (site ≡ serving_site words.site) × (site_fault words.site ≡ None) → sizes ≡ sizes_asked words
     → count ≡ length words.site.boxes.items
     → (◌≡◌ {A = Result Served HouseFault} (Err cause) (Err house.Size) → IsSize site sizes words.lanes count count → ⊥)
     → (◌≡◌ {A = Result Served HouseFault} (Err cause) (Err house.Size)) ⊎ IsSize site sizes words.lanes count count

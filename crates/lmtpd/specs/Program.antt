@@ -17,7 +17,7 @@ use Rattle.lmtp_house.specs.House.{IsSize}
 use Rattle.lmtp_house.specs.declared.house.sizes.Sizes.{Sizes}
 use Rattle.lmtp_tcp.specs.declared.tcp_peer.Bounds.{Bounds}
 use Rattle.lmtpd_words.specs.CommandLine.{program_app}
-use Rattle.lmtpd_words.specs.Words.{IsAsked, IsLacking, named_site}
+use Rattle.lmtpd_words.specs.Words.{IsAsked, IsLacking, named_site, serving_site}
 use Rattle.lmtpd_words.specs.declared.words.RehearseWords.{RehearseWords}
 use Rattle.lmtpd_words.specs.declared.words.ServeWords.{ServeWords}
 use Rattle.lmtpd_words.specs.declared.words.CheckWords.{CheckWords}
@@ -131,7 +131,7 @@ serving_asked words socket curfew = record {
 
 abbrev pub IsSizeAsked : ServeWords → Type 0
 IsSizeAsked words =
-    IsSize (named_site words.site) (sizes_asked words) words.lanes (length words.site.boxes.items)
+    IsSize (serving_site words.site) (sizes_asked words) words.lanes (length words.site.boxes.items)
     (length words.site.boxes.items)
 
 -- A server that its words asked for ran: where they say, at the site that they name, with their sizes, for as many
@@ -152,7 +152,7 @@ pub record IsServedAsAsked (C : Type 0) {G S : Type 0} (told : G → Option (Lis
   pub each_box : length spools ≡ length words.site.boxes.items
   pub mailboxes : map held spools ≡ mailboxes_asked words
   pub untold : AllByRecursion (λ spool. IfSome (view.told spool) (λ ends. ends ≡ [])) spools
-  pub ran : IsServerRun (named_site words.site) view told shows (serving_asked words opened.socket curfew) spools
+  pub ran : IsServerRun (serving_site words.site) view told shows (serving_asked words opened.socket curfew) spools
       before after served
 
 -- why none ran though its site is sound: a mailbox's file, or only their folder where it is to start anyway, what it

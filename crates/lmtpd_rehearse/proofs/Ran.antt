@@ -91,7 +91,7 @@ told_is site box c = ap (λ ts. told_all box ts) (only_one site c)
 
 rising : (site : Site) (c : Conversation) → NumbersRise 1 (transactions_in site 0 c)
 unfolding parts
-rising site c = numbers_rise (length c.bytes) site 0 fresh c.bytes c.dispositions
+rising site c = numbers_rise (length c.bytes) site 0 fresh c.bytes c.dispositions c.busy
 
 -- lists
 one_alone : {A : Type 0} (xs : List A) → length xs ≡ 1 → (x : A) × (xs ≡ x ∷ [])
@@ -132,15 +132,17 @@ record IsHeldBy (site : Site) (moment : ℕ) (old new : PeerState) (end : EndCau
   ends : RehearsalEndsFor site c.bytes c.dispositions new.unread end
   unstopped : c ≡ conversation c.bytes c.dispositions
 
-held_by : (site : Site) (moment : ℕ) (old new : PeerState) (v : Visit) → old.stops ≡ 0 → new.stops ≡ 0 → v.after ≡ new
+held_by : (site : Site) (moment : ℕ) (old new : PeerState) (v : Visit) → site.tells_busy ≡ false → old.stops ≡ 0 → new.stops ≡ 0 → v.after ≡ new
     → IsVisit (terms site READ_LIMIT) (λ peer. peer ≡ old) v → IsHeldBy site moment old new v.cause v.conversation
-held_by site moment old new v never still at h =
+held_by site moment old new v quiet never still at h =
     let c = v.conversation in
     let before : v.before ≡ old = h.client in
     let began : v.before.stops ≡ 0 = ap (λ (p : PeerState). p.stops) before ∙ never in
     let ended : v.after.stops ≡ 0 = ap (λ (p : PeerState). p.stops) at ∙ still in
     let stopped : c.stopped ≡ false = not_stopped c.stopped v.before.stops v.after.stops began ended (λ e. h.causes.rose e) in
-    let is : c ≡ conversation c.bytes c.dispositions = ap (λ b. record { bytes = c.bytes; dispositions = c.dispositions; stopped = b }) stopped in
+    let is : c ≡ conversation c.bytes c.dispositions =
+    ap (λ b. record { bytes = c.bytes; dispositions = c.dispositions; busy = c.busy; stopped = b }) stopped
+    ∙ ap (λ l. record { bytes = c.bytes; dispositions = c.dispositions; busy = l; stopped = false }) (h.accounted.none_busy quiet) in
     let Q : Conversation → Type 0 = λ x. has_quit (inputs site x) ≡ true in
     let I : PeerState → PeerState → Type 0 = λ x y. Consumes x.unread y.unread c.bytes in
     let O : PeerState → PeerState → Type 0 = λ x y. Appends x.written y.written h.said in
@@ -380,11 +382,11 @@ module _ (site : Site) (quota : Option ℕ) (moment : ℕ) {P : Type 0} (state :
             };
       }
 
-  pub held : (last : P) (end : EndCause) (faulty : Bool) → HasRunAlone site quota moment state peer count back → back.visits ≡ unseen (Over last end) ∷ []
+  pub held : (last : P) (end : EndCause) (faulty : Bool) → site.tells_busy ≡ false → HasRunAlone site quota moment state peer count back → back.visits ≡ unseen (Over last end) ∷ []
       → ((p : P) → (state p).stops ≡ 0)
       → count ≡ length site.boxes → faulty ≡ list_any (λ t. t.faulty) back.tallies
       → IsHeld site quota moment (streams_of (state peer)) (streams_of (state last)) (record { mailboxes = back.spools; faulty = faulty; end = end })
-  held last end faulty h after never size faulty_is =
+  held last end faulty quiet h after never size faulty_is =
       let lane : LaneWork = h.lanes 0 in
       let number = one_alone back.conversations h.as_many_lanes.1 in
       let work = h.served 0 number.0 (unseen (Waiting peer)) (unseen (Over last end)) refl (ap (λ l. slice_get l 0) after) (ap (λ l. slice_get l 0) number.1) in
@@ -394,7 +396,7 @@ module _ (site : Site) (quota : Option ℕ) (moment : ℕ) {P : Type 0} (state :
       let M : PeerState → Type 0 = λ p. p ≡ state peer in
       let V : List Visit → Type 0 = λ l. AllByRecursion (IsVisit (terms site READ_LIMIT) M) l in
       let visited : V (v ∷ []) = subst V one.only work.visited.each in
-      let by = held_by site moment (state peer) (state last) v (never peer) (never last) one.after visited.0 in
+      let by = held_by site moment (state peer) (state last) v quiet (never peer) (never last) one.after visited.0 in
       let are : conversations_of lane.visits ≡ c ∷ [] = ap conversations_of one.only in
       let ts_are : transactions site 0 (conversations_of lane.visits) ≡ transactions_in site 0 c = ap (λ l. transactions site 0 l) are ∙ only_one site c in
       let O : List Transaction → Type 0 = λ ts. AllByRecursion (λ t. OutcomesIn 0 lane.heard t t.disposition.verdict) ts in

@@ -1,6 +1,6 @@
 //! A rehearsal, from its reader to its writer.
 
-ghost use Rattle.std.specs.Prelude.{◌≡◌, ◌⊎◌, [], ◌∷◌, length, IfOk, Err};
+ghost use Rattle.std.specs.Prelude.{◌≡◌, ◌⊎◌, [], ◌∷◌, length, IfOk, Err, false};
 ghost use Rattle.std.specs.Arc.{arc_value};
 ghost use Rattle.lmtpd_rehearse.specs.Mailboxes.{bytes_of_all, texts_of_mailboxes};
 ghost use Rattle.lmtpd_rehearse.specs.Client.{IsOnlyOver, unseen};
@@ -39,6 +39,7 @@ where
     R: Read + Drop + Send + 'static,
     W: Write + Drop + Send + 'static,
     H: Threads + Wait + Copy + Send + 'static,
+    requires quiet { (arc_value site).tells_busy ≡ false }
     ensures rehearses { IfOk result (λ rehearsed. IsRehearsed (arc_value site) quota moment
         (record { unread = R.remaining reader; written = W.contents writer })
         (record { unread = R.remaining rehearsed.reader; written = W.contents rehearsed.writer }) rehearsed.ending) }
@@ -109,6 +110,7 @@ where
     R: Read + Drop + Send + 'static,
     W: Write + Drop + Send + 'static,
     H: Threads + Wait + Copy + Send + 'static,
+    requires quiet { (arc_value site).tells_busy ≡ false }
     ensures held { IfOk result (λ held. IsHeld (arc_value site) conditions.quota conditions.moment
         (record { unread = R.remaining peer.reader; written = W.contents peer.writer })
         (record { unread = R.remaining held.peer.reader; written = W.contents held.peer.writer })

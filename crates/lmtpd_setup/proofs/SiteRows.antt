@@ -13,6 +13,8 @@ pub no_box : first_fault (codes ".mbox") (record {
   utf8 = false;
   renames_marks = false;
   refuses_malformed = false;
+  rejects_over_quota = false;
+  tells_busy = false;
 }) ≡ Some fault.NoBox
 no_box = refl
 

@@ -105,6 +105,8 @@ site_of_one host domains name =
       utf8 = false;
       renames_marks = false;
       refuses_malformed = false;
+      rejects_over_quota = false;
+      tells_busy = false;
     }
 
 -- why the program ends where clap answers so

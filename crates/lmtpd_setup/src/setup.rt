@@ -4,7 +4,7 @@ ghost use Rattle.std.specs.Prelude.{◌≡◌, length, map, None, IfOk, IfErr};
 ghost use Rattle.std.specs.Arc.{arc_value};
 ghost use Rattle.std.specs.List.{AllByRecursion};
 ghost use Rattle.log.specs.Handle.{max_level};
-ghost use Rattle.lmtpd_words.specs.Words.{named_site};
+ghost use Rattle.lmtpd_words.specs.Words.{serving_site};
 ghost use Rattle.lmtpd_setup.specs.Curfew.{IsCurfewOf};
 ghost use Rattle.lmtpd_setup.specs.Faults.{site_fault};
 ghost use Rattle.lmtpd_setup.specs.Mailboxes.{IsUntold, held_as};
@@ -58,7 +58,7 @@ where
     P: AllocGlobal + Files + Env,
     H::File: RangeLock + Writeback,
     H: Clock + Files + Eprint + Copy + Drop,
-    ensures site { IfOk result (λ setup. arc_value setup.site ≡ named_site words.now.site) }
+    ensures site { IfOk result (λ setup. arc_value setup.site ≡ serving_site words.now.site) }
     ensures sound { IfOk result (λ setup. site_fault words.now.site ≡ None) }
     ensures count { IfOk result (λ setup. length setup.spools.items ≡ length words.now.site.boxes.items) }
     ensures mailboxes { IfOk result (λ setup. map held_as setup.spools.items ≡ mailboxes_asked words.now) }

@@ -5,7 +5,7 @@ ghost use Rattle.std.specs.Arc.{arc_value};
 ghost use Rattle.mail_world.specs.Site.{IsSite};
 ghost use Rattle.std.specs.List.{list_all};
 ghost use Rattle.lmtp_text.specs.Sites.{site_of, texts};
-ghost use Rattle.lmtpd_words.specs.Words.{named_site};
+ghost use Rattle.lmtpd_words.specs.Words.{named_site, serving_site};
 ghost use Rattle.lmtpd_setup.specs.Faults.{first_fault, is_lock_name, is_usable_name, site_fault, site_of_one};
 ghost use Rattle.lmtpd_setup.specs.Names.{IsNoSite};
 
@@ -73,7 +73,7 @@ fn with_malformed_refused_where_asked(site: Site, is_asked: bool) -> Site
 /// The site of a server's words, to be shared by threads, or what ends the server.
 pub fn served_site<'a>(alloc: Global, words: &ServeWords<'_>) -> Result<Arc<Site>, Stop<'a>>
     ensures { MatchResult result
-        (λ site. (arc_value site ≡ named_site words.now.site) × (site_fault words.now.site ≡ None))
+        (λ site. (arc_value site ≡ serving_site words.now.site) × (site_fault words.now.site ≡ None))
         (IsNoSite words.now) }
 {
     match shared_site(alloc, &words.site) {
@@ -84,11 +84,11 @@ pub fn served_site<'a>(alloc: Global, words: &ServeWords<'_>) -> Result<Arc<Site
 
 fn shared_site(alloc: Global, words: &SiteWords) -> Result<Arc<Site>, Fault>
     ensures { MatchResult result
-        (λ site. (arc_value site ≡ named_site words.now) × (site_fault words.now ≡ None))
+        (λ site. (arc_value site ≡ serving_site words.now) × (site_fault words.now ≡ None))
         (λ fault. (fault ≡ Fault.Memory) ⊎ (site_fault words.now ≡ Some fault)) }
 {
-    let site = Arc::new(alloc, site_of(alloc, words)?)?;
-    Ok(site)
+    let site = site_of(alloc, words)?.with_busy_told();
+    Ok(Arc::new(alloc, site)?)
 }
 
 fn bytes_of<'a>(alloc: Global, names: &[&'a str]) -> Result<Vec<&'a [u8]>, AllocError>

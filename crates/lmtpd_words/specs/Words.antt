@@ -284,3 +284,7 @@ named_site words =
       renames_marks = words.rename_marks;
       refuses_malformed = words.refuse_malformed;
     }
+
+-- the same as a server has it, which tells a recipient that its mailbox is busy
+abbrev pub serving_site : SiteWords → Site
+serving_site words = record (named_site words) { tells_busy = true }

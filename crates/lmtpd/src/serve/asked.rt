@@ -4,7 +4,7 @@ ghost use Rattle.std.specs.Prelude.{◌≡◌, false, length, map, None, MatchRe
 ghost use Rattle.std.specs.Arc.{arc_value};
 ghost use Rattle.std.specs.List.{AllByRecursion};
 ghost use Rattle.lmtp_threads.specs.Works.{spools_view};
-ghost use Rattle.lmtpd_words.specs.Words.{named_site};
+ghost use Rattle.lmtpd_words.specs.Words.{serving_site};
 ghost use Rattle.lmtpd_setup.specs.Curfew.{IsCurfewOf};
 ghost use Rattle.lmtpd_setup.specs.Faults.{site_fault};
 ghost use Rattle.lmtpd_setup.specs.Mailboxes.{IsUntold, held_as};
@@ -82,7 +82,7 @@ where
     W: Write,
     requires served { words.now.check_words ≡ false }
     requires opened { IsListenedAt words.now opened }
-    requires site { arc_value setup.site ≡ named_site words.now.site }
+    requires site { arc_value setup.site ≡ serving_site words.now.site }
     requires sound { site_fault words.now.site ≡ None }
     requires count { length setup.spools.items ≡ length words.now.site.boxes.items }
     requires mailboxes { map held_as setup.spools.items ≡ mailboxes_asked words.now }

@@ -29,6 +29,6 @@ returns-clause-held g c =
     c.in_ok-mailboxes.ensures ∙ ap (λ s. replicate c.box_count-count.result (empty_mailbox s)) c.deref-2.ensures in
     let ran = rw (visits, mailboxes, capacity, quota, ← c.report.view_is) at c.in_ok-report.ensures.ran in
     held (arc_value c.args.site) c.args.conditions.quota c.args.conditions.moment _ c.args.peer c.box_count-count.result _ c.only_client-peer.result.0
-    c.only_client-peer.result.1 c.has_failed-faulty.result
+    c.only_client-peer.result.1 c.has_failed-faulty.result c.requires.quiet
     ran c.only_client-peer.ensures (λ p. refl) (c.box_count-count.ensures.value ∙ ap (λ s. length s.boxes) c.deref.ensures)
     (c.has_failed-faulty.ensures ∙ ap (λ ts. list_any (λ t. t.faulty) ts) c.deref-3.ensures.value)
