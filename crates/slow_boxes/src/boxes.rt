@@ -1,0 +1,151 @@
+//! The words that all threads of a server share.
+
+ghost use Rattle.std.specs.Prelude.{◌≡◌, length, IfOk};
+
+use crate::lanes::{bit_of, share_of};
+use crate::turns::{Turns, milliseconds};
+use std::alloc::{AllocError, Global};
+use std::sync::atomic::{AtomicU64, Ordering};
+use std::time::Clock;
+
+/// Of each mailbox how its turns stand and which lanes have a copy there without an answer, and which lanes count: they
+/// had a recipient with a slow mailbox. A lane that is no lane of the server, and a mailbox that is none, change nothing.
+#[derive(Drop)]
+pub struct SlowBoxes {
+    lanes: u32,
+    boxes: Vec<BoxWords>,
+    counting: AtomicU64,
+    // the lanes whose message has several copies for one mailbox
+    doubled: AtomicU64,
+}
+
+/// What is known of a mailbox.
+#[derive(Drop)]
+struct BoxWords {
+    turns: Turns,
+    lanes: AtomicU64,
+}
+
+impl SlowBoxes {
+    /// For that many lanes and mailboxes. From here on it takes no memory.
+    pub fn new(alloc: Global, lanes: u32, boxes: usize) -> Result<SlowBoxes, AllocError>
+        ensures lanes { IfOk result (λ made. made.lanes ≡ lanes) }
+        ensures boxes { IfOk result (λ made. length made.boxes.items ≡ boxes) }
+    {
+        let mut words = Vec::with_capacity(alloc, boxes)?;
+        for _ in 0..boxes {
+            words.push(BoxWords {
+                turns: Turns::new(),
+                lanes: AtomicU64::new(0),
+            })?;
+        }
+        Ok(SlowBoxes {
+            lanes,
+            boxes: words,
+            counting: AtomicU64::new(0),
+            doubled: AtomicU64::new(0),
+        })
+    }
+
+    /// The lane is to give the mailbox a copy.
+    pub fn posts(&self, lane: u32, mailbox: u32) {
+        let Some(words) = self.boxes.get(mailbox as usize) else {
+            return;
+        };
+        let bit = bit_of(lane);
+        if words.lanes.fetch_or(bit, Ordering::SeqCst) & bit != 0 {
+            self.doubled.fetch_or(bit, Ordering::SeqCst);
+        }
+    }
+
+    /// The mailbox's worker answers a copy of the lane. Of several for one mailbox nobody knows which is the last: such a
+    /// lane has them until it rests.
+    pub fn answers(&self, lane: u32, mailbox: u32) {
+        let Some(words) = self.boxes.get(mailbox as usize) else {
+            return;
+        };
+        let bit = bit_of(lane);
+        if self.doubled.load(Ordering::SeqCst) & bit == 0 {
+            words.lanes.fetch_and(!bit, Ordering::SeqCst);
+        }
+    }
+
+    /// The lane's transaction has ended: it counts no more, and has no copy anywhere.
+    pub fn rests(&self, lane: u32) {
+        let bit = bit_of(lane);
+        for words in &self.boxes {
+            clear(&words.lanes, bit);
+        }
+        clear(&self.doubled, bit);
+        clear(&self.counting, bit);
+    }
+
+    /// A turn begins at the mailbox.
+    pub fn begins<C: Clock>(&self, mailbox: u32, clock: &C) {
+        if let Some(words) = self.boxes.get(mailbox as usize) {
+            words.turns.begin(milliseconds(clock));
+        }
+    }
+
+    /// The turn at the mailbox was missed, or it has ended.
+    pub fn ends(&self, mailbox: u32, is_missed: bool) {
+        let Some(words) = self.boxes.get(mailbox as usize) else {
+            return;
+        };
+        if is_missed {
+            words.turns.miss();
+        } else {
+            words.turns.end();
+        }
+    }
+
+    /// Whether a recipient of the lane is answered that his mailbox is busy: it is slow, and other lanes that count are
+    /// as many as may. Else the lane counts from now on where the mailbox is slow, so that lanes that count are never
+    /// more than that. A lane that asks counts meanwhile for the others that ask.
+    pub fn is_busy<C: Clock>(&self, lane: u32, mailbox: u32, clock: &C) -> bool {
+        let is_slow = match self.boxes.get(mailbox as usize) {
+            Some(words) => words.turns.is_slow(milliseconds(clock)),
+            None => false,
+        };
+        is_slow && !self.counts(lane)
+    }
+
+    // Whether the lane counts from now on, or does already.
+    fn counts(&self, lane: u32) -> bool {
+        let bit = bit_of(lane);
+        let counting = self.counting.fetch_or(bit, Ordering::SeqCst);
+        if counting & bit != 0 || counting.count_ones() < share_of(self.lanes) {
+            return true;
+        }
+        self.counting.fetch_and(!bit, Ordering::SeqCst);
+        false
+    }
+
+    /// Whether the turn under way at the mailbox may be waited for any longer: it isn't old, there is one lane alone, or
+    /// fewer lanes than may have a copy without an answer at a slow mailbox.
+    pub fn may_wait<C: Clock>(&self, mailbox: u32, clock: &C) -> bool {
+        let Some(words) = self.boxes.get(mailbox as usize) else {
+            return true;
+        };
+        let now = milliseconds(clock);
+        self.lanes <= 1 || !words.turns.is_old(now) || self.lanes_held(now) < share_of(self.lanes)
+    }
+
+    // How many lanes have a copy without an answer at a slow mailbox.
+    fn lanes_held(&self, now: u64) -> u32 {
+        let mut lanes = 0;
+        for words in &self.boxes {
+            if words.turns.is_slow(now) {
+                lanes |= words.lanes.load(Ordering::SeqCst);
+            }
+        }
+        lanes.count_ones()
+    }
+}
+
+// Clears the bit, where it is set: a word that is only read stays with those that read it.
+fn clear(word: &AtomicU64, bit: u64) {
+    if word.load(Ordering::SeqCst) & bit != 0 {
+        word.fetch_and(!bit, Ordering::SeqCst);
+    }
+}
