@@ -10,8 +10,8 @@ mod house;
 
 pub use house::{HouseFault, HouseReport, Room, Sizes, has_failed, is_size, run_house};
 pub use lmtp_lane::{
-    Clock, Desk, Endpoint, LaneReport, Listener, SystemClock, TcpVisits, Visits, WAIT_MS, lane_run,
-    lane_run_at, tcp_visits,
+    Clock, Desk, Endpoint, LaneReport, Listener, SlowMailboxes, SystemClock, TcpVisits, Visits,
+    WAIT_MS, lane_run, lane_run_at, tcp_visits,
 };
 pub use lmtp_talk::{
     Arrived, Came, Client, Delivery, Dialogue, EndCause, Observer, Outbox, Pause, Peer, PeerFault,

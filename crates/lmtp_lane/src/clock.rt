@@ -2,10 +2,12 @@
 
 ghost use Rattle.std.specs.Prelude.{ℕ};
 
+use crate::slow::SlowMailboxes;
 use std::sync::Wait;
 
-/// Tells the time. A clock says which moments it may answer, and a lane's account says that its moments are such.
-pub trait Clock: Drop {
+/// Tells the time. A clock says which moments it may answer, and a lane's account says that its moments are such. What
+/// all lanes share besides, which mailboxes are slow, comes with it.
+pub trait Clock: SlowMailboxes + Drop {
     // the moments that it may answer
     ghost May: { Self → ℕ → Type 0 };
 

@@ -76,6 +76,14 @@ impl<'a, N: DepotName, C: Clock, R: Wait, S: LaneStart> LaneDelivery<'a, N, C, R
         }
     }
 
+    // Says where the lane is to have copies: before the first is there, so that none is answered before.
+    fn post_all(&self, session: &Session) {
+        for place in 0..session.recipient_count() {
+            self.clock
+                .posts(self.exchange.lane, session.recipient(place));
+        }
+    }
+
     // Sends a whole message to its recipients.
     fn deliver(&mut self, session: &Session, counted: CountedDraft<N>)
         requires content { session.now.session.state ≡ State.Content }
@@ -94,6 +102,7 @@ impl<'a, N: DepotName, C: Clock, R: Wait, S: LaneStart> LaneDelivery<'a, N, C, R
             moment: self.moment,
             lengths: counter.total(),
         };
+        self.post_all(session);
         self.exchange.send(self.rt, self.depot, session, mark, hold);
     }
 }
@@ -114,6 +123,14 @@ impl<'a, N: DepotName, C: Clock, R: Wait, S: LaneStart> Delivery for LaneDeliver
     ghost outcomes = { λ d. told_by d.exchange.gather.gather };
 
     ghost moment = { λ d. d.moment };
+
+    fn is_busy(&self, mailbox: u32) -> bool {
+        self.clock.is_busy(self.exchange.lane, mailbox)
+    }
+
+    fn rests(&self) {
+        self.clock.rests(self.exchange.lane);
+    }
 
     fn begin(&mut self) {
         self.accepted = self.accepted.saturating_add(1);

@@ -14,6 +14,7 @@ mod incoming;
 mod report;
 mod run;
 mod setting;
+mod slow;
 mod tcp;
 mod visits;
 
@@ -21,5 +22,6 @@ pub use clock::Clock;
 pub use desk::Desk;
 pub use report::LaneReport;
 pub use run::{lane_run, lane_run_at};
+pub use slow::SlowMailboxes;
 pub use tcp::{Endpoint, Listener, SystemClock, TcpVisits, WAIT_MS, tcp_visits};
 pub use visits::Visits;

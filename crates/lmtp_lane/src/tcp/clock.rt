@@ -4,6 +4,7 @@ ghost use Rattle.std.specs.Prelude.{◌≡◌, ◌<◌, ◌/◌, ◌^◌, ◌-�
 ghost use Rattle.std.specs.Duration.{as_nanos};
 
 use crate::clock::Clock;
+use crate::slow::SlowMailboxes;
 use std::sync::Wait;
 use std::time::Duration;
 use std::{io, time};
@@ -22,6 +23,9 @@ impl<T> SystemClock<T> {
         SystemClock { clock }
     }
 }
+
+/// It knows of no slow mailbox.
+impl<T> SlowMailboxes for SystemClock<T> {}
 
 impl<T: time::Clock + Drop> Clock for SystemClock<T> {
     ghost use Rattle.std.specs.Prelude.{◌<◌, ◌^◌};
