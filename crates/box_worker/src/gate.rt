@@ -1,5 +1,6 @@
 //! Where a test may hold a worker.
 
+use crate::turn::TurnEnd;
 use mail_world::Txn;
 
 /// What a worker calls before it begins a copy's record, and once it has let the copy go. Nothing is promised of it: a
@@ -8,8 +9,8 @@ pub trait Gate {
     /// Nothing of the copy is in the spool yet.
     fn before(&mut self, txn: Txn, place: u32);
 
-    /// The copy is stored, over the quota or lost, and its lane isn't told yet.
-    fn after(&mut self, txn: Txn, place: u32);
+    /// The copy is stored, over the quota or lost, as its turn ended, and its lane isn't told yet.
+    fn after(&mut self, txn: Txn, place: u32, end: TurnEnd);
 }
 
 /// Lets every copy through.
@@ -21,7 +22,7 @@ impl Gate for OpenGate {
         let _ = (txn, place);
     }
 
-    fn after(&mut self, txn: Txn, place: u32) {
-        let _ = (txn, place);
+    fn after(&mut self, txn: Txn, place: u32, end: TurnEnd) {
+        let _ = (txn, place, end);
     }
 }

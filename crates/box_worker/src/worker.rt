@@ -122,7 +122,7 @@ impl<S: Spool, G: Gate, O: TurnObserver> Worker<S, G, O> {
             .mailbox
             .take(rt, depot, site, &envelope, &lengths, &mut hold);
         let released = release(rt, depot, txn, place, hold);
-        self.gate.after(txn, place);
+        self.gate.after(txn, place, end);
         self.observer.turn(end);
         self.slips
             .tell::<Brand, N, R>(rt, released, end.outcome(), receiver);

@@ -1,6 +1,6 @@
 //! Leaves a busy mailbox to other programs for a moment, time and again.
 
-use box_worker::Gate;
+use box_worker::{Gate, TurnEnd};
 use mail_world::Txn;
 use std::time::{Clock, Duration};
 
@@ -48,8 +48,8 @@ impl<C: Clock> Gate for RestGate<C> {
         }
     }
 
-    fn after(&mut self, txn: Txn, place: u32) {
-        let _ = (txn, place);
+    fn after(&mut self, txn: Txn, place: u32, end: TurnEnd) {
+        let _ = (txn, place, end);
         if let Ok(now) = self.clock.monotonic() {
             self.released = now;
         }
