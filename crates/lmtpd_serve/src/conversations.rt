@@ -1,6 +1,7 @@
 //! How many conversations a server holds.
 
 use lmtp_tcp::Bounds;
+use slow_boxes::SlowBoxes;
 use std::sync::Arc;
 
 /// The conversations of a server.
@@ -14,4 +15,6 @@ pub struct Conversations<E: Drop> {
     pub bounds: Bounds,
     /// When the server is to end though not all were held, and when each of them is.
     pub curfew: Arc<E>,
+    /// Which mailboxes hold up their lanes.
+    pub slow: Arc<SlowBoxes>,
 }

@@ -6,10 +6,12 @@
 
 mod busy;
 mod conversations;
+mod lane_clock;
 mod lines;
 mod run;
 mod saying;
 mod served;
+mod turn_gate;
 mod watching;
 
 pub use conversations::Conversations;

@@ -8,20 +8,22 @@ ghost use Rattle.lmtp_threads.specs.Works.{spools_view};
 ghost use Rattle.lmtp_house.specs.House.{IsSize};
 ghost use Rattle.lmtpd_serve.specs.Served.{AreLanesFor, HaveLogs, IsAnnounced, IsServerRun, ListsOn, counts_text};
 
-use super::busy::RestGate;
 use super::conversations::Conversations;
+use super::lane_clock::LaneClock;
 use super::saying::{Announced, announce, is_cut};
 use super::served::{Served, ServerEnding};
+use super::turn_gate::TurnGate;
 use super::watching::watched;
 use box_worker::TurnObserver;
 use lmtp_house::{
-    HouseFault, HouseReport, Listener, Sizes, SystemClock, TcpVisits, Watched, has_failed, is_size,
-    run_house, tcp_visits,
+    HouseFault, HouseReport, Listener, Sizes, TcpVisits, Watched, has_failed, is_size, run_house,
+    tcp_visits,
 };
 use lmtp_tcp::{ClientStream, Curfew};
 use lmtp_text::Site;
 use lmtpd_log::{LaneLogs, lane_logs};
 use mbox_spool::Spool;
+use slow_boxes::SlowBoxes;
 use std::alloc::{AllocError, Global};
 use std::io::{Read, Write};
 use std::sync::{Arc, Wait};
@@ -104,7 +106,7 @@ type LoggedVisits<L, E, O> = Watched<TcpVisits<L, E>, O>;
 /// A gate for each mailbox, what came of saying where the server listens, and the clients of each lane.
 #[derive(Drop)]
 struct Prepared<V: Drop, H: Drop> {
-    gates: Vec<RestGate<H>>,
+    gates: Vec<TurnGate<H>>,
     announced: Announced,
     visits: Vec<V>,
 }
@@ -147,12 +149,13 @@ where
         spools,
     } = house;
     let served_site = Arc::try_clone(&site)?;
+    let slow = Arc::try_clone(&clients.conversations.slow)?;
     let Prepared {
         gates,
         announced,
         visits,
     } = prepare(rt, alloc, spools.len(), clients, logs, writer)?;
-    let clock = SystemClock::new(rt);
+    let clock = LaneClock::new(rt, slow);
     let report = match run_house(rt, alloc, site, sizes, visits, spools, gates, clock) {
         Ok(report) => report,
         Err(fault) => return Err(fault),
@@ -188,7 +191,7 @@ where
         (λ prepared. IsAnnounced prepared.announced.is_unknown (W.contents writer.old) (W.contents writer.new)
         prepared.announced.is_cut) }
 {
-    let gates = vec![in alloc; RestGate::new(rt); boxes]?;
+    let gates = gates_of(rt, alloc, boxes, &clients.conversations.slow)?;
     let announced = announce(alloc, &clients.listener, writer)?;
     let Clients {
         conversations,
@@ -202,11 +205,28 @@ where
     })
 }
 
+// The gates of that many mailboxes.
+fn gates_of<H: Copy + Drop>(
+    rt: H,
+    alloc: Global,
+    boxes: usize,
+    slow: &Arc<SlowBoxes>,
+) -> Result<Vec<TurnGate<H>>, AllocError>
+    ensures { IfOk result (λ gates. length gates.items ≡ boxes) }
+{
+    let mut gates = Vec::with_capacity(alloc, boxes)?;
+    for place in 0..boxes {
+        let mailbox = u32::try_from(place).unwrap_or(u32::MAX);
+        gates.push(TurnGate::new(rt, Arc::try_clone(slow)?, mailbox))?;
+    }
+    Ok(gates)
+}
+
 // What the run of the house comes to, once it is said what was stored.
 fn served_by<L: Drop, E: Drop, O: Drop, S: Drop, T: Drop, H: Drop, W: Write>(
     site: Arc<Site>,
     announced: Announced,
-    report: HouseReport<TcpVisits<L, E>, O, S, T, RestGate<H>>,
+    report: HouseReport<TcpVisits<L, E>, O, S, T, TurnGate<H>>,
     writer: &mut W,
 ) -> Served
     requires { length report.tallies ≡ length (arc_value site).boxes }
@@ -264,6 +284,7 @@ fn visits_of<L: Drop, E: Drop, G: LaneLogs>(
         count,
         bounds,
         curfew,
+        ..
     } = conversations;
     let visits = tcp_visits(alloc, listener, lanes, count, bounds, curfew)?;
     let logs = lane_logs(alloc, logs, lanes)?;

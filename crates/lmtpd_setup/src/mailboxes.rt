@@ -17,6 +17,7 @@ use lmtpd_log::{LogSink, MailboxLog};
 use lmtpd_output::printable;
 use log::{Log, error};
 use mbox_rd::{FileSpool, MailboxFile, RangeLock, StdMailboxFile, Writeback};
+use slow_boxes::SlowBoxes;
 use std::alloc::{AllocError, Global};
 use std::fs::Files;
 use std::io;
@@ -41,6 +42,15 @@ pub struct Access<'a> {
     pub anyway: bool,
 }
 
+/// What all mailboxes share by which their turns know how long they may be waited for.
+#[derive(Drop)]
+pub struct Shared<R: Drop> {
+    /// What ends the server.
+    pub curfew: Arc<ServerCurfew<R>>,
+    /// Which mailboxes hold up lanes.
+    pub slow: Arc<SlowBoxes>,
+}
+
 /// Looks at the file of each mailbox, `FOLDER/NAME` and the suffix, in their order, up to the first that shows as one
 /// that can't be opened, of which the log says why. None is opened or made before a turn. With `anyway` it goes on after
 /// such a one, whose turns are missed until its file is in order; only a folder that can't be read ends it. Each has a
@@ -50,7 +60,7 @@ pub fn open_mailboxes<'a, R, G>(
     alloc: Global,
     access: Access<'a>,
     names: &[&'a [u8]],
-    curfew: &Arc<ServerCurfew<R>>,
+    shared: &Shared<R>,
     log: G,
 ) -> Result<Vec<ServedMailbox<R, G>>, Stop<'a>>
 where
@@ -67,9 +77,24 @@ where
         Err(_) => return Err(Stop::Fault(Fault::Memory)),
     };
     for name in names {
-        spools.push_reserved(open_mailbox(rt, alloc, access, name, curfew, log)?);
+        let clock = clock_of(rt, shared, spools.len())?;
+        spools.push_reserved(open_mailbox(rt, alloc, access, name, clock, log)?);
     }
     Ok(spools)
+}
+
+// The clock of the mailbox at that place.
+fn clock_of<'a, R: Drop>(
+    rt: R,
+    shared: &Shared<R>,
+    place: usize,
+) -> Result<HurriedClock<R>, Stop<'a>>
+    ensures { IfErr result (λ stop. stop ≡ Stop.Fault Fault.Memory) }
+{
+    let mailbox = u32::try_from(place).unwrap_or(u32::MAX);
+    let curfew = one_more(&shared.curfew)?;
+    let slow = one_more(&shared.slow)?;
+    Ok(HurriedClock::new(rt, curfew, slow, mailbox))
 }
 
 fn open_mailbox<'a, R, G>(
@@ -77,7 +102,7 @@ fn open_mailbox<'a, R, G>(
     alloc: Global,
     access: Access<'a>,
     name: &'a [u8],
-    curfew: &Arc<ServerCurfew<R>>,
+    clock: HurriedClock<R>,
     log: G,
 ) -> Result<ServedMailbox<R, G>, Stop<'a>>
 where
@@ -89,7 +114,6 @@ where
     ensures err { IfErr result (IsNotOpen access.entry name.entry) }
 {
     let file = open_file(rt, alloc, access, name, &log)?;
-    let clock = HurriedClock::new(rt, shared(curfew)?);
     let inner = match FileSpool::new(alloc, file, clock, access.wait) {
         Ok(spool) => spool,
         Err(_) => return Err(Stop::Fault(Fault::Memory)),
@@ -177,11 +201,12 @@ fn mailbox_log<'a, G: Log + Drop>(
     }
 }
 
-fn shared<'a, T: Drop>(curfew: &Arc<T>) -> Result<Arc<T>, Stop<'a>>
+// What is shared, for one more mailbox.
+fn one_more<'a, T: Drop>(shared: &Arc<T>) -> Result<Arc<T>, Stop<'a>>
     ensures { IfErr result (λ stop. stop ≡ Stop.Fault Fault.Memory) }
 {
-    match Arc::try_clone(curfew) {
-        Ok(curfew) => Ok(curfew),
+    match Arc::try_clone(shared) {
+        Ok(shared) => Ok(shared),
         Err(_) => Err(Stop::Fault(Fault::Memory)),
     }
 }

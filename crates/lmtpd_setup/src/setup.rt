@@ -13,7 +13,7 @@ ghost use Rattle.lmtpd_setup.specs.Setup.{IsNotSetUp, access_asked, ends_asked, 
 use crate::ends::{Ends, ServerCurfew};
 use crate::fault::Fault;
 use crate::logger::{ServerLog, line_setting, server_log};
-use crate::mailboxes::{Access, ServedMailbox, open_mailboxes};
+use crate::mailboxes::{Access, ServedMailbox, Shared, open_mailboxes};
 use crate::room::tell_of_room;
 use crate::site::served_site;
 use crate::stop::Stop;
@@ -21,6 +21,7 @@ use lmtp_text::Site;
 use lmtpd_log::{LineSetting, LogSink, MailboxSink};
 use lmtpd_words::ServeWords;
 use mbox_rd::{RangeLock, Writeback};
+use slow_boxes::SlowBoxes;
 use std::alloc::Global;
 use std::env::Env;
 use std::fs::Files;
@@ -40,6 +41,8 @@ where
     pub log: ServerLog<H>,
     /// Of the server, its conversations and its mailboxes.
     pub curfew: Arc<ServerCurfew<H>>,
+    /// Which of its mailboxes hold up its lanes.
+    pub slow: Arc<SlowBoxes>,
     /// One for each mailbox of the site, in its order, with its log beside it.
     pub spools: Vec<ServedMailbox<H, ServerLog<H>>>,
     /// What the lanes' logs have in common.
@@ -74,13 +77,18 @@ where
     let log = server_log(rt, threads, words.log);
     tell_of_room(words, &log);
     let access = access_asked(words);
-    let curfew = shared_curfew(threads, log, alloc, words)?;
-    let spools = open_mailboxes(threads, alloc, access, &words.site.boxes, &curfew, log)?;
+    let shared = Shared {
+        curfew: shared_curfew(threads, log, alloc, words)?,
+        slow: shared_words(alloc, words)?,
+    };
+    let spools = open_mailboxes(threads, alloc, access, &words.site.boxes, &shared, log)?;
     let logs = line_setting(threads, log, words, &site)?;
+    let Shared { curfew, slow } = shared;
     Ok(ServerSetup {
         site,
         log,
         curfew,
+        slow,
         spools,
         logs,
     })
@@ -111,6 +119,14 @@ fn shared_curfew<H: Drop>(
 {
     let curfew = ServerCurfew::new(threads, log, alloc, ends_asked(words))?;
     Ok(Arc::new(alloc, curfew)?)
+}
+
+// By what lanes and mailboxes know which of these are slow.
+fn shared_words(alloc: Global, words: &ServeWords<'_>) -> Result<Arc<SlowBoxes>, Fault>
+    ensures err { IfErr result (λ f. f ≡ Fault.Memory) }
+{
+    let slow = SlowBoxes::new(alloc, words.lanes, words.site.boxes.len())?;
+    Ok(Arc::new(alloc, slow)?)
 }
 
 // What else ends the server, and a conversation.

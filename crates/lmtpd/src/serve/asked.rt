@@ -102,6 +102,7 @@ where
     let ServerSetup {
         site,
         curfew,
+        slow,
         spools,
         logs,
         ..
@@ -112,6 +113,7 @@ where
         count: connections_asked(words),
         bounds: bounds_asked(words),
         curfew,
+        slow,
     };
     let sizes = sizes_asked(words);
     let served = serve_run(
