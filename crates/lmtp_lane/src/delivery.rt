@@ -167,9 +167,13 @@ impl<'a, N: DepotName, C: Clock, R: Wait, S: LaneStart> Delivery for LaneDeliver
             .incoming
             .end(self.rt, self.depot, self.accepted, self.limit)
         {
-            Err(verdict) => Err(verdict),
+            Err(verdict) => {
+                self.rests();
+                Err(verdict)
+            }
             Ok(draft) => {
                 self.deliver(session, draft);
+                self.rests();
                 Ok(())
             }
         }

@@ -70,14 +70,18 @@ impl SlowBoxes {
         }
     }
 
-    /// The lane's transaction has ended: it counts no more, and has no copy anywhere.
+    /// The lane's transaction has ended: it counts no more, and has no copy anywhere. All mailboxes are gone through only
+    /// where one had several copies of it.
     pub fn rests(&self, lane: u32) {
         let bit = bit_of(lane);
+        clear(&self.counting, bit);
+        if self.doubled.load(Ordering::SeqCst) & bit == 0 {
+            return;
+        }
         for words in &self.boxes {
             clear(&words.lanes, bit);
         }
         clear(&self.doubled, bit);
-        clear(&self.counting, bit);
     }
 
     /// A turn begins at the mailbox.
