@@ -31,12 +31,6 @@ pub trait Delivery {
     // the moment of the last data that ended, in seconds since 1970
     ghost moment: { Self → ℕ };
 
-    /// Whether a recipient with that mailbox is answered now that it is busy; nothing is promised of it.
-    fn is_busy(&self, mailbox: u32) -> bool;
-
-    /// The session's transaction has ended.
-    fn rests(&self);
-
     /// A DATA command was accepted.
     fn begin(&mut self)
         ensures same { site self.new ≡ site self.old }
