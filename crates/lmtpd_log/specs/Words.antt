@@ -30,6 +30,7 @@ abbrev pub is_refusal : Reply → Bool
 is_refusal (replies.Refused why) = true
 is_refusal replies.NoSuchBox = true
 is_refusal replies.TooMany = true
+is_refusal replies.Busy = true
 is_refusal replies.OutOfOrder = true
 is_refusal replies.LineTooLong = true
 is_refusal _ = false

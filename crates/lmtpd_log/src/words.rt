@@ -43,6 +43,7 @@ pub(crate) fn is_refusal(reply: Reply) -> bool
         Reply::Refused(_)
             | Reply::NoSuchBox
             | Reply::TooMany
+            | Reply::Busy
             | Reply::OutOfOrder
             | Reply::LineTooLong
     )
