@@ -497,13 +497,23 @@ class Check:
         return 0 if all(said.startswith("letters ") for _, _, said in self.files) else 1
 
 
+def broken(place, letter, start):
+    """What is said where that letter has no empty line at its end."""
+    return f"no empty line at {place} in letter {letter} at {start}"
+
+
+def tail_letter(text):
+    """The letter that a tail behind ten bytes of one belongs to, and where it begins: its own once `From ` is whole."""
+    return (2, 10) if text.startswith("From ") else (1, 0)
+
+
 def tails():
     """A check doesn't mend a tail that breaks off: it says where it ends."""
     old = b"From a\nx\n\n"
     first = [("F", 1), ("From", 4)]
     then = ["F", "Fro", "From ", "From M", "From c@a Thu Ja", "From c@a Thu Jan  1 00:00:00 1970", "From here on"]
     rows = [(f"a tail of {text} alone", text.encode(), f"no From line at {at}") for text, at in first]
-    rows += [(f"a tail of {text}", old + text.encode(), f"no empty line at {10 + len(text)}") for text in then]
+    rows += [(f"a tail of {text}", old + text.encode(), broken(10 + len(text), *tail_letter(text))) for text in then]
     filled = b"From MAILER-DAEMON Thu Jan  1 00:00:00 1970\n\n"
     return [*rows, ("a tail that was filled up", old + filled, "letters 2"), ("a tail that was filled up alone", filled, "letters 1")]
 
@@ -524,13 +534,15 @@ def checks():
         ("a prefix of From", b"Fro", "no From line at 3"),
         ("a frog", b"Frog\n\n", "no From line at 3"),
         ("From with no space", b"From\n\n", "no From line at 4"),
-        ("a From line that breaks off", b"From a", "no empty line at 6"),
-        ("a From line alone", b"From a x\n", "no empty line at 9"),
-        ("a last line with no line feed", letter[:-2], "no empty line at 187"),
-        ("no empty line at the end", letter[:-1], "no empty line at 188"),
-        ("a second letter that breaks off", letter + letter[:-1], "no empty line at 377"),
-        ("a From line after a line", b"From a\nb\nFrom c\n\n", "no empty line at 13"),
-        ("a From line after a From line", b"From a\nFrom b\n\n", "no empty line at 11"),
+        ("a From line that breaks off", b"From a", broken(6, 1, 0)),
+        ("a From line alone", b"From a x\n", broken(9, 1, 0)),
+        ("a last line with no line feed", letter[:-2], broken(187, 1, 0)),
+        ("no empty line at the end", letter[:-1], broken(188, 1, 0)),
+        ("a second letter that breaks off", letter + letter[:-1], broken(377, 2, 189)),
+        ("a From line after a line", b"From a\nb\nFrom c\n\n", broken(13, 1, 0)),
+        ("a From line after a From line", b"From a\nFrom b\n\n", broken(11, 1, 0)),
+        ("a third letter without one, and a fourth", letter * 3 + b"From b\nx\nFrom c\n\n", broken(580, 4, 567)),
+        ("a thousandth letter without its end", letter * 1_000 + letter[:-1], broken(189_188, 1001, 189_000)),
         ("bytes above 127, NUL and CR", b"From \xff\n\0\r\n\r\n\n", "letters 1"),
     ]
     for name, text, said in rows + tails():
@@ -539,15 +551,15 @@ def checks():
     for place in range(65_529, 65_539):
         front = b"From a\n" + b"x" * (place - 9)
         yield Check(f"an empty line, and a From line at {place}", [("a", front + b"\n\nFrom b\n\n", "letters 2")])
-        broken = front + b"x\nFrom b\n\n"
-        yield Check(f"a line, and a From line at {place}", [("a", broken, f"no empty line at {place + 4}")])
+        late = front + b"x\nFrom b\n\n"
+        yield Check(f"a line, and a From line at {place}", [("a", late, broken(place + 4, 1, 0))])
     yield Check("a missing file", [("nobody.mbox", None, "cannot read")])
     yield Check(
         "several files, in the order of the words",
         [
             ("ben.mbox", letter, "letters 1"),
             ("./anna.mbox", b"hello\n", "no From line at 0"),
-            ("carla mbox", letter[:-1], "no empty line at 188"),
+            ("carla mbox", letter[:-1], broken(188, 1, 0)),
             ("nobody.mbox", None, "cannot read"),
             ("ben.mbox", letter, "letters 1"),
             ("dora", b"", "letters 0"),

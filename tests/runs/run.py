@@ -8,6 +8,7 @@ import subprocess
 import sys
 import tempfile
 
+import answers
 import listed
 import replies
 import rows
@@ -195,6 +196,17 @@ def compare_all():
         said = "".join(f"{name} {'letters 1' if name == 'second' else 'cannot read'}\n" for name in names)
         compare(f"check: {' '.join(names)}", found, (1, said.encode(), b""))
     compare_locks()
+    compare_answers()
+
+
+def compare_answers():
+    """Each answer of a check has its line in TROUBLE.md. (What the last one is said for tests/no_memory.sh tries.)"""
+    said = {line for row in rows.checks() for line in row.output().decode().splitlines()}
+    said |= {"lmtpd: anna.mbox read without its lock", "lmtpd: device fault", "lmtpd: memory"}
+    compare("what TROUBLE.md has of a check", answers.untold(said), ([], []))
+    with tempfile.TemporaryDirectory() as folder:
+        text = answers.BROKEN + b"\nFrom c\n\n"
+        compare("what is typed mends it", answers.mended(folder, LMTPD), (0, "carla.new letters 4\n", "", text))
 
 
 compare_all()

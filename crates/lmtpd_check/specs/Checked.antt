@@ -17,10 +17,15 @@ use Rattle.lmtpd_check.specs.declared.checked.Finding.TheVariants.{Letters, Form
 abbrev pub number_line : List ℕ → List ℕ → ℕ → List ℕ
 number_line name said number = name ++ said ++ decimal number ++ (lf ∷ [])
 
+-- the line of a file with a letter of that number that breaks off at the place, and where that letter begins
+abbrev pub broken_line : List ℕ → ℕ → ℕ → ℕ → List ℕ
+broken_line name place letter start =
+    name ++ (codes " no empty line at " ++ (decimal place ++ (codes " in letter " ++ (decimal letter ++ (codes " at " ++ (decimal start ++ (lf ∷ [])))))))
+
 -- the line of a file that breaks the form, with the place
 abbrev pub bad_line : List ℕ → BadForm → List ℕ
 bad_line name (NoFromLine place) = number_line name (codes " no From line at ") place
-bad_line name (NoEmptyLine place) = number_line name (codes " no empty line at ") place
+bad_line name (NoEmptyLine place letter start) = broken_line name place letter start
 
 -- the line of a file of that name
 abbrev pub finding_line : List ℕ → Finding → List ℕ

@@ -3,7 +3,7 @@
 ghost use Rattle.std.specs.Prelude.{◌≡◌, OnOk, OnErr};
 ghost use Rattle.std.specs.Io.KnownBytes.{Appends};
 ghost use Rattle.lmtpd_output.specs.Output.{IsCutOff};
-ghost use Rattle.lmtpd_check.specs.Checked.{bad_line, finding_line, number_line, unlocked_line, unlocked_lines};
+ghost use Rattle.lmtpd_check.specs.Checked.{bad_line, broken_line, finding_line, number_line, unlocked_line, unlocked_lines};
 
 use crate::checked::Finding;
 use itoa::Buffer;
@@ -69,8 +69,41 @@ fn write_bad<W: Write>(writer: &mut W, name: &str, bad: BadForm) -> Result<(), W
 {
     match bad {
         BadForm::NoFromLine { place } => write_number(writer, name, b" no From line at ", place),
-        BadForm::NoEmptyLine { place } => write_number(writer, name, b" no empty line at ", place),
+        BadForm::NoEmptyLine {
+            place,
+            letter,
+            start,
+        } => write_broken(writer, name, place, letter, start),
     }
+}
+
+// Where a letter breaks off, which one it is, and where it begins.
+fn write_broken<W: Write>(
+    writer: &mut W,
+    name: &str,
+    place: u64,
+    letter: u64,
+    start: u64,
+) -> Result<(), WriteFault>
+    ensures ok { OnOk result (Appends (W.contents writer.old) (W.contents writer.new)
+        (broken_line name.now place letter start)) }
+    ensures err { OnErr result (IsCutOff (W.contents writer.old) (W.contents writer.new)
+        (broken_line name.now place letter start)) }
+{
+    let mut places = Buffer::new();
+    let mut letters = Buffer::new();
+    let mut starts = Buffer::new();
+    let pieces: [&[u8]; 8] = [
+        name.as_bytes(),
+        b" no empty line at ",
+        places.format(place).as_bytes(),
+        b" in letter ",
+        letters.format(letter).as_bytes(),
+        b" at ",
+        starts.format(start).as_bytes(),
+        b"\n",
+    ];
+    write_each(writer, &pieces)
 }
 
 // A line that ends in a number.

@@ -1,5 +1,5 @@
 -- Whether bytes have the form of a mailbox (RFC 4155, Appendix A), and the first place at which they don't.
-use Rattle.std.specs.Prelude.{◌≡◌, ◌<◌, ◌≤◌, ℕ, suc, List, ◌++◌, length, take, true, false, Option, None, Some, ⊤}
+use Rattle.std.specs.Prelude.{◌≡◌, ◌+◌, ◌-◌, ◌<◌, ◌≤◌, ℕ, suc, List, [], ◌∷◌, ◌++◌, length, take, true, false, Option, None, Some, ⊤}
 use Rattle.mail_world.specs.Counts.{counted}
 use Rattle.mail_world.specs.Reading.{Letter, AreLetters, written}
 use Rattle.mbox_letters.specs.Letters.{is_boundary}
@@ -27,10 +27,28 @@ pub record BreaksAt (text : List ℕ) (place : ℕ) : Type 0 where
   pub breaks : place < length text → BeginsMailbox (take (suc place) text) → ⊥
   pub short : place ≡ length text → (letters : List Letter) → IsMailboxOf text letters → ⊥
 
--- what is wrong with the text: a From line is missing at its beginning, or else an empty line
+-- The letter in which the text breaks off at the place: a mailbox that begins with the bytes before the place has that
+-- many letters, and the From line of the last begins at `start`, among these bytes. No other two numbers are so, since
+-- each text is read as letters in one way.
+pub record IsInLetter (text : List ℕ) (place number start : ℕ) : Type 0 where
+  pub more : List ℕ
+  pub before : List Letter
+  pub last : Letter
+  pub is : IsMailboxOf (take place text ++ more) (before ++ last ∷ [])
+  pub numbered : number ≡ suc (length before)
+  pub starts : start ≡ length (written before)
+  pub begun : start + 5 ≤ place
+
+-- where a From line begins, with four bytes of it before the byte that shows it
+abbrev pub counted_start : ℕ → ℕ
+counted_start start = counted (start + 4) - 4
+
+-- what is wrong with the text: a From line is missing at its beginning, or else an empty line, in the letter named
 abbrev pub IsBad : List ℕ → BadForm → Type 0
 IsBad text (NoFromLine place) = (is_boundary text ≡ false) × ((p : ℕ) × (place ≡ counted p) × BreaksAt text p)
-IsBad text (NoEmptyLine place) = (is_boundary text ≡ true) × ((p : ℕ) × (place ≡ counted p) × BreaksAt text p)
+IsBad text (NoEmptyLine place letter start) =
+    (is_boundary text ≡ true) × ((p k s : ℕ) × (place ≡ counted p) × (letter ≡ counted k) × (start ≡ counted_start s) × BreaksAt text p
+    × IsInLetter text p k s)
 
 -- as many letters as the text has
 abbrev pub IsLetterCount : List ℕ → ℕ → Type 0

@@ -71,9 +71,9 @@ is_whole (Open part) = is_nothing part
 is_whole (Line part) = false
 is_whole Inside = false
 
--- what is wrong where the text ends or breaks here
-abbrev pub bad_at : FormState → ℕ → BadForm
-bad_at (Start part) taken = NoFromLine taken
-bad_at (Open part) taken = NoEmptyLine taken
-bad_at (Line part) taken = NoEmptyLine taken
-bad_at Inside taken = NoEmptyLine taken
+-- what is wrong where the text ends or breaks here, in the letter of that number, which begins there
+abbrev pub bad_at : FormState → ℕ → ℕ → ℕ → BadForm
+bad_at (Start part) taken letter start = NoFromLine taken
+bad_at (Open part) taken letter start = NoEmptyLine taken letter start
+bad_at (Line part) taken letter start = NoEmptyLine taken letter start
+bad_at Inside taken letter start = NoEmptyLine taken letter start

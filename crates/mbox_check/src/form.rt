@@ -15,6 +15,8 @@ pub(crate) struct FormCheck {
     // How many letters have begun, and how many bytes were taken; both stay at 2^64 - 1.
     letters: u64,
     taken: u64,
+    // Where the last of these letters began, 0 before there is one; it stays at 2^64 - 5.
+    start: u64,
     state: FormState,
 }
 
@@ -25,6 +27,7 @@ impl FormCheck {
         FormCheck {
             letters: 0,
             taken: 0,
+            start: 0,
             state: FormState::Start(Part::Nothing),
         }
     }
@@ -114,26 +117,30 @@ impl FormCheck {
         self.taken = self.taken.saturating_add(size as u64);
     }
 
-    // A byte begins a letter.
+    // A byte begins a letter: the fifth one of its From line.
     fn begin(&mut self)
         ensures { self.new ≡ record self.old {
           letters = counted (self.old.letters + 1);
+          start = self.old.taken - 4;
           state = FormState.Inside;
           taken = counted (self.old.taken + 1);
         } }
     {
         self.letters = self.letters.saturating_add(1);
+        self.start = self.taken.saturating_sub(4);
         self.go(FormState::Inside, 1);
     }
 
     // What is wrong where the text ends or breaks here.
     fn bad(&self) -> BadForm
-        ensures { result ≡ bad_at self.now.state self.now.taken }
+        ensures { result ≡ bad_at self.now.state self.now.taken self.now.letters self.now.start }
     {
         match self.state {
             FormState::Start(_) => BadForm::NoFromLine { place: self.taken },
             FormState::Open(_) | FormState::Line(_) | FormState::Inside => BadForm::NoEmptyLine {
                 place: self.taken,
+                letter: self.letters,
+                start: self.start,
             },
         }
     }
