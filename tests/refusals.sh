@@ -166,7 +166,7 @@ for suffix in .lock .source.lock ..lock; do
         "${serve[@]}" --dir /nowhere --mailbox-suffix="$suffix" --check-words anna ben
 done
 for suffix in '' .mail lock; do
-    try 0 none "${serve[@]}" --dir /nowhere --mailbox-suffix="$suffix" --check-words lock a.locks a.lock.b a-lock
+    try 0 none "${serve[@]}" --dir "$folder" --mailbox-suffix="$suffix" --check-words lock a.locks a.lock.b a-lock
 done
 for mode in 8 1000 +660 00660 x ''; do try 2 clap "${serve[@]}" --dir /nowhere --socket-mode "$mode" anna; done
 for time in 0 86401 -1 x ''; do try 2 clap "${serve[@]}" --dir /nowhere --session-time "$time" anna; done
@@ -181,8 +181,14 @@ try 2 clap "${serve[@]}" --dir /nowhere --check-words=yes anna
 try 2 clap "${serve[@]}" --dir /nowhere --check-words --check-words anna
 try 2 clap "${good[@]}" --check-words anna
 try 2 clap check --check-words anna.mbox
-try 0 none "${serve[@]}" --dir /nowhere --check-words anna
-try 0 none "${serve[@]}" --dir /nowhere --check-words --boxes "$two"
+try 0 none "${serve[@]}" --dir "$folder" --check-words anna
+try 0 none "${serve[@]}" --dir "$folder" --check-words --boxes "$two"
+try 1 $'[ERROR lmtpd] a size is out of its limits word=--lanes has=100 least=1 most=64\nlmtpd: size' \
+    "${serve[@]}" --dir "$folder" --check-words --lanes 100 anna
+reason='No such file or directory (os error 2)'
+try 1 "[ERROR lmtpd] cannot open mailbox=anna reason=$reason
+[ERROR lmtpd] cannot read the folder folder=/nowhere reason=$reason
+lmtpd: cannot open anna.mbox" "${serve[@]}" --dir /nowhere --check-words anna
 try 1 "lmtpd: cannot read $missing" "${serve[@]}" --dir /nowhere --check-words --boxes "$missing" Anna
 try 2 'lmtpd: no box' "${serve[@]}" --dir /nowhere --check-words
 try 2 $'[ERROR lmtpd] bad box name=Anna\nlmtpd: bad box' "${serve[@]}" --dir /nowhere --check-words Anna

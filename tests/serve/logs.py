@@ -500,7 +500,10 @@ def a_mailbox_that_cannot_be_opened_is_logged(folder):
     for place, reason in (folder / "none", NO_FILE), (folder / "linked", "not plain"):
         for level in "error", "info", "off":
             ended = run(words(place, ["anna"], 1, "--log", level))
-            logged = [f"[ERROR lmtpd] cannot open mailbox=anna reason={reason}"] * (level != "off")
+            logged = [f"[ERROR lmtpd] cannot open mailbox=anna reason={reason}"]
+            if reason == NO_FILE:
+                logged += [f"[ERROR lmtpd] cannot read the folder folder={place} reason={reason}"]
+            logged *= level != "off"
             equal(vars(ended), {"status": 1, "said": [], "errors": [*logged, "lmtpd: cannot open anna.mbox"]})
 
 
@@ -508,7 +511,8 @@ def a_mailbox_that_cannot_be_opened_is_logged(folder):
 def the_journal_is_told_priorities(folder):
     """where JOURNAL_STREAM names standard error the lines of the log have <3> or <6> before them, and what ends the
     program with status 1 or 2 has <3>, each line of clap's too; else nothing has"""
-    refusal = f"[ERROR lmtpd] cannot open mailbox=anna reason={NO_FILE}"
+    refusal = [f"[ERROR lmtpd] cannot open mailbox=anna reason={NO_FILE}"]
+    refusal += [f"[ERROR lmtpd] cannot read the folder folder={folder / 'none'} reason={NO_FILE}"]
     ends = socket.socketpair()
     with ends[0], ends[1]:
         seen = os.fstat(ends[1].fileno())
@@ -523,7 +527,7 @@ def the_journal_is_told_priorities(folder):
             for line, told in zip(logged, ["copy answered", "conversation ended"]):
                 assert re.fullmatch(rf"{'<6>' * is_own}\[INFO  lmtpd\] {told} .*", line), line
             logged = journal_lines(folder / "none", ends, name, is_served=False)
-            equal(logged, ["<3>" * is_own + line for line in [refusal, "lmtpd: cannot open anna.mbox"]])
+            equal(logged, ["<3>" * is_own + line for line in [*refusal, "lmtpd: cannot open anna.mbox"]])
             logged = refusal_lines(ends, name, ["serve", "--check-words", *words(folder, ["Anna"], 1)[1:]])
             told = ["[ERROR lmtpd] bad box name=Anna", "lmtpd: bad box"]
             equal(logged, ["<3>" * is_own + line for line in told])

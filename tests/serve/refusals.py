@@ -202,22 +202,21 @@ def names_that_cannot_be_used_are_said(folder):
 
 @case
 def the_words_alone_are_checked(folder):
-    """--check-words: status 0 and no line where each word can be used, whatever the folder and the port; else the line
-    and the status that the server ends with; no file is made, and none of the socket's"""
+    """--check-words: status 0 and no line where each word can be used, whoever has the port; else the line and the
+    status that the server ends with; no file is made, and none of the socket's"""
     boxes = folder / "boxes"
     listener, port = taken_port()
     with listener:
         for listen in [GOOD, f"127.0.0.1:{port}", f"unix:{folder}/socket", "inherited"]:
-            for place in [folder, folder / "none"]:
-                for more in [[], ["--lanes", 65], ["--log", "info"], ["--stop-file", boxes, "--start-anyway"]]:
-                    ended = run(words(place, ["anna"], 1, *more, "--check-words", listen=listen))
-                    equal(vars(ended), {"status": 0, "said": [], "errors": []})
+            for more in [[], ["--lanes", 64], ["--log", "info"], ["--stop-file", boxes, "--start-anyway"]]:
+                ended = run(words(folder, ["anna"], 1, *more, "--check-words", listen=listen))
+                equal(vars(ended), {"status": 0, "said": [], "errors": []})
     for status, line, host, listen, more, names in ROWS:
         ended = run(words(folder, names, 1, *more, "--check-words", listen=listen, host=host))
         equal((ended.status, ended.errors[-1:], ended.said), (status, [f"lmtpd: {line}"], []))
     expects(words(folder, ["Anna"], 1, "--boxes", boxes, "--check-words"), 1, f"cannot read {boxes}")
     boxes.write_text("anna # the first\nben\n")
-    ended = run(words(folder / "none", [], 1, "--boxes", boxes, "--check-words"))
+    ended = run(words(folder, [], 1, "--boxes", boxes, "--check-words"))
     equal(vars(ended), {"status": 0, "said": [], "errors": []})
     equal([path.name for path in folder.iterdir()], ["boxes"])
 

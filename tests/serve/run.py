@@ -6,6 +6,7 @@ import sys
 import accepts  # noqa: F401  (each adds its cases)
 import boxes  # noqa: F401
 import changed  # noqa: F401
+import checked_words  # noqa: F401
 import closed  # noqa: F401
 import conversations  # noqa: F401
 import copies  # noqa: F401

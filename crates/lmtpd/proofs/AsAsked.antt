@@ -1,5 +1,5 @@
 -- A server that words ask for: what it comes to, and why it didn't run, cause by cause.
-use Rattle.std.proofs.Common.{◌≡◌, ◌∙◌, ◌⊎◌, inl, inr, ℕ, Bool, false, List, [], Option, length, map, None, IfSome, ap, sym, subst}
+use Rattle.std.proofs.Common.{◌≡◌, ◌∙◌, ◌⊎◌, inl, inr, ℕ, Bool, false, true, List, [], Option, length, map, None, IfSome, ap, sym, subst}
 use Rattle.std.specs.Arc.{arc_value}
 use Rattle.std.specs.declared.alloc.Global.{Global}
 use Rattle.std.specs.declared.sync.Arc.{Arc}
@@ -40,9 +40,9 @@ use Rattle.lmtpd.proofs.Unrun.{causes, unrun}
 not_run : (words : ServeWords) (cause : HouseFault) → words.check_words ≡ false → IsListenAddress words.listen.now → site_fault words.site ≡ None
     → (house_refusal cause ≡ fault.Memory) ⊎ IsNotRun (IsSizeAsked words) (house_refusal cause) → IsNotServed words (stop.Fault (house_refusal cause))
 not_run words cause served address sound (inl memory) = inl (ap stop.Fault memory)
-not_run words cause served address sound (inr why) = inr (inr (address, inr (sound, served, inr (inr why))))
+not_run words cause served address sound (inr why) = inr (inr (address, inr (sound, inl (served, inr (inr why)))))
 
-size_asked : (words : ServeWords) (site : Site) (sizes : Sizes) (count : ℕ) → site ≡ serving_site words.site → sizes ≡ sizes_asked words
+pub size_asked : (words : ServeWords) (site : Site) (sizes : Sizes) (count : ℕ) → site ≡ serving_site words.site → sizes ≡ sizes_asked words
     → count ≡ length words.site.boxes.items
     → IsSize site sizes words.lanes count count → IsSizeAsked words
 size_asked words site sizes count is asked boxes good =
@@ -50,7 +50,7 @@ size_asked words site sizes count is asked boxes good =
     (subst (λ (z : Sizes). IsSize (serving_site words.site) z words.lanes count count) asked
     (subst (λ (s : Site). IsSize s sizes words.lanes count count) is good))
 
-size_given : (words : ServeWords) (site : Site) (sizes : Sizes) (count : ℕ) → site ≡ serving_site words.site → sizes ≡ sizes_asked words
+pub size_given : (words : ServeWords) (site : Site) (sizes : Sizes) (count : ℕ) → site ≡ serving_site words.site → sizes ≡ sizes_asked words
     → count ≡ length words.site.boxes.items
     → IsSizeAsked words → IsSize site sizes words.lanes count count
 size_given words site sizes count is asked boxes good =
@@ -137,12 +137,23 @@ siteless words s address (inr (f, fault_of_site, said)) = inr (inr (address, inl
 pub unset : (words : ServeWords) (s : Stop) → words.check_words ≡ false → IsListenAddress words.listen.now → IsNotSetUp words s → IsNotServed words s
 unset words s served address (inl none) = siteless words s address none
 unset words s served address (inr (inl memory)) = inl memory
-unset words (stop.Unopened name suffix) served address (inr (inr (sound, named))) = inr (inr (address, inr (sound, served, named)))
-unset words (stop.NoFolder name suffix) served address (inr (inr (sound, named))) = inr (inr (address, inr (sound, served, named)))
+unset words (stop.Unopened name suffix) served address (inr (inr (sound, named))) = inr (inr (address, inr (sound, inl (served, named))))
+unset words (stop.NoFolder name suffix) served address (inr (inr (sound, named))) = inr (inr (address, inr (sound, inl (served, named))))
 unset words (stop.Fault f) served address (inr (inr (sound, is))) = inl (ap stop.Fault is)
 unset words (stop.Words refused) served address (inr (inr (sound, never))) = absurd never
 unset words (stop.Name f line) served address (inr (inr (sound, never))) = absurd never
 unset words (stop.Unread path) served address (inr (inr (sound, never))) = absurd never
+
+-- the same where its words alone are checked
+pub unset_checked : (words : ServeWords) (s : Stop) → words.check_words ≡ true → IsListenAddress words.listen.now → IsNotSetUp words s → IsNotServed words s
+unset_checked words s checked address (inl none) = siteless words s address none
+unset_checked words s checked address (inr (inl memory)) = inl memory
+unset_checked words (stop.Unopened name suffix) checked address (inr (inr (sound, named))) = inr (inr (address, inr (sound, inr (checked, named))))
+unset_checked words (stop.NoFolder name suffix) checked address (inr (inr (sound, named))) = inr (inr (address, inr (sound, inr (checked, named))))
+unset_checked words (stop.Fault f) checked address (inr (inr (sound, is))) = inl (ap stop.Fault is)
+unset_checked words (stop.Words refused) checked address (inr (inr (sound, never))) = absurd never
+unset_checked words (stop.Name f line) checked address (inr (inr (sound, never))) = absurd never
+unset_checked words (stop.Unread path) checked address (inr (inr (sound, never))) = absurd never
 
 -- what listens wasn't opened
 pub unopened : (words : ServeWords) (listen_address : ListenAddress) (f : Fault) → words.check_words ≡ false → Names words.listen.now listen_address
@@ -150,7 +161,7 @@ pub unopened : (words : ServeWords) (listen_address : ListenAddress) (f : Fault)
     → IsUnopenedAt listen_address f → IsNotServed words (stop.Fault f)
 unopened words listen_address f served names sound (listen.Memory, is, why) = inl (ap stop.Fault is)
 unopened words listen_address f served names sound (listen.Listen reason, is, why) =
-    inr (inr ((listen_address, names), inr (sound, served, inl is)))
+    inr (inr ((listen_address, names), inr (sound, inl (served, inl is))))
 unopened words listen_address f served names sound (listen.Port, is, why) =
-    inr (inr ((listen_address, names), inr (sound, served, inr (inl (is, subst (λ p. Names words.listen.now p) why names)))))
+    inr (inr ((listen_address, names), inr (sound, inl (served, inr (inl (is, subst (λ p. Names words.listen.now p) why names))))))
 unopened words listen_address f served names sound (listen.Address, is, why) = absurd why

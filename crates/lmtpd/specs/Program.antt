@@ -168,22 +168,36 @@ IsNotServedAt words (stop.NoFolder name suffix) =
 IsNotServedAt words (stop.Fault f) = (f ≡ fault.Listen)
     ⊎ (((f ≡ fault.Port) × AsksInherited words.listen.now) ⊎ IsNotRun (IsSizeAsked words) f)
 
+-- why its words can't be used though its site is sound: a mailbox's file, or only their folder where it is to start
+-- anyway, or a size
+abbrev pub IsNotToServe : ServeWords → Stop → Type 0
+IsNotToServe words (stop.Words error) = ⊥
+IsNotToServe words (stop.Unread path) = ⊥
+IsNotToServe words (stop.Name f line) = ⊥
+IsNotToServe words (stop.Unopened name suffix) =
+    (words.start_anyway ≡ false) × Contains words.site.boxes.items name × (suffix ≡ words.site.mailbox_suffix)
+IsNotToServe words (stop.NoFolder name suffix) =
+    (words.start_anyway ≡ true) × Contains words.site.boxes.items name × (suffix ≡ words.site.mailbox_suffix)
+IsNotToServe words (stop.Fault f) = (f ≡ fault.Size) × ¬ IsSizeAsked words
+
 -- Why none ran, or why its words can't be used: memory is lacking, and else the first of the address and the site, with
--- the name that can't be used where that is to be said; and then, where the words alone aren't to be checked, of the
--- files, what listens and the server itself.
+-- the name that can't be used where that is to be said; and then of the files, what listens and the server itself, or,
+-- where the words alone are to be checked, of the files and the sizes.
 abbrev pub IsNotServed : ServeWords → Stop → Type 0
 IsNotServed words s = (s ≡ stop.Fault fault.Memory)
     ⊎ (((f : ListenFault) × (s ≡ stop.Fault (listen_refusal f)) × IsRefused words.listen.now f)
     ⊎ (IsListenAddress words.listen.now
     × (((f : Fault) × (site_fault words.site ≡ Some f) × IsRefusedBy words f s)
-    ⊎ ((site_fault words.site ≡ None) × (words.check_words ≡ false) × IsNotServedAt words s))))
+    ⊎ ((site_fault words.site ≡ None) × (((words.check_words ≡ false) × IsNotServedAt words s)
+    ⊎ ((words.check_words ≡ true) × IsNotToServe words s))))))
 
--- The words of a server alone were to be checked, and each of them can be used: the address and the site, with all of
--- its names.
+-- The words of a server alone were to be checked, and each of them can be used: the address, the site, with all of its
+-- names, and the sizes.
 pub record AreServeWords (words : ServeWords) : Type 0 where
   pub asked : words.check_words ≡ true
   pub listen_address : IsListenAddress words.listen.now
   pub sound : site_fault words.site ≡ None
+  pub sizes : IsSizeAsked words
 
 -- The same of a server, once the file of its mailboxes was read: `IsRun` says which runs its words ask for then.
 abbrev pub IsServedFilled : {W : Type 0} → (SiteWords → SiteWords → Type 0) → (ServeWords → W → ServedRun → Type 0)

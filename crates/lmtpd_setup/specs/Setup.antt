@@ -1,5 +1,7 @@
 -- What a server has before it listens, and why it hasn't.
-use Rattle.std.specs.Prelude.{◌≡◌, ◌⊎◌, ◌*◌, List, None, map, nat_lt, Bool}
+use Rattle.std.specs.Prelude.{◌≡◌, ◌⊎◌, ◌*◌, ◌&&◌, not, if◌then◌else◌, List, None, map, nat_lt, Bool}
+use Rattle.log.specs.declared.level.LevelFilter.{LevelFilter}
+use Rattle.log.specs.declared.level.LevelFilter.TheVariants as filter
 use Rattle.mail_world.specs.declared.limits.TheConstants.{BLOCK_SIZE}
 use Rattle.lmtpd_words.specs.declared.words.ServeWords.{ServeWords}
 use Rattle.lmtpd_listen.specs.Opened.{IsUnopened}
@@ -7,7 +9,7 @@ use Rattle.lmtpd_listen.specs.declared.fault.ListenFault.{ListenFault}
 use Rattle.lmtpd_listen.specs.declared.listen_address.ListenAddress.{ListenAddress}
 use Rattle.lmtpd_setup.specs.Faults.{listen_refusal, site_fault}
 use Rattle.lmtpd_setup.specs.Mailboxes.{Held, held_at}
-use Rattle.lmtpd_setup.specs.Names.{IsNoSite}
+use Rattle.lmtpd_setup.specs.Names.{IsNoSite, is_logged}
 use Rattle.lmtpd_setup.specs.Unopened.{AreNotOpen}
 use Rattle.lmtpd_setup.specs.declared.ends.Ends.{Ends}
 use Rattle.lmtpd_setup.specs.declared.fault.Fault.{Fault}
@@ -38,6 +40,10 @@ mailboxes_asked words = map (held_at (access_asked words)) words.site.boxes.item
 -- all blocks together can't hold one largest message
 abbrev pub is_short : ServeWords → Bool
 is_short words = nat_lt (words.blocks * BLOCK_SIZE) words.site.message_limit
+
+-- up to which level it is logged: errors in any case where the words alone are checked
+abbrev pub told_level : ServeWords → LevelFilter
+told_level words = if words.check_words && not (is_logged words.log) then filter.Error else words.log
 
 -- why a server isn't set up: it has no site, memory is lacking, or, its site being sound, one of its mailboxes' files
 -- can't be opened, or only their folder can't where it is to start anyway

@@ -17,6 +17,7 @@ mod opening;
 mod room;
 mod setup;
 mod site;
+mod sizes;
 mod stop;
 
 pub use boxes::fill;
@@ -29,4 +30,5 @@ pub use names::SHOWN_LIMIT;
 pub use opening::open_address;
 pub use setup::{ServerSetup, set_up};
 pub use site::{served_site, site_of};
+pub use sizes::tell_of_sizes;
 pub use stop::{Exit, Stop, mark, report_fault, status_after, write_fault};

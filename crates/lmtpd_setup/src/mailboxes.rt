@@ -175,13 +175,26 @@ fn allow_unopened<'a, R: Files, G: Log>(
     }
     let mailbox = printable(name);
     error!(log; target: "lmtpd", mailbox:%, reason:%; "cannot open");
+    let has_folder = look_at_folder(rt, access.folder, log);
     if !access.anyway {
         return Err(Stop::Unopened(name, access.suffix));
     }
-    if rt.open_dir(access.folder).is_err() {
+    if !has_folder {
         return Err(Stop::NoFolder(name, access.suffix));
     }
     Ok(())
+}
+
+// Whether the folder of the mailboxes can be read; where it can't the log says why.
+fn look_at_folder<R: Files, G: Log>(rt: &R, path: &str, log: &G) -> bool {
+    match rt.open_dir(path) {
+        Ok(_) => true,
+        Err(reason) => {
+            let folder = printable(path.as_bytes());
+            error!(log; target: "lmtpd", folder:%, reason:%; "cannot read the folder");
+            false
+        }
+    }
 }
 
 // The log of the mailbox of that name.

@@ -8,7 +8,7 @@ ghost use Rattle.lmtpd_words.specs.Words.{serving_site};
 ghost use Rattle.lmtpd_setup.specs.Curfew.{IsCurfewOf};
 ghost use Rattle.lmtpd_setup.specs.Faults.{site_fault};
 ghost use Rattle.lmtpd_setup.specs.Mailboxes.{IsUntold, held_as};
-ghost use Rattle.lmtpd_setup.specs.Setup.{IsNotSetUp, access_asked, ends_asked, mailboxes_asked};
+ghost use Rattle.lmtpd_setup.specs.Setup.{IsNotSetUp, access_asked, ends_asked, mailboxes_asked, told_level};
 
 use crate::ends::{Ends, ServerCurfew};
 use crate::fault::Fault;
@@ -20,6 +20,7 @@ use crate::stop::Stop;
 use lmtp_text::Site;
 use lmtpd_log::{LineSetting, LogSink, MailboxSink};
 use lmtpd_words::ServeWords;
+use log::LevelFilter;
 use mbox_rd::{RangeLock, Writeback};
 use slow_boxes::SlowBoxes;
 use std::alloc::Global;
@@ -49,8 +50,8 @@ where
     pub logs: LineSetting<ServerLog<H>, H>,
 }
 
-/// Sets up the server that the words ask for: its site, and the files of its mailboxes, which are made where they
-/// aren't there. By `rt` it is seen whether standard error is the journal; `threads` is the handle that the server's
+/// Sets up the server that the words ask for: its site, and the files of its mailboxes, which are looked at, and neither
+/// opened nor made. By `rt` it is seen whether standard error is the journal; `threads` is the handle that the server's
 /// threads take.
 pub fn set_up<'a, P, H>(
     rt: &P,
@@ -67,14 +68,14 @@ where
     ensures mailboxes { IfOk result (λ setup. map held_as setup.spools.items ≡ mailboxes_asked words.now) }
     ensures untold { IfOk result (λ setup. AllByRecursion (λ mailbox. IsUntold mailbox) setup.spools.items) }
     ensures ends { IfOk result (λ setup. IsCurfewOf (ends_asked words.now) (arc_value setup.curfew)) }
-    ensures level { IfOk result (λ setup. max_level setup.log ≡ words.now.log) }
+    ensures level { IfOk result (λ setup. max_level setup.log ≡ told_level words.now) }
     ensures lines { IfOk result (λ setup. setup.logs.log ≡ setup.log) }
     ensures addresses { IfOk result (λ setup. setup.logs.addresses ≡ words.now.log_addresses) }
     ensures refused { IfErr result (IsNotSetUp words.now) }
 {
     let alloc = rt.alloc();
     let site = served_site(alloc, words)?;
-    let log = server_log(rt, threads, words.log);
+    let log = server_log(rt, threads, told_level(words));
     tell_of_room(words, &log);
     let access = access_asked(words);
     let shared = Shared {
@@ -92,6 +93,18 @@ where
         spools,
         logs,
     })
+}
+
+// Up to which level it is logged: where the words alone are checked, what keeps a server from its start is said in any
+// case.
+fn told_level(words: &ServeWords<'_>) -> LevelFilter
+    ensures { result ≡ told_level words.now }
+{
+    if words.check_words && matches!(words.log, LevelFilter::Off) {
+        LevelFilter::Error
+    } else {
+        words.log
+    }
 }
 
 // How the mailboxes' files are had.

@@ -357,7 +357,7 @@ const START_ANYWAY: Argument = Argument {
 const CHECK_WORDS: Argument = Argument {
     name: "check-words",
     value: "",
-    help: "Reads all words and FILE, says what can't be used, and serves nothing; the folder isn't looked at",
+    help: "Reads all words and FILE, looks at sizes and folder, says what can't be used, and serves nothing",
     is_required: false,
     kind: ValueKind::Flag,
 };

@@ -14,11 +14,13 @@ ghost use Rattle.lmtpd.specs.Program.{IsListenedAt, IsNotServed, IsServedAsAsked
 use super::numbers::{bounds_asked, connections_asked, sizes_asked};
 use crate::lacking::house_fault;
 use box_worker::TurnObserver;
-use lmtp_house::Observer;
+use lmtp_house::{HouseFault, Observer};
 use lmtpd_listen::{Opened, listen_address_of};
 use lmtpd_log::{LaneLog, LineLog, LogSink, MailboxLog};
 use lmtpd_serve::{Conversations, Served, serve_run};
-use lmtpd_setup::{ServerLog, ServerSetup, Stop, WaitingMailbox, open_address, set_up};
+use lmtpd_setup::{
+    ServerLog, ServerSetup, Stop, WaitingMailbox, open_address, set_up, tell_of_sizes,
+};
 use lmtpd_words::ServeWords;
 use mbox_rd::{FileLock, RangeLock, Spool, Writeback};
 use std::env::Env;
@@ -101,11 +103,11 @@ where
     let alloc = rt.alloc();
     let ServerSetup {
         site,
+        log,
         curfew,
         slow,
         spools,
         logs,
-        ..
     } = setup;
     let Opened { socket, file } = opened;
     let conversations = Conversations {
@@ -130,7 +132,12 @@ where
     file.remove(rt);
     match served {
         Ok(served) => Ok(served),
-        Err(cause) => Err(Stop::Fault(house_fault(cause))),
+        Err(cause) => {
+            if matches!(cause, HouseFault::Size) {
+                tell_of_sizes(words, &log);
+            }
+            Err(Stop::Fault(house_fault(cause)))
+        }
     }
 }
 

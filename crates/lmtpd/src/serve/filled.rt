@@ -58,7 +58,7 @@ where
 {
     fill(rt, &mut words.site, room)?;
     if words.check_words {
-        check_words(rt.alloc(), &words)?;
+        check_words(rt, threads, &words)?;
         return Ok(ServeDone::WordsChecked);
     }
     let served = serve_asked(rt, threads, &words, &mut writer)?;
