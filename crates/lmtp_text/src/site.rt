@@ -358,7 +358,8 @@ impl Site {
         }
     }
 
-    fn serves(&self, domain: Option<&[u8]>) -> bool
+    /// Whether it serves that domain, or an address that names none; it serves none in brackets.
+    pub fn serves(&self, domain: Option<&[u8]>) -> bool
         ensures { result ≡ is_here self.now (option_map (λ d. d.now) domain.entry) }
     {
         match domain {
