@@ -104,25 +104,33 @@ impl SlowBoxes {
     }
 
     /// Whether a recipient of the lane is answered that his mailbox is busy: it is slow, and other lanes that count are
-    /// as many as may. Else the lane counts from now on where the mailbox is slow, so that lanes that count are never
-    /// more than that. A lane that asks counts meanwhile for the others that ask.
+    /// as many as may, or each other one counts or waits at a slow mailbox since before that was known. Else the lane
+    /// counts from now on where the mailbox is slow, so that lanes that count are never more than that. A lane that asks
+    /// counts meanwhile for the others that ask.
     pub fn is_busy<C: Clock>(&self, lane: u32, mailbox: u32, clock: &C) -> bool {
-        let is_slow = match self.boxes.get(mailbox as usize) {
-            Some(words) => words.turns.is_slow(milliseconds(clock)),
-            None => false,
+        let Some(words) = self.boxes.get(mailbox as usize) else {
+            return false;
         };
-        is_slow && !self.counts(lane)
+        let now = milliseconds(clock);
+        words.turns.is_slow(now) && !self.counts(lane, now)
     }
 
     // Whether the lane counts from now on, or does already.
-    fn counts(&self, lane: u32) -> bool {
+    fn counts(&self, lane: u32, now: u64) -> bool {
         let bit = bit_of(lane);
         let counting = self.counting.fetch_or(bit, Ordering::SeqCst);
-        if counting & bit != 0 || counting.count_ones() < share_of(self.lanes) {
+        if counting & bit != 0 || self.may_count(counting, now) {
             return true;
         }
         self.counting.fetch_and(!bit, Ordering::SeqCst);
         false
+    }
+
+    // Whether one more lane may count beside these, and another is left that mailboxes don't hold.
+    fn may_count(&self, counting: u64, now: u64) -> bool {
+        let others = (counting | self.lanes_held(now)).count_ones();
+        let is_last = self.lanes > 1 && others.saturating_add(1) >= self.lanes;
+        counting.count_ones() < share_of(self.lanes) && !is_last
     }
 
     /// Whether the turn under way at the mailbox may be waited for any longer: it isn't old, there is one lane alone, or
@@ -132,18 +140,20 @@ impl SlowBoxes {
             return true;
         };
         let now = milliseconds(clock);
-        self.lanes <= 1 || !words.turns.is_old(now) || self.lanes_held(now) < share_of(self.lanes)
+        self.lanes <= 1
+            || !words.turns.is_old(now)
+            || self.lanes_held(now).count_ones() < share_of(self.lanes)
     }
 
-    // How many lanes have a copy without an answer at a slow mailbox.
-    fn lanes_held(&self, now: u64) -> u32 {
+    // The lanes that have a copy without an answer at a slow mailbox.
+    fn lanes_held(&self, now: u64) -> u64 {
         let mut lanes = 0;
         for words in &self.boxes {
             if words.turns.is_slow(now) {
                 lanes |= words.lanes.load(Ordering::SeqCst);
             }
         }
-        lanes.count_ones()
+        lanes
     }
 }
 
