@@ -1,3 +1,4 @@
+pub mod BadCommands
 pub mod Entries
 pub mod Peer
 pub mod Parties

@@ -51,7 +51,9 @@ fn greet<P: Peer>(dialogue: &mut Dialogue, peer: &mut P)
     ensures greets { Greets dialogue.old dialogue.new (P.state peer.old) (P.state peer.new) }
     ensures reads { (P.state peer.new).reads ≡ (P.state peer.old).reads }
     ensures none { dialogue.new.outbox.pending ≡ [] }
+    ensures anew { dialogue.new.bad_commands ≡ 0 }
 {
+    dialogue.bad_commands = 0;
     dialogue.wire.clear();
     dialogue.outbox.clear();
     let greeting = dialogue.session.greeting();
@@ -121,7 +123,7 @@ fn take_round<P: Peer, D: Delivery, O: Observer>(
         return Some(EndCause::WriteFault);
     }
     let pause = dialogue.pause();
-    match hear(buffer, peer, observer, pause) {
+    match hear(buffer, peer, observer, pause, dialogue.bad_commands) {
         Ok(Came::Bytes(_)) => {
             take_piece(dialogue, peer, delivery, observer, buffer.piece());
             end_or_go_on(dialogue)
@@ -148,6 +150,7 @@ fn hear<P: Peer, O: Observer>(
     peer: &mut P,
     observer: &mut O,
     pause: Pause,
+    bad_commands: u32,
 ) -> Result<Came, PeerFault>
     ensures reads { WasRead 1 (P.state peer.old) (P.state peer.new) }
     ensures ok { IfOk result (λ came. HasBrought (P.state peer.old) (P.state peer.new) (piece_of buffer.new) came) }
@@ -155,7 +158,7 @@ fn hear<P: Peer, O: Observer>(
     ensures untold { O.told observer.new ≡ O.told observer.old }
 {
     observer.written();
-    let read = peer.read(buffer, pause);
+    let read = peer.read(buffer, pause, bad_commands);
     observer.came();
     read
 }

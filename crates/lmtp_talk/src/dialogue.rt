@@ -21,6 +21,8 @@ pub struct Dialogue {
     pub dot: Dot,
     pub session: Session,
     pub outbox: Outbox,
+    /// How many replies to bad commands were said since the last data that ended; it stays at its largest value.
+    pub bad_commands: u32,
 }
 
 impl Dialogue {
@@ -33,6 +35,7 @@ impl Dialogue {
             dot: Dot::new(),
             session: Session::new(alloc, site)?,
             outbox: Outbox::new(alloc)?,
+            bad_commands: 0,
         })
     }
 

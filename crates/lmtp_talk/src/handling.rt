@@ -9,9 +9,11 @@ ghost use Rattle.mail_world.specs.Conversation.{line_input};
 ghost use Rattle.lmtp_text.specs.Readings.{line_read, offered_for};
 ghost use Rattle.lmtp_session.specs.Added.{added_box};
 ghost use Rattle.lmtp_session.specs.Steps.{TakesLines};
+ghost use Rattle.lmtp_talk.specs.BadCommands.{one_more, CountsLine};
 ghost use Rattle.lmtp_talk.specs.Parties.{Parties, parties};
 ghost use Rattle.lmtp_talk.specs.Steps.{talk, TakesInputs, TellsLine, TakesLine, EndsData, Advances};
 
+use crate::bad_commands::bad_after;
 use crate::delivery::Delivery;
 use crate::dialogue::Dialogue;
 use crate::observer::Observer;
@@ -122,6 +124,7 @@ fn handle_line<P: Peer, D: Delivery, O: Observer>(
         (talk dialogue.new (parties (P.state peer.new) (O.told observer.new)) delivery.new) }
     ensures same { D.site delivery.new ≡ D.site delivery.old }
     ensures reads { (P.state peer.new).reads ≡ (P.state peer.old).reads }
+    ensures counts { CountsLine (line_input dialogue.old.wire.line result) dialogue.old dialogue.new }
 {
     let said = dialogue.session.read(dialogue.wire.line());
     let is_busy = is_busy(&dialogue.session, delivery, &said);
@@ -134,6 +137,7 @@ fn handle_line<P: Peer, D: Delivery, O: Observer>(
     dialogue
         .outbox
         .answer(peer, observer, &dialogue.session, asked, act);
+    dialogue.bad_commands = bad_after(act, dialogue.bad_commands);
     if act == Act::ReadData {
         dialogue.dot = Dot::new();
         delivery.begin();
@@ -165,12 +169,14 @@ fn refuse_line<P: Peer, O: Observer>(dialogue: &mut Dialogue, peer: &mut P, obse
     ensures takes { TakesInputs (LongLine ∷ []) dialogue.old dialogue.new (P.state peer.old) (P.state peer.new) }
     ensures told { TellsLine LongLine dialogue.old (O.told observer.old) (O.told observer.new) }
     ensures reads { (P.state peer.new).reads ≡ (P.state peer.old).reads }
+    ensures counts { dialogue.new.bad_commands ≡ one_more dialogue.old.bad_commands }
 {
     let act = dialogue.session.too_long();
     let asked = Asked::Line(dialogue.session.read(b""));
     dialogue
         .outbox
         .answer(peer, observer, &dialogue.session, asked, act);
+    dialogue.bad_commands = dialogue.bad_commands.saturating_add(1);
 }
 
 // Takes bytes of data, and handles the message if they end it.
@@ -213,7 +219,9 @@ fn handle_message<P: Peer, D: Delivery, O: Observer>(
         (talk dialogue.new (parties (P.state peer.new) (O.told observer.new)) delivery.new) }
     ensures same { D.site delivery.new ≡ D.site delivery.old }
     ensures reads { (P.state peer.new).reads ≡ (P.state peer.old).reads }
+    ensures anew { dialogue.new.bad_commands ≡ 0 }
 {
+    dialogue.bad_commands = 0;
     let number = delivery.number();
     let size = delivery.size();
     let message_id = delivery.message_id();

@@ -6,6 +6,7 @@
 //! `Observer` is told each reply that answers a line or data.
 #![tactic(auto)]
 
+mod bad_commands;
 mod client;
 mod conversation;
 mod delivery;

@@ -31,8 +31,14 @@ pub trait Peer {
     ghost state: { Self → PeerState };
 
     /// Lets the buffer lend the bytes that come next, where the conversation stands so. What it lent before is gone.
-    /// A peer is read with the same buffer each time, which nobody else changes meanwhile.
-    fn read(&mut self, buffer: &mut ReadBuffer, pause: Pause) -> Result<Came, PeerFault>
+    /// A peer is read with the same buffer each time, which nobody else changes meanwhile. It is told how many replies to
+    /// bad commands its client got since its last data that ended, and may say stop for that.
+    fn read(
+        &mut self,
+        buffer: &mut ReadBuffer,
+        pause: Pause,
+        bad_commands: u32,
+    ) -> Result<Came, PeerFault>
         ensures reads { WasRead 1 (state self.old) (state self.new) }
         ensures ok { IfOk result (λ came. HasBrought (state self.old) (state self.new) (piece_of buffer.new) came) }
         ensures err { OnErr result (PeerFailed (state self.old) (state self.new)) };
