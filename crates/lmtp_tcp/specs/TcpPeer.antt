@@ -1,5 +1,5 @@
 -- What contracts see of a client over a stream.
-use Rattle.std.specs.Prelude.{◌≡◌, ◌-◌, ◌+◌, ◌<◌, ◌⊎◌, ℕ, true, false, List, [], Result}
+use Rattle.std.specs.Prelude.{◌≡◌, ◌-◌, ◌+◌, ◌<◌, ◌≤◌, ◌⊎◌, ℕ, true, false, List, [], Result}
 use Rattle.std.specs.Prelude.{length, take, Option, None, Some, Ok}
 use Rattle.std.specs.Arc.{arc_value}
 use Rattle.std.specs.Duration.{as_nanos}
@@ -56,25 +56,36 @@ WaitedFor remaining old had new has _ = HasTransferred (tcp_state remaining old 
 abbrev pub EndsAtRest : {T E : Type 0} → (E → Type 0) → Pause → TcpPeer T E → List ℕ → Type 0
 EndsAtRest IsAsked pause old has = IsAsked (arc_value old.curfew) × (ends_at_rest pause old.had_mail has ≡ true)
 
--- why it says stop though reads are left: the conversation is over; or it is at rest, and what waits ends it; or the
+-- no read is left, or the client got as many replies to bad commands as it may
+abbrev pub IsSpent : {T E : Type 0} → TcpPeer T E → ℕ → Type 0
+IsSpent p bad_commands = (p.reads_left ≡ 0) ⊎ (p.bad_limit ≤ bad_commands)
+
+-- neither is so
+abbrev pub MayGoOn : {T E : Type 0} → TcpPeer T E → ℕ → Type 0
+MayGoOn p bad_commands = (0 < p.reads_left) × (bad_commands < p.bad_limit)
+
+-- why it says stop though it may go on: the conversation is over; or it is at rest, and what waits ends it; or the
 -- client was silent
 abbrev pub MaySayStop : {T E : Type 0} → (E → Type 0) → (E → ℕ → Type 0) → Pause → TcpPeer T E → List ℕ → Type 0
 MaySayStop IsAsked IsOver pause old has = IsOver (arc_value old.curfew) (as_nanos old.begun)
     ⊎ (EndsAtRest IsAsked pause old has ⊎ (has ≡ []))
 
--- one read fewer is left; where none was left, it says stop; what waits is lent first, unless the conversation is
--- over or what waits ends it; in neither case is the stream touched; MAIL counts where it was handed on at rest
+-- one read fewer is left; where none was left, or the client got too many replies to bad commands, it says stop; what
+-- waits is lent first, unless the conversation is over or what waits ends it; in none of these cases is the stream
+-- touched; MAIL counts where it was handed on at rest
 pub record TakesRead {T E F : Type 0} (IsAsked : E → Type 0) (IsOver : E → ℕ → Type 0) (pause : Pause)
-    (old : TcpPeer T E) (had : List ℕ) (new : TcpPeer T E) (has : List ℕ) (result : Result Came F) : Type 0 where
+    (bad_commands : ℕ) (old : TcpPeer T E) (had : List ℕ) (new : TcpPeer T E) (has : List ℕ) (result : Result Came F)
+    : Type 0 where
   pub counts : new.reads_left ≡ old.reads_left - 1
-  pub stops : old.reads_left ≡ 0 → result ≡ Ok Stop
-  pub waits : 0 < old.reads_left → 0 < length had
+  pub limit : new.bad_limit ≡ old.bad_limit
+  pub stops : IsSpent old bad_commands → result ≡ Ok Stop
+  pub waits : MayGoOn old bad_commands → 0 < length had
       → ((n : ℕ) × (result ≡ Ok (Bytes n))) ⊎ (result ≡ Ok Stop)
-  pub causes : 0 < old.reads_left → result ≡ Ok Stop → MaySayStop IsAsked IsOver pause old has
+  pub causes : MayGoOn old bad_commands → result ≡ Ok Stop → MaySayStop IsAsked IsOver pause old has
   pub kept : result ≡ Ok Stop → 0 < length had → has ≡ had
   pub mail : new.had_mail ≡ true
       → (old.had_mail ≡ true) ⊎ (IsAsked (arc_value old.curfew) × (is_at_rest pause ≡ true))
-  pub untouched : (old.reads_left ≡ 0) ⊎ (0 < length had) → new.stream ≡ old.stream
+  pub untouched : IsSpent old bad_commands ⊎ (0 < length had) → new.stream ≡ old.stream
 
 -- how many bytes a read lent, and how many the stream was read for it: what it lent and what waits now, without what
 -- waited before
@@ -90,11 +101,12 @@ abbrev pub time_over : Option Duration → Duration → ℕ
 time_over None now = 0
 time_over (Some since) now = as_nanos now - as_nanos since
 
--- nothing was read of it or written to it, so that nothing in any buffer is its own; and as many reads may be made, and
--- as many waits may bring nothing, as its bounds say
+-- nothing was read of it or written to it, so that nothing in any buffer is its own; and as many reads may be made, as
+-- many waits may bring nothing, and as many replies to bad commands may be got, as its bounds say
 pub record IsNew {T E : Type 0} (bounds : Bounds) (peer : TcpPeer T E) : Type 0 where
   pub reads_left : peer.reads_left ≡ bounds.reads
   pub waits : peer.waits ≡ bounds.waits
+  pub bad_limit : peer.bad_limit ≡ bounds.bad_commands
   pub none_left : peer.left ≡ 0
   pub no_mail : peer.had_mail ≡ false
   pub none_read : peer.bytes_read ≡ 0

@@ -22,14 +22,16 @@ pub struct Bounds {
     pub reads: u64,
     /// How many waits of the stream, one after another, may bring nothing.
     pub waits: u32,
+    /// How many bad commands the client may send between two messages' data.
+    pub bad_commands: u32,
 }
 
 /// A client whose bytes come and go over a stream. What the system has for it is read at once, as far as the
 /// buffer goes, which lends it in pieces. It says that the server is to stop once as many pieces were handed
-/// out as may be, once the client was silent for as many waits of the stream as it may be (RFC 5321, 4.5.3.2), and
-/// once the curfew says that its conversation is over, though bytes wait. Before that, but after the server's end was
-/// asked for, it says so at rest: in place of a line that ends the conversation there, which stays in the buffer, and
-/// after three seconds of silence.
+/// out as may be, once the client sent as many bad commands as it may, once it was silent for as many waits of the
+/// stream as it may be (RFC 5321, 4.5.3.2), and once the curfew says that its conversation is over, though bytes wait.
+/// Before that, but after the server's end was asked for, it says so at rest: in place of a line that ends the
+/// conversation there, which stays in the buffer, and after three seconds of silence.
 #[derive(Drop)]
 pub struct TcpPeer<T, E: Drop> {
     stream: T,
@@ -39,6 +41,8 @@ pub struct TcpPeer<T, E: Drop> {
     begun: Duration,
     // how many waits may bring nothing
     waits: u32,
+    // how many replies to bad commands the client may get between two messages' data
+    bad_limit: u32,
     // how many reads may still be made
     reads_left: u64,
     // how many bytes it left in its buffer as it was last read
@@ -74,6 +78,7 @@ impl<T, E: Curfew> TcpPeer<T, E> {
             client,
             begun,
             waits: bounds.waits,
+            bad_limit: bounds.bad_commands,
             reads_left: bounds.reads,
             left: 0,
             heard: begun,
@@ -290,7 +295,8 @@ impl<T: Read, E: Curfew> TcpPeer<T, E> {
         ensures causes { result ≡ Ok (Some Came.Stop) → (waiting buffer.new ≡ [])
             ⊎ E.IsOver (arc_value self.old.curfew) (as_nanos self.old.begun) }
         ensures same { (self.new.reads_left ≡ self.old.reads_left) × (self.new.reads ≡ self.old.reads)
-            × (self.new.curfew ≡ self.old.curfew) × (self.new.had_mail ≡ self.old.had_mail) }
+            × (self.new.curfew ≡ self.old.curfew) × (self.new.had_mail ≡ self.old.had_mail)
+            × (self.new.bad_limit ≡ self.old.bad_limit) }
     {
         if !buffer.is_empty() {
             return Ok(self.stop_if_over());
@@ -303,23 +309,29 @@ impl<T: Read, E: Curfew> TcpPeer<T, E> {
     }
 
     // Makes a read, before which only what is the peer's own waits.
-    fn take_read(&mut self, buffer: &mut ReadBuffer, pause: Pause) -> Result<Came, PeerFault>
+    fn take_read(
+        &mut self,
+        buffer: &mut ReadBuffer,
+        pause: Pause,
+        bad_commands: u32,
+    ) -> Result<Came, PeerFault>
         ensures reads { WasRead 1 (tcp_state T.remaining self.old (waiting buffer.old))
             (tcp_state T.remaining self.new (waiting buffer.new)) }
         ensures come { IfOk result (HasBrought (tcp_state T.remaining self.old (waiting buffer.old))
             (tcp_state T.remaining self.new (waiting buffer.new)) (piece_of buffer.new)) }
         ensures failed { OnErr result (PeerFailed (tcp_state T.remaining self.old (waiting buffer.old))
             (tcp_state T.remaining self.new (waiting buffer.new))) }
-        ensures bound { TakesRead E.IsAsked E.IsOver pause self.old (waiting buffer.old) self.new
-            (waiting buffer.new) result }
+        ensures bound { TakesRead E.IsAsked E.IsOver pause bad_commands self.old (waiting buffer.old)
+            self.new (waiting buffer.new) result }
         ensures counts { RisesBy (brought (waiting buffer.old) (waiting buffer.new) result)
             self.old.bytes_read self.new.bytes_read }
     {
         self.reads = self.reads.saturating_add(1);
-        if self.reads_left == 0 {
+        let is_spent = self.reads_left == 0 || bad_commands >= self.bad_limit;
+        self.reads_left = self.reads_left.saturating_sub(1);
+        if is_spent {
             return Ok(self.stop());
         }
-        self.reads_left -= 1;
         if let Some(came) = self.fill(buffer, pause)? {
             return Ok(came);
         }
@@ -416,21 +428,26 @@ impl<T: Read + Write, E: Curfew> Peer for TcpPeer<T, E> {
 
     /// What the buffer lends now, what waits in it and what the stream has left are, together, what waited of this
     /// client's bytes and the stream had. What another client left there is dropped.
-    fn read(&mut self, buffer: &mut ReadBuffer, pause: Pause) -> Result<Came, PeerFault>
+    fn read(
+        &mut self,
+        buffer: &mut ReadBuffer,
+        pause: Pause,
+        bad_commands: u32,
+    ) -> Result<Came, PeerFault>
         ensures reads { WasRead 1 (tcp_state T.remaining self.old (own self.old buffer.old))
             (tcp_state T.remaining self.new (waiting buffer.new)) }
         ensures come { IfOk result (λ came. HasBrought (tcp_state T.remaining self.old (own self.old buffer.old))
             (tcp_state T.remaining self.new (waiting buffer.new)) (piece_of buffer.new) came) }
         ensures failed { OnErr result (PeerFailed (tcp_state T.remaining self.old (own self.old buffer.old))
             (tcp_state T.remaining self.new (waiting buffer.new))) }
-        ensures bound { TakesRead E.IsAsked E.IsOver pause self.old (own self.old buffer.old) self.new
-            (waiting buffer.new) result }
+        ensures bound { TakesRead E.IsAsked E.IsOver pause bad_commands self.old (own self.old buffer.old)
+            self.new (waiting buffer.new) result }
         ensures counts { RisesBy (brought (own self.old buffer.old) (waiting buffer.new) result)
             self.old.bytes_read self.new.bytes_read }
         ensures left { own self.new buffer.new ≡ waiting buffer.new }
     {
         buffer.keep(self.left);
-        let read = self.take_read(buffer, pause);
+        let read = self.take_read(buffer, pause, bad_commands);
         self.left = buffer.unread().len();
         read
     }
