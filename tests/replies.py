@@ -43,6 +43,7 @@ NOOP_OK = "250 2.0.0 Ok"
 NOT_CHECKED = "252 2.0.0 Not checked"
 HELP_TEXT = "214 2.0.0 LHLO MAIL RCPT DATA RSET NOOP QUIT VRFY HELP"
 
+BUSY = "450 4.2.1 Mailbox busy"
 NO_SUCH_BOX = "550 5.1.1 No such mailbox"
 TOO_MANY = "452 4.5.3 Too many recipients"
 OUT_OF_ORDER = "503 5.5.1 Out of order"

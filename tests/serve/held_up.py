@@ -1,13 +1,15 @@
-"""What a neighbour still holds up: these cases fail, and are no part of the gate until the server stops it
-(HELD_UP=yes tests/serve.sh 'a file with a lease' 'six users' 'ten seconds')."""
+"""Neighbours who hold up their own mailboxes, and who send letters there: another user's letters go on beside them."""
 
 import contextlib
 import os
+import time
 
-from cases import case
+from cases import case, equal
+from clients import Client
 from leases import hold_leases, letters_beside_a_lease
 from neighbours import ANNA, MANY, Senders, Site, done_by, need_undisturbed, seconds_of_letters
 from readers import bytes_held
+from replies import BUSY, GO_AHEAD, RECIPIENT_OK, RESET_OK, stored
 from server import Server
 
 LOCKERS = 6
@@ -16,7 +18,8 @@ LOCKERS = 6
 @case
 def six_lockers(folder):
     """six users hold the locks of their mailboxes, four lanes, and four clients send them letters: another user's
-    letters go on, 0.1 s in the middle and 1 s at most, once each of the six had a letter put off"""
+    letters go on, 0.1 s in the middle and 1 s at most, once each of the six had a letter put off; theirs come once
+    they let go"""
     names = [f"locker{number}" for number in range(LOCKERS)]
     with Server(folder, [*names, "ben"], MANY, "--lanes", 4) as server, contextlib.ExitStack() as held:
         for name in names:
@@ -24,9 +27,12 @@ def six_lockers(folder):
         with Senders(server.address, names) as senders:
             senders.wait_until_put_off()
             need_undisturbed(seconds_of_letters(server.address, "ben"))
+            assert not any(senders.stored(name) for name in names)
+            held.close()
+            senders.wait_until_stored()
 
 
-six_lockers.seconds = 90
+six_lockers.seconds = 120
 
 
 def hold_a_lease_on_another(folder):
@@ -39,15 +45,36 @@ def hold_a_lease_on_another(folder):
         yield
 
 
+def letters_beside_a_leased_mailbox(folder, count):
+    """What another user's letters take beside a mailbox with a lease on it, once that many letters for it wait for a
+    second, and one of those was put off that four clients send besides."""
+    site = Site(folder)
+    with site.serve("--lanes", 4) as server, contextlib.ExitStack() as held:
+        held.enter_context(done_by(ANNA, hold_a_lease_on_another, site.mail))
+        waiting = [held.enter_context(Client(server.address).greet()) for _ in range(count)]
+        for client in waiting:
+            client.start_message("anna", "hello")
+            client.send(".")
+        time.sleep(1)
+        with Senders(server.address, ["anna"]) as senders:
+            senders.wait_until_put_off()
+            return seconds_of_letters(server.address, "ben")
+
+
 @case
 def lease_on_a_mailbox(folder):
-    """a user puts a file with a lease in the place of his mailbox, and four clients send him letters: another user's
-    letters go on, 0.1 s in the middle and 1 s at most, once a letter of his was put off"""
-    site = Site(folder)
-    with site.serve("--lanes", 4) as server:
-        with done_by(ANNA, hold_a_lease_on_another, site.mail), Senders(server.address, ["anna"]) as senders:
-            senders.wait_until_put_off()
-            need_undisturbed(seconds_of_letters(server.address, "ben"))
+    """a user puts a file with a lease in the place of his mailbox, a letter for him waits for a second, and then four
+    clients send him more: another user's letters go on, 0.1 s in the middle and 1 s at most, once one of these was put
+    off"""
+    need_undisturbed(letters_beside_a_leased_mailbox(folder, 1))
+
+
+@case
+def lease_on_a_mailbox_with_three_letters(folder):
+    """a user puts a file with a lease in the place of his mailbox, three letters for him wait for a second on four
+    lanes, and then four clients send him more: another user's letters go on, 0.1 s in the middle and 1 s at most, once
+    one of these was put off"""
+    need_undisturbed(letters_beside_a_leased_mailbox(folder, 3))
 
 
 @case
@@ -55,3 +82,26 @@ def lease_on_a_lock_file_for_ten_seconds(folder):
     """a user holds a lease on his lock file, four clients send him letters, and a turn waits for ten seconds: another
     user's letters go on, 0.1 s in the middle and 1 s at most, once a letter of his was put off"""
     need_undisturbed(letters_beside_a_lease(folder))
+
+
+@case
+def busy_for_half_the_lanes(folder):
+    """a mailbox whose last turn was missed takes recipients of two of four lanes, and is busy for the others until one
+    of the two has ended its transaction, or a turn was had; another mailbox takes each"""
+    with Server(folder, ["anna", "ben"], MANY, "--lanes", 4, "--lock-wait", 0) as server, contextlib.ExitStack() as left:
+        clients = [left.enter_context(Client(server.address).greet()) for _ in range(4)]
+        first, second, third, fourth = clients
+        with bytes_held(server.mailbox("anna")):
+            assert first.deliver(["anna"], "hello")[1][0].startswith("451 ")
+            for client in clients:
+                client.ask("MAIL FROM:<carl@a.example>")
+            for_anna, for_ben = "RCPT TO:<anna@mx.example>", "RCPT TO:<ben@mx.example>"
+            equal([client.ask(for_anna) for client in clients], [RECIPIENT_OK, RECIPIENT_OK, BUSY, BUSY])
+            equal([client.ask(for_anna) for client in clients], [RECIPIENT_OK, RECIPIENT_OK, BUSY, BUSY])
+            equal([client.ask(for_ben) for client in clients], [RECIPIENT_OK] * 4)
+            equal(second.ask("RSET"), RESET_OK)
+            equal([third.ask(for_anna), fourth.ask(for_anna)], [RECIPIENT_OK, BUSY])
+        equal(third.ask("DATA"), GO_AHEAD)
+        third.send("Subject: x", "", "x", ".")
+        equal([third.hear(), third.hear()], [stored("ben"), stored("anna")])
+        equal(fourth.ask(for_anna), RECIPIENT_OK)

@@ -139,6 +139,17 @@ class Senders:
     def put_off(self, name):
         return sum(reply.startswith("45") for reply in self.replies[name])
 
+    def wait_until_stored(self, within=20):
+        """Until each of the mailboxes had a letter stored, which must come in so many seconds."""
+        until = time.monotonic() + within
+        while not all(self.stored(name) for name in self.names):
+            without = [name for name in self.names if not self.stored(name)]
+            assert time.monotonic() < until, f"no letter came for {without}"
+            time.sleep(0.1)
+
+    def stored(self, name):
+        return any(reply.startswith("250 ") for reply in self.replies[name])
+
 
 def seconds_of_letters(address, name, count=100, within=30):
     """What that many letters for a mailbox take, each with a connection of its own, a little after the one before; as

@@ -1,6 +1,5 @@
 """All cases of this folder, for tests/serve.sh."""
 
-import os
 import sys
 
 import accepts  # noqa: F401  (each adds its cases)
@@ -16,6 +15,7 @@ import ends  # noqa: F401
 import failing  # noqa: F401
 import files  # noqa: F401
 import floods  # noqa: F401
+import held_up  # noqa: F401
 import largest  # noqa: F401
 import leases  # noqa: F401
 import limits  # noqa: F401
@@ -37,8 +37,5 @@ import torn_writes  # noqa: F401
 import unopened  # noqa: F401
 import written  # noqa: F401
 from cases import run_all
-
-if os.environ.get("HELD_UP"):
-    import held_up  # noqa: F401
 
 sys.exit(0 if run_all(sys.argv[1:]) else 1)
