@@ -301,5 +301,5 @@ def make_room(place):
 
 
 def errors_of(there):
-    """What the journal has of the service as errors."""
-    return there.run("journalctl -u lmtpd -p err -o cat --no-pager")[1].splitlines()
+    """What the journal has of the service as errors, and as good news after these."""
+    return there.run("journalctl -u lmtpd -p notice -o cat --no-pager")[1].splitlines()

@@ -74,12 +74,12 @@ def an_end_within_the_first_second(_folder):
         assert time.monotonic() - since < 2 * PAUSE, "not at once"
         service.set("OPTIONS")
         service.restart()
-        for _ in range(3):  # from the second one on within its first second
+        for _ in range(3):  # within its first second
             process, since = service.told("MainPID"), time.monotonic()
             systemctl("kill", "--kill-who=main", "--signal=TERM", service.unit)
             service.wait(lambda: service.told("MainPID") not in ["0", process])
             assert time.monotonic() - since < PAUSE - 1, "not at once"
-            service.wait(lambda: service.told("SubState") == "start-post")
+            service.wait(lambda: service.told("SubState") == "running")
         time.sleep(0.3)
         service.stop()
         equal(service.told("ActiveState"), "inactive")

@@ -23,6 +23,7 @@ import lock_texts  # noqa: F401
 import logs  # noqa: F401
 import neighbour_files  # noqa: F401
 import no_descriptors  # noqa: F401
+import notified  # noqa: F401
 import pipelining  # noqa: F401
 import pipes  # noqa: F401
 import races  # noqa: F401

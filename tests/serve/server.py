@@ -81,7 +81,12 @@ def start(given, errors=subprocess.PIPE, **how):
 
 def run(given):
     """How the program ends with these words, where it ends at once."""
-    process = start(given)
+    return run_as(given)
+
+
+def run_as(given, **how):
+    """The same, started as that is said to Popen."""
+    process = start(given, **how)
     try:
         said, errors = process.communicate(timeout=20)
     finally:

@@ -7,6 +7,7 @@ use crate::line_sink::LineSink;
 use crate::mailbox_line::{MailboxLine, Named};
 use crate::mailbox_sink::MailboxSink;
 use crate::pairs::Line;
+use lmtpd_output::GOOD_NEWS;
 use log::{Level, Log, Metadata, Record};
 
 /// The crate `log`: a lane's lines are at the level `info`, a mailbox's at `error`.
@@ -50,7 +51,12 @@ impl<G: Log + Drop> MailboxSink for LogSink<G> {
     ghost shown = { λ sink. named_by sink };
 
     fn show(&mut self, mailbox: &str, line: MailboxLine) {
-        let metadata = Metadata::new(Level::Error, "lmtpd");
+        let target = if line.is_good_news() {
+            GOOD_NEWS
+        } else {
+            "lmtpd"
+        };
+        let metadata = Metadata::new(Level::Error, target);
         let named = Named { mailbox, line };
         self.log
             .log(&Record::new(metadata, line.message(), &named, ()));

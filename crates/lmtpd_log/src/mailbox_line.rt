@@ -18,6 +18,11 @@ pub enum MailboxLine {
 }
 
 impl MailboxLine {
+    // Whether it ends a trouble that was told.
+    pub(crate) fn is_good_news(self) -> bool {
+        matches!(self, MailboxLine::FreeAgain | MailboxLine::StoresAgain)
+    }
+
     // What it begins with.
     pub(crate) fn message(self) -> &'static str {
         match self {

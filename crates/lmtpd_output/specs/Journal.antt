@@ -15,7 +15,12 @@ priority_text level.Info = codes "<6>"
 priority_text level.Debug = codes "<7>"
 priority_text level.Trace = codes "<7>"
 
--- the same where it may go elsewhere too, where nothing stands before it
+-- the same of a notice, which is less than an error, and where it may go elsewhere too
+abbrev pub notice_in : Bool → List ℕ
+notice_in true = codes "<5>"
+notice_in false = []
+
+-- the same of a level, where it may go elsewhere too, where nothing stands before it
 abbrev pub priority_in : Bool → Level → List ℕ
 priority_in true level = priority_text level
 priority_in false level = []

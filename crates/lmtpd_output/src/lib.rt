@@ -13,5 +13,5 @@ mod urgent;
 pub use bytes::{WriteFault, hand_on, write_bytes, write_each};
 pub use escaped::printable;
 pub use journal::{is_journal, names_stream};
-pub use lines::{ErrorLines, priority_in};
+pub use lines::{ErrorLines, GOOD_NEWS, priority_in};
 pub use urgent::Urgent;

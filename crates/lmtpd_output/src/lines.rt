@@ -2,7 +2,7 @@
 
 ghost use Rattle.std.specs.Prelude.{◌≡◌, Some};
 ghost use Rattle.std.specs.Fmt.{◌++?◌};
-ghost use Rattle.lmtpd_output.specs.Journal.{priority_in, priority_text};
+ghost use Rattle.lmtpd_output.specs.Journal.{notice_in, priority_in, priority_text};
 
 use crate::escaped::Escaped;
 use log::kv::Source;
@@ -10,6 +10,13 @@ use log::span::Spans;
 use log::{Level, Line, Log, Metadata, Record};
 use std::fmt;
 use std::fmt::{Display, Formatter};
+
+/// The target of a record that tells good news at `error`, so that whoever is told of the trouble is told of its end too:
+/// its line is as any other one, and the journal has it as a notice.
+pub const GOOD_NEWS: &str = "lmtpd good news";
+
+/// What lines name as their target.
+const TARGET: &str = "lmtpd";
 
 /// Writes each record to the standard error of a runtime, as a line of printable ASCII; with its priority before it
 /// where that is the journal.
@@ -42,8 +49,16 @@ impl<R: Eprint> Log for ErrorLines<R> {
 
     /// A line that can't be written is dropped.
     fn log<D: Display, K: Source, S: Spans>(&self, record: &Record<'_, D, K, S>) {
-        let priority = priority_in(self.is_journal, record.level());
-        let line = Escaped(Line::new(record));
+        let is_good = record.target() == GOOD_NEWS;
+        let target = if is_good { TARGET } else { record.target() };
+        let metadata = Metadata::new(record.level(), target);
+        let shown = Record::new(metadata, record.args(), record.key_values(), record.spans());
+        let priority = if is_good {
+            notice_in(self.is_journal)
+        } else {
+            priority_in(self.is_journal, record.level())
+        };
+        let line = Escaped(Line::new(&shown));
         let _ = self.rt.eprintln(Prioritized { priority, line });
     }
 
@@ -59,6 +74,13 @@ pub fn priority_in(is_journal: bool, level: Level) -> &'static str
     ensures { result.now ≡ priority_in is_journal level }
 {
     if is_journal { priority_of(level) } else { "" }
+}
+
+// The same of a line that is a notice, whatever its level.
+fn notice_in(is_journal: bool) -> &'static str
+    ensures { result.now ≡ notice_in is_journal }
+{
+    if is_journal { "<5>" } else { "" }
 }
 
 /// How the journal is told a line's priority, of those of syslog: before the line, in angle brackets.

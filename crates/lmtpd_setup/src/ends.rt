@@ -5,6 +5,7 @@ ghost use Rattle.lmtpd_setup.specs.Curfew.{IsCurfewOf};
 
 use crate::logger::ServerLog;
 use lmtp_tcp::{Curfew, has_passed};
+use lmtpd_listen::{Manager, Told};
 use log::error;
 use std::alloc::{AllocError, Global};
 use std::fs::Files;
@@ -46,15 +47,20 @@ pub struct ServerCurfew<R> {
     asked: AtomicU64,
     // when it was logged last that no client can be accepted
     told: AtomicU64,
+    // who is told that the server listens and that it stops, and whether the first was told: 0 or 1
+    manager: Option<Manager>,
+    listens: AtomicU64,
 }
 
 impl<R: Drop> ServerCurfew<R> {
-    /// Nothing has ended the server yet. From here on it takes no memory.
+    /// Nothing has ended the server yet, and no lane takes clients; the manager, if there is one, is told of both. From
+    /// here on it takes no memory.
     pub fn new(
         rt: R,
         log: ServerLog<R>,
         alloc: Global,
         ends: Ends<'_>,
+        manager: Option<Manager>,
     ) -> Result<ServerCurfew<R>, AllocError>
         ensures { IfOk result (IsCurfewOf ends.entry) }
     {
@@ -66,6 +72,8 @@ impl<R: Drop> ServerCurfew<R> {
             looked: AtomicU64::new(0),
             asked: AtomicU64::new(NEVER),
             told: AtomicU64::new(NEVER),
+            manager,
+            listens: AtomicU64::new(0),
         })
     }
 }
@@ -127,7 +135,18 @@ impl<R: Clock + Files> ServerCurfew<R> {
         if !self.is_stop_file_there(now) {
             return None;
         }
-        Some(self.asked.fetch_min(now, Ordering::SeqCst).min(now))
+        let before = self.asked.fetch_min(now, Ordering::SeqCst);
+        if before == NEVER {
+            self.tell_stopping();
+        }
+        Some(before.min(now))
+    }
+
+    // Where the manager can't be told it finds out as the process ends.
+    fn tell_stopping(&self) {
+        if let Some(manager) = &self.manager {
+            let _ = manager.tell(&self.rt, Told::Stopping);
+        }
     }
 }
 
@@ -149,6 +168,26 @@ impl<R: Clock + Files + Drop> ServerCurfew<R> {
     }
 }
 
+impl<R: Clock + Eprint> ServerCurfew<R> {
+    // One lane tells the manager, once; where that can't be told the log says why.
+    fn tell_listening(&self) {
+        let Some(manager) = &self.manager else {
+            return;
+        };
+        let is_first = self
+            .listens
+            .compare_exchange(0, 1, Ordering::SeqCst, Ordering::SeqCst)
+            .is_ok();
+        if !is_first {
+            return;
+        }
+        if let Err(reason) = manager.tell(&self.rt, Told::Listening) {
+            let log = &self.log;
+            error!(log; target: "lmtpd", reason:%; "cannot tell the service manager");
+        }
+    }
+}
+
 impl<R: Clock + Files + Eprint + Drop> Curfew for ServerCurfew<R> {
     ghost use Rattle.std.specs.Prelude.{⊤};
 
@@ -156,8 +195,10 @@ impl<R: Clock + Files + Eprint + Drop> Curfew for ServerCurfew<R> {
 
     ghost IsOver = { λ _ _. ⊤ };
 
-    /// Once it was asked for it stays so.
+    /// Once it was asked for it stays so. A lane asks before it takes a client: at the first time the server listens, and
+    /// all that a start may lack it has.
     fn is_asked(&self) -> bool {
+        self.tell_listening();
         self.asked_ms().is_some()
     }
 

@@ -18,6 +18,7 @@ use crate::room::tell_of_room;
 use crate::site::served_site;
 use crate::stop::Stop;
 use lmtp_text::Site;
+use lmtpd_listen::Manager;
 use lmtpd_log::{LineSetting, LogSink, MailboxSink};
 use lmtpd_words::ServeWords;
 use log::LevelFilter;
@@ -79,7 +80,7 @@ where
     tell_of_room(words, &log);
     let access = access_asked(words);
     let shared = Shared {
-        curfew: shared_curfew(threads, log, alloc, words)?,
+        curfew: shared_curfew(threads, log, alloc, words, Manager::named(rt))?,
         slow: shared_words(alloc, words)?,
     };
     let spools = open_mailboxes(threads, alloc, access, &words.site.boxes, &shared, log)?;
@@ -126,11 +127,12 @@ fn shared_curfew<H: Drop>(
     log: ServerLog<H>,
     alloc: Global,
     words: &ServeWords<'_>,
+    manager: Option<Manager>,
 ) -> Result<Arc<ServerCurfew<H>>, Fault>
     ensures ends { IfOk result (λ curfew. IsCurfewOf (ends_asked words.now) (arc_value curfew)) }
     ensures err { IfErr result (λ f. f ≡ Fault.Memory) }
 {
-    let curfew = ServerCurfew::new(threads, log, alloc, ends_asked(words))?;
+    let curfew = ServerCurfew::new(threads, log, alloc, ends_asked(words), manager)?;
     Ok(Arc::new(alloc, curfew)?)
 }
 
