@@ -63,6 +63,8 @@ install:
 	install -d $(UNITS) $(BEGIN)
 	$(PLACED) packaging/lmtpd.start > $(BEGIN)/start
 	chmod 0755 $(BEGIN)/start
+	$(PLACED) packaging/lmtpd.served > $(BEGIN)/served
+	chmod 0755 $(BEGIN)/served
 	install -m 0755 packaging/lmtpd.keys $(BEGIN)/keys
 	install -m 0755 packaging/lmtpd.leases $(BEGIN)/leases
 	install -m 0644 packaging/lmtpd.instance $(BEGIN)/instance.conf

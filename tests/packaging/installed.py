@@ -15,6 +15,7 @@ INSTALLED = [
     "usr/lib/lmtpd/instance.conf",
     "usr/lib/lmtpd/keys",
     "usr/lib/lmtpd/leases",
+    "usr/lib/lmtpd/served",
     "usr/lib/lmtpd/start",
     "usr/lib/systemd/system/lmtpd-metrics.service",
     "usr/lib/systemd/system/lmtpd-metrics.timer",

@@ -11,6 +11,7 @@ import sys
 import tempfile
 
 from installed import INSTALLED, said_by
+from served import check_served
 
 LMTPD = os.environ["LMTPD"]
 PAGE = pathlib.Path("packaging/lmtpd.8").read_text()
@@ -86,6 +87,11 @@ def check_install(folder):
         "Documentation=man:lmtpd(8) file:/usr/share/doc/lmtpd/OPERATING.md",
         "ExecStart=/usr/lib/lmtpd/start --rename-marks",
         "ExecReload=/usr/lib/lmtpd/start --check-words --rename-marks",
+        "ExecReload=-/usr/lib/lmtpd/served keep",
+        "Type=notify",
+        "NotifyAccess=main",
+        "RuntimeDirectoryPreserve=restart",
+        "ExecStartPost=/bin/rm -f /run/lmtpd/served/mark",
         "ExecStartPre=+/usr/lib/lmtpd/leases",
         "TimeoutStopSec=20",
         "LogRateLimitIntervalSec=1s",
@@ -147,6 +153,7 @@ def check_instances(unit, units):
         "RuntimeDirectory=lmtpd-%i",
         "SyslogIdentifier=lmtpd@%i",
         "ExecStartPre=/bin/rm -f /run/lmtpd-%i/stop",
+        "ExecStartPost=/bin/rm -f /run/lmtpd-%i/served/mark",
         "ExecStartPre=+/usr/lib/lmtpd/leases",
         "EnvironmentFile=/etc/lmtpd.conf",
         "Also=lmtpd@%i.socket",
@@ -217,9 +224,10 @@ def check_start(folder):
     prefix, room = folder / "begun", folder / "room"
     assert said_by("make", "-s", "install", f"DESTDIR={room}", f"PREFIX={prefix}", f"PROGRAM={LMTPD}") == (0, "")
     start = f"{room}{prefix}/lib/lmtpd/start"
-    for name, said in [("sbin/lmtpd", "printf '%s\\n'"), ("lib/lmtpd/keys", 'echo keys "$@"; exit $STATUS; :')]:
+    told = [("sbin/lmtpd", "printf '%s\\n'"), ("lib/lmtpd/keys", 'echo keys "$@"; exit $STATUS; :'), ("lib/lmtpd/served", ":")]
+    for name, said in told:
         program = prefix / name
-        program.parent.mkdir(parents=True)
+        program.parent.mkdir(parents=True, exist_ok=True)
         program.write_text(f'#!/bin/sh\n{said} "$@"\n')
         program.chmod(0o755)
 
@@ -445,5 +453,6 @@ with tempfile.TemporaryDirectory() as room:
     check_map(pathlib.Path(room) / "boxes")
     check_leases(pathlib.Path(room) / "leases")
     check_run(pathlib.Path(room) / "run")
+    check_served(pathlib.Path(room) / "served")
 print("ok: page, completion, version, unit, words, keys, folder, leases, what runs it in a container, and install")
 sys.exit(0)

@@ -37,6 +37,7 @@ import reader_holds  # noqa: F401
 import readers_agree  # noqa: F401
 import readers_delete  # noqa: F401
 import service_words  # noqa: F401
+import reload_goes_back  # noqa: F401
 import reload_names  # noqa: F401
 import several_servers  # noqa: F401
 import start_fails  # noqa: F401
