@@ -10,8 +10,8 @@ use std::sync::Arc;
 use std::time::{Clock, Duration};
 
 /// The clock by which a mailbox pauses while other programs have it locked. Once the grace is over that the server has
-/// after its end was asked for, or while its turn holds up lanes and is old, a pause takes no time, so that the tries
-/// that are left are made at once.
+/// after its end was asked for, or while its turn holds up lanes and is old, a pause takes no time, by which the mailbox
+/// knows that it waits no longer.
 #[derive(Drop)]
 pub struct HurriedClock<R: Drop> {
     clock: R,

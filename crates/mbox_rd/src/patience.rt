@@ -78,7 +78,8 @@ impl Patience {
         }
     }
 
-    /// The turn's pause of this number, counted from 1. False: the time for this turn is over, and there is none.
+    /// The turn's pause of this number, counted from 1. False: the time for this turn is over, and there is none, or it
+    /// took no time, since the clock waits for nothing any more.
     pub fn pause<C: Clock>(&mut self, clock: &C, number: u64) -> bool
         ensures paused { result ≡ true
             → self.new ≡ record self.old { paused_ms = counted (self.old.paused_ms + pause_ms number) } }
@@ -89,8 +90,10 @@ impl Patience {
             return false;
         }
         let ms = pause_after(number);
+        if !has_slept(clock, ms) {
+            return false;
+        }
         self.paused_ms = self.paused_ms.saturating_add(ms);
-        clock.sleep(Duration::from_millis(ms));
         true
     }
 
@@ -123,6 +126,16 @@ impl Patience {
     {
         self.was_missed = true;
         self.missed = clock.monotonic().unwrap_or(Duration::ZERO);
+    }
+}
+
+// Sleeps so many milliseconds. False: by the clock not even one has passed. One that tells no time is believed.
+fn has_slept<C: Clock>(clock: &C, ms: u64) -> bool {
+    let began = clock.monotonic();
+    clock.sleep(Duration::from_millis(ms));
+    match (began, clock.monotonic()) {
+        (Ok(began), Ok(now)) => whole_ms(now.saturating_sub(began)) > 0,
+        _ => true,
     }
 }
 
