@@ -77,7 +77,7 @@ def it_was_refused(there):
         one.quit()
     time.sleep(2)  # the conversation's line comes once the connection is closed
     (line,) = [line for line in said(there, commands("Why was it refused?")[0]).splitlines() if "refused" in line]
-    lane = re.search(r"command refused lane=(\d) verb=RCPT code=550$", line)[1]
+    lane = re.search(r"command refused lane=(\d) verb=RCPT code=550 reason=mailbox$", line)[1]
     ends = said(there, f"journalctl -u lmtpd -g 'conversation ended lane={lane} '")
     assert " client=unix cause=quit " in ends, ends
 

@@ -3,6 +3,7 @@
 import contextlib
 import os
 import pathlib
+import re
 import shutil
 import time
 
@@ -29,6 +30,24 @@ def ten_lines(folder):
         owners = there.run("stat -c '%U %G %a' /var/mail/lmtpd /var/mail/lmtpd/anna.mbox")
         equal(owners, (0, "lmtpd lmtpd 700\nlmtpd lmtpd 600\n"))
         equal(there.run("systemctl is-enabled lmtpd.socket && systemctl is-active lmtpd"), (0, "enabled\nactive\n"))
+        looks_for_domains(there)
+
+
+def looks_for_domains(there):
+    """What the page has for a letter that isn't there: nothing so far, and a domain that Postfix alone has."""
+    page = (ROOT / "docs/operating/SETUP.md").read_text()
+    [command] = re.findall("`(journalctl [^`]* -g 'domain not served')`", page)
+    equal(there.run(f"journalctl --sync; {command}")[1].replace("-- No entries --\n", ""), "")
+    for line in [
+        "postconf -e virtual_mailbox_domains=mx.example,real.tld virtual_mailbox_maps=static:x",
+        "systemctl reload postfix",
+        SEND.format("two").replace("mx.example", "real.tld"),
+    ]:
+        equal((line, there.run(line)[0]), (line, 0))
+    until = time.monotonic() + 30
+    while not there.run(f"journalctl --sync; {command}")[1].endswith(" domain not served domain=real.tld\n"):
+        assert time.monotonic() < until, there.run("journalctl -n 20 --no-pager")[1]
+        time.sleep(0.2)
 
 
 ten_lines.seconds = 120

@@ -36,6 +36,7 @@ import suffixes  # noqa: F401
 import torn_tails  # noqa: F401
 import torn_writes  # noqa: F401
 import unopened  # noqa: F401
+import unserved  # noqa: F401
 import written  # noqa: F401
 from cases import run_all
 

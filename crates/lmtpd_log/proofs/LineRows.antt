@@ -20,7 +20,7 @@ pub a_letter : lines_owed rules
     ∷ told (OfLine (codes "rcpt TO:<x@mx.example>") NoSuchBox)
     ∷ told (OfLine (codes "RCPT TO:<ben@mx.example>") RecipientOk)
     ∷ told (OfCopy 17 1234 (Some (codes "<1@a>")) (codes "relay.example") (Result OverQuota 1)) ∷ [])
-    ≡ Refused 3 (codes "RCPT") (codes "550") None
+    ≡ Refused 3 (codes "RCPT") (codes "550") (Some (codes "mailbox")) None
     ∷ Answered 7 3 17 (codes "ben") (codes "over-quota") (codes "452") 1234 (codes "relay.example") (Some (codes "<1@a>")) None
     ∷ []
 unfolding reply_text

@@ -7,7 +7,7 @@ use Rattle.mail_world.specs.declared.Reply.{Reply}
 use Rattle.mail_world.specs.declared.Reply.TheVariants as replies
 use Rattle.mail_world.specs.declared.limits.TheConstants.{PATH_LIMIT, RECIPIENT_LIMIT}
 use Rattle.mail_world.specs.Commands.{Answer, Mail, Rcpt, command_at}
-use Rattle.mail_world.specs.Grammar.{mailbox_text}
+use Rattle.mail_world.specs.Grammar.{Target, mailbox_text}
 use Rattle.lmtp_talk.specs.Entries.{Entry, OfLine, OfCopy, OfEnd}
 
 -- the sender, and the recipients of whose copies the log wasn't told yet, in their order
@@ -40,6 +40,14 @@ address_of _ = None
 -- UTF-8
 abbrev pub address_in : Bool → List ℕ → Option (List ℕ)
 address_in utf8 line = address_of (command_at (record { message_limit = 2 ^ 32 - 1; utf8 = utf8 }) line)
+
+-- the target of a recipient's command
+abbrev pub target_of : Answer → Option Target
+target_of (Ok (Rcpt target)) = Some target
+target_of _ = None
+
+abbrev pub target_in : Bool → List ℕ → Option Target
+target_in utf8 line = target_of (command_at (record { message_limit = 2 ^ 32 - 1; utf8 = utf8 }) line)
 
 -- the same of a line that was accepted: what is in UTF-8 was offered then
 abbrev pub named_by : List ℕ → List ℕ

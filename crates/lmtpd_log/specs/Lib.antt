@@ -12,3 +12,4 @@ pub mod Texts
 pub mod TurnLines
 pub mod Verbs
 pub mod Words
+pub mod Unserved

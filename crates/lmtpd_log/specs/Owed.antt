@@ -1,5 +1,5 @@
 -- Which lines a lane's log owes for what it was told.
-use Rattle.std.specs.Prelude.{ℕ, Bool, true, false, List, [], ◌∷◌, ◌++◌, take, map, if◌then◌else◌}
+use Rattle.std.specs.Prelude.{ℕ, Bool, true, false, List, [], ◌∷◌, ◌++◌, take, map, codes, if◌then◌else◌}
 use Rattle.std.specs.Prelude.{Option, None, option_map}
 use Rattle.std.specs.Option.{option_map_or, option_and_then}
 use Rattle.mail_world.specs.declared.Reply.{Reply}
@@ -7,10 +7,11 @@ use Rattle.mail_world.specs.declared.Reply.TheVariants as replies
 use Rattle.mail_world.specs.declared.limits.TheConstants.{NAME_LIMIT}
 use Rattle.mail_world.specs.Replies.{reply_text}
 use Rattle.mail_world.specs.Site.{Site, box_name}
+use Rattle.mail_world.specs.Targets.{is_here}
 use Rattle.lmtp_talk.specs.Entries.{Entry, OfLine, OfCopy, OfEnd}
 use Rattle.lmtp_talk.specs.declared.client.Traffic.{Traffic}
 use Rattle.lmtp_talk.specs.declared.ending.EndCause.{EndCause}
-use Rattle.lmtpd_log.specs.Letters.{LoggedLetter, address_in, after_entry, first_letter, next_envelope}
+use Rattle.lmtpd_log.specs.Letters.{LoggedLetter, address_in, after_entry, first_letter, next_envelope, target_in}
 use Rattle.lmtpd_log.specs.Line.{Line, Refused, Answered, Ended}
 use Rattle.lmtpd_log.specs.Verbs.{verb_word}
 use Rattle.lmtpd_log.specs.Words.{is_refusal, cause_text, outcome_word}
@@ -36,12 +37,19 @@ entries_heard heard = map (λ h. h.entry) heard
 abbrev pub code_of : Site → Reply → List ℕ
 code_of site reply = take 3 (reply_text site reply)
 
+-- why the recipient of a command isn't known: no mailbox has the name, or the domain isn't served
+abbrev pub unknown_reason : Site → List ℕ → Reply → Option (List ℕ)
+unknown_reason site line replies.NoSuchBox =
+    option_map (λ target. if is_here site target.domain then codes "mailbox" else codes "domain") (target_in site.utf8 line)
+unknown_reason site line _ = None
+
 -- The lines that are owed for one entry, one or none: for a command that was refused, for a copy to and from these
 -- addresses, and for an end.
 abbrev pub refused_lines : LineRules → List ℕ → Reply → List Line
 refused_lines rules line reply =
     let address = if rules.addresses then address_in rules.site.utf8 line else None in
-    if is_refusal reply then Refused rules.lane (verb_word line) (code_of rules.site reply) address ∷ [] else []
+    let reason = unknown_reason rules.site line reply in
+    if is_refusal reply then Refused rules.lane (verb_word line) (code_of rules.site reply) reason address ∷ [] else []
 
 abbrev pub copy_lines : LineRules → ℕ → ℕ → Option (List ℕ) → List ℕ → Reply → Option (List ℕ × List ℕ) → List Line
 copy_lines rules number size message_id client (replies.Result outcome box) envelope =

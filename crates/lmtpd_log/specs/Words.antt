@@ -6,6 +6,8 @@ use Rattle.mail_world.specs.declared.Reply.{Reply}
 use Rattle.mail_world.specs.declared.Reply.TheVariants as replies
 use Rattle.lmtp_talk.specs.declared.ending.EndCause.{EndCause}
 use Rattle.lmtp_talk.specs.declared.ending.EndCause.TheVariants as ends
+use Rattle.lmtpd_log.specs.declared.pairs.Unknown.{Unknown}
+use Rattle.lmtpd_log.specs.declared.pairs.Unknown.TheVariants as unknown
 
 -- the cause that a conversation ended for
 abbrev pub cause_text : EndCause → List ℕ
@@ -24,6 +26,11 @@ outcome_word outcomes.NoRoom = codes "no-room"
 outcome_word outcomes.TooLarge = codes "too-large"
 outcome_word outcomes.Malformed = codes "malformed"
 outcome_word outcomes.OverQuota = codes "over-quota"
+
+-- why a recipient isn't known
+abbrev pub unknown_word : Unknown → List ℕ
+unknown_word unknown.Domain = codes "domain"
+unknown_word unknown.Mailbox = codes "mailbox"
 
 -- the replies that refuse a command
 abbrev pub is_refusal : Reply → Bool

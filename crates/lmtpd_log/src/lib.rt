@@ -23,6 +23,7 @@ mod mailbox_sink;
 mod naming;
 mod pairs;
 mod setting;
+mod unserved;
 mod verb;
 mod words;
 

@@ -15,6 +15,7 @@ use crate::letter::Letter;
 use crate::line_sink::LineSink;
 use crate::pairs::{Line, Seconds};
 use crate::setting::LaneSetting;
+use crate::unserved::Unserved;
 use lmtp_talk::{Arrived, EndCause, Observer, Traffic};
 use lmtp_text::Reading;
 use mail_world::Reply;
@@ -35,6 +36,7 @@ pub struct LineLog<E: LineSink, C: Drop> {
     waiting: Vec<Line>,
     ghost room: { vec_capacity waiting ≡ WAITING_LIMIT },
     letter: Letter,
+    unserved: Unserved,
     // when bytes came last, or the largest moment that there is
     came: Duration,
     history: History,
@@ -66,6 +68,7 @@ impl<E: LineSink, C: Clock + Drop> LineLog<E, C> {
             clock,
             waiting: Vec::with_capacity(alloc, WAITING_LIMIT)?,
             letter: Letter::new(alloc, setting.addresses)?,
+            unserved: Unserved::new(alloc)?,
             setting,
             came: Duration::MAX,
             history: History::new(),
@@ -101,6 +104,20 @@ impl<E: LineSink, C: Clock + Drop> LineLog<E, C> {
         }
     }
 
+    // Says at once of a domain that isn't served that it isn't, the first time in an hour; without a clock the first time.
+    fn tell_unserved(&mut self, said: Reading<'_>, reply: Reply)
+        ensures shown { E.shown self.new.sink ≡ E.shown self.old.sink }
+        ensures rest { self.new ≡ record self.old { sink = self.new.sink; unserved = self.new.unserved } }
+    {
+        let Some(domain) = self.setting.unserved(said, reply) else {
+            return;
+        };
+        let now = self.clock.monotonic().unwrap_or(Duration::ZERO);
+        if self.unserved.is_to_tell(domain, now) {
+            self.sink.show_unserved(domain);
+        }
+    }
+
     // The time since that moment; 0 where it is the largest that there is, or the clock couldn't be asked.
     fn since(&self, moment: Duration) -> Seconds {
         match self.clock.monotonic() {
@@ -133,6 +150,7 @@ impl<E: LineSink, C: Clock + Drop> Observer for LineLog<E, C> {
             (E.shown self.old.sink) (E.shown self.new.sink) }
         ensures rules { rules_in self.new ≡ rules_in self.old }
     {
+        self.tell_unserved(said, reply);
         self.make_room();
         let refused = self.setting.refused(said, reply);
         keep(&mut self.waiting, refused);

@@ -13,4 +13,8 @@ pub trait LineSink: Drop {
     /// Shows one line.
     fn show(&mut self, line: Line)
         ensures { shown self.new ≡ shown self.old ++ line_of line ∷ [] };
+
+    /// Shows that a domain isn't served, which is no line of a command's own.
+    fn show_unserved(&mut self, domain: &[u8])
+        ensures { shown self.new ≡ shown self.old };
 }

@@ -6,11 +6,12 @@ use crate::history::{Event, History};
 use crate::line_sink::LineSink;
 use crate::mailbox_line::{MailboxLine, Named};
 use crate::mailbox_sink::MailboxSink;
-use crate::pairs::Line;
+use crate::pairs::{Line, UnservedLine};
 use lmtpd_output::GOOD_NEWS;
 use log::{Level, Log, Metadata, Record};
 
-/// The crate `log`: a lane's lines are at the level `info`, a mailbox's at `error`.
+/// The crate `log`: a lane's lines are at the level `info`, but for domains that aren't served; these and a mailbox's are
+/// at `error`.
 #[derive(Drop)]
 pub struct LogSink<G: Drop> {
     log: G,
@@ -42,6 +43,13 @@ impl<G: Log + Drop> LineSink for LogSink<G> {
         self.log
             .log(&Record::new(metadata, line.message(), &line, ()));
         self.history.add(Event::Shown(line));
+    }
+
+    fn show_unserved(&mut self, domain: &[u8]) {
+        let metadata = Metadata::new(Level::Error, "lmtpd");
+        let line = UnservedLine(domain);
+        self.log
+            .log(&Record::new(metadata, "domain not served", &line, ()));
     }
 }
 

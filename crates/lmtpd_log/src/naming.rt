@@ -1,12 +1,12 @@
 //! The address that a command line names, and how a line of the log shows it and other texts that a client chose.
 
-ghost use Rattle.std.specs.Prelude.{◌≡◌, take, option_map};
+ghost use Rattle.std.specs.Prelude.{◌≡◌, ◌-◌, ◌^◌, take, option_map};
 ghost use Rattle.mail_world.specs.Grammar.{local_text, mailbox_text};
 ghost use Rattle.mail_world.specs.declared.limits.TheConstants.{PATH_LIMIT};
 ghost use Rattle.lmtp_text.specs.Readings.{line_read};
 ghost use Rattle.lmtp_text.specs.Seen.{seen_target};
 ghost use Rattle.mail_head.specs.Texts.{text_of};
-ghost use Rattle.lmtpd_log.specs.Letters.{address_in, named_by};
+ghost use Rattle.lmtpd_log.specs.Letters.{address_in, named_by, target_in};
 ghost use Rattle.lmtpd_log.specs.Shown.{escaped, shown_address};
 
 use lmtp_text::{Command, Extensions, Reading, Target};
@@ -23,18 +23,33 @@ pub(crate) type Address = Text<PATH_LIMIT>;
 /// and with the percent sign the word says which text it was.
 pub const ESCAPED: AsciiSet = ascii_set!(CONTROLS.add(b' ').add(b'%'));
 
-/// The address that a command line names, where it is one of MAIL or RCPT that can be read. A size that MAIL says is
-/// not looked at. `utf8`: the address may be in UTF-8.
+/// The address that a command line names, where it is one of MAIL or RCPT that can be read. `utf8`: it may be in UTF-8.
 pub(crate) fn address_in(said: Reading<'_>, utf8: bool) -> Option<Address>
     ensures { option_map text_of result ≡ address_in utf8 (line_read said.entry) }
 {
-    let offered = Extensions {
-        message_limit: u32::MAX,
-        utf8,
-    };
-    match said.command_at(offered) {
+    match said.command_at(offered(utf8)) {
         Ok(Command::Mail { sender, .. }) => Some(sender_address(sender)),
         Ok(Command::Rcpt(target)) => Some(recipient_address(target)),
+        _ => None,
+    }
+}
+
+// A size that MAIL says is not looked at.
+fn offered(utf8: bool) -> Extensions
+    ensures { result ≡ record { message_limit = 2 ^ 32 - 1; utf8 = utf8 } }
+{
+    Extensions {
+        message_limit: u32::MAX,
+        utf8,
+    }
+}
+
+/// The target that a command line names, where it is a RCPT that can be read.
+pub(crate) fn target_in<'a>(said: Reading<'a>, utf8: bool) -> Option<Target<'a>>
+    ensures { option_map seen_target result ≡ target_in utf8 (line_read said.entry) }
+{
+    match said.command_at(offered(utf8)) {
+        Ok(Command::Rcpt(target)) => Some(target),
         _ => None,
     }
 }

@@ -1,7 +1,7 @@
 //! The lines of a lane's log: what each begins with, and its pairs in their order.
 
 use crate::naming::{Address, Escaped, Shown};
-use crate::words::{cause_text, outcome_word};
+use crate::words::{cause_text, outcome_word, unknown_word};
 use lmtp_talk::{Client, EndCause};
 use log::kv::{Error, Source, ToValue, Value, VisitSource};
 use mail_head::{MessageId, Text};
@@ -108,8 +108,39 @@ pub struct RefusedLine {
     pub lane: u32,
     pub verb: Text<5>,
     pub code: Text<3>,
+    /// Of a recipient that isn't known.
+    pub reason: Option<Unknown>,
     /// The address that it named, where the lines show it.
     pub address: Option<Address>,
+}
+
+/// Why a recipient isn't known.
+#[derive(Clone, Copy, Debug, PartialEq, Eq)]
+pub enum Unknown {
+    /// Its domain isn't served.
+    Domain,
+    /// No mailbox has its name.
+    Mailbox,
+}
+
+impl RefusedLine {
+    // Why, of a recipient that isn't known.
+    fn visit_reason<V: VisitSource>(&self, visitor: &mut V) -> Result<(), Error> {
+        match self.reason {
+            Some(reason) => visitor.visit_pair("reason", unknown_word(reason).to_value()),
+            None => Ok(()),
+        }
+    }
+}
+
+/// A domain that isn't served.
+#[derive(Clone, Copy)]
+pub(crate) struct UnservedLine<'a>(pub &'a [u8]);
+
+impl Source for UnservedLine<'_> {
+    fn visit<V: VisitSource>(&self, visitor: &mut V) -> Result<(), Error> {
+        visitor.visit_pair("domain", Value::Display(&Escaped(self.0)))
+    }
 }
 
 impl Source for RefusedLine {
@@ -117,6 +148,7 @@ impl Source for RefusedLine {
         visitor.visit_pair("lane", self.lane.to_value())?;
         visitor.visit_pair("verb", shown(&self.verb).to_value())?;
         visitor.visit_pair("code", shown(&self.code).to_value())?;
+        self.visit_reason(visitor)?;
         let key = if self.verb.text() == b"RCPT".as_slice() {
             "recipient"
         } else {

@@ -1,7 +1,7 @@
 //! What all lines of a lane have in common, and the lines that are made with it.
 
-use crate::naming::{Address, address_in};
-use crate::pairs::{CopyLine, EndLine, Envelope, Id, Line, RefusedLine, Seconds};
+use crate::naming::{Address, address_in, target_in};
+use crate::pairs::{CopyLine, EndLine, Envelope, Id, Line, RefusedLine, Seconds, Unknown};
 use crate::verb::verb_of;
 use crate::words::is_refusal;
 use lmtp_talk::{Arrived, EndCause, Traffic};
@@ -30,7 +30,8 @@ impl LaneSetting {
     ghost use Rattle.std.specs.Prelude.{◌≡◌, [], if◌then◌else◌, None, option_map};
     ghost use Rattle.lmtp_text.specs.Readings.{line_read};
     ghost use Rattle.lmtpd_log.specs.Letters.{address_in};
-    ghost use Rattle.lmtpd_log.specs.Owed.{code_of, copy_lines, end_lines, refused_lines};
+    ghost use Rattle.lmtpd_log.specs.Owed.{code_of, copy_lines, end_lines, refused_lines, unknown_reason};
+    ghost use Rattle.lmtpd_log.specs.Words.{unknown_word};
     ghost use Rattle.lmtpd_log.specs.Rules.{lines_in, rules_of};
     ghost use Rattle.lmtpd_log.specs.Texts.{envelope_texts};
     ghost use Rattle.mail_head.specs.Texts.{text_of};
@@ -46,11 +47,13 @@ impl LaneSetting {
         if !is_refusal(reply) {
             return None;
         }
+        let reason = self.unknown(said, reply);
         let address = self.address(said);
         Some(Line::Refused(RefusedLine {
             lane: self.lane,
             verb: Text::of(verb_of(said.line()).as_bytes()),
             code: self.code(reply),
+            reason,
             address,
         }))
     }
@@ -106,6 +109,34 @@ impl LaneSetting {
             written: traffic.written,
             seconds,
         }))
+    }
+
+    // Why the recipient isn't known for whom that is the reply.
+    fn unknown(&self, said: Reading<'_>, reply: Reply) -> Option<Unknown>
+        ensures { option_map unknown_word result
+            ≡ unknown_reason (rules_of self.now).site (line_read said.entry) reply }
+    {
+        if !matches!(reply, Reply::NoSuchBox) {
+            return None;
+        }
+        let target = target_in(said, self.site.utf8())?;
+        if self.site.serves(target.domain) {
+            Some(Unknown::Mailbox)
+        } else {
+            Some(Unknown::Domain)
+        }
+    }
+
+    /// The domain that a recipient's command names where that is the reply and the domain isn't served.
+    pub(crate) fn unserved<'a>(&self, said: Reading<'a>, reply: Reply) -> Option<&'a [u8]> {
+        if !matches!(reply, Reply::NoSuchBox) {
+            return None;
+        }
+        let target = target_in(said, self.site.utf8())?;
+        if self.site.serves(target.domain) {
+            return None;
+        }
+        target.domain
     }
 
     // The address that a command line names, where lines show it.

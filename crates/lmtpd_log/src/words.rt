@@ -1,8 +1,9 @@
 //! What the log calls things.
 
 ghost use Rattle.std.specs.Prelude.{◌≡◌};
-ghost use Rattle.lmtpd_log.specs.Words.{cause_text, outcome_word, is_refusal};
+ghost use Rattle.lmtpd_log.specs.Words.{cause_text, outcome_word, is_refusal, unknown_word};
 
+use crate::pairs::Unknown;
 use lmtp_talk::EndCause;
 use mail_world::{Outcome, Reply};
 
@@ -31,6 +32,16 @@ pub(crate) fn outcome_word(outcome: Outcome) -> &'static str
         Outcome::TooLarge => "too-large",
         Outcome::OverQuota => "over-quota",
         Outcome::Malformed => "malformed",
+    }
+}
+
+/// What the log calls the reason for which a recipient isn't known.
+pub(crate) fn unknown_word(reason: Unknown) -> &'static str
+    ensures { result.now ≡ unknown_word reason }
+{
+    match reason {
+        Unknown::Domain => "domain",
+        Unknown::Mailbox => "mailbox",
     }
 }
 

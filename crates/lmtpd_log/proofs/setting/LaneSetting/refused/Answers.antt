@@ -5,8 +5,9 @@ use Rattle.mail_world.specs.Commands.{is_word}
 use Rattle.lmtp_text.specs.Readings.{line_read}
 use Rattle.lmtpd_log.specs.Letters.{address_in}
 use Rattle.lmtpd_log.specs.Line.{Line, Refused}
-use Rattle.lmtpd_log.specs.Owed.{code_of, refused_lines}
+use Rattle.lmtpd_log.specs.Owed.{code_of, refused_lines, unknown_reason}
 use Rattle.lmtpd_log.specs.Rules.{rules_of}
+use Rattle.lmtpd_log.specs.Words.{unknown_word}
 use Rattle.mail_head.specs.Texts.{text_of}
 use Rattle.lmtpd_log.specs.Verbs.{ends_word, known_verb, verb_among, verb_word, verbs, without_white_space}
 use Rattle.lmtpd_log.proofs.setting.LaneSetting.refused.Goals as goal
@@ -37,12 +38,15 @@ returns c =
     let rules = rules_of c.args.self.now in
     let line = line_read c.args.said in
     let code = code_of rules.site c.args.reply in
+    let reason = unknown_reason rules.site line c.args.reply in
+    let said = option_map unknown_word c.unknown-reason.result in
     let address = option_map (λ a. text_of a) c.address-address.result in
     let verb = c.of.ensures ∙ ap (take 5) (c.as_bytes.ensures.value ∙ c.verb_of.ensures ∙ ap verb_word c.line.ensures) ∙ a_word line in
     let named = cond rules.addresses (address_in rules.site.utf8 line) None in
-    let owed : List Line = Refused rules.lane (verb_word line) code named ∷ [] in
-    ap (λ v. Refused rules.lane v (text_of c.code.result) address ∷ []) verb
-    ∙ ap (λ k. Refused rules.lane (verb_word line) k address ∷ []) c.code.ensures
-    ∙ ap (λ a. Refused rules.lane (verb_word line) code a ∷ []) c.address-address.ensures
+    let owed : List Line = Refused rules.lane (verb_word line) code reason named ∷ [] in
+    ap (λ v. Refused rules.lane v (text_of c.code.result) said address ∷ []) verb
+    ∙ ap (λ k. Refused rules.lane (verb_word line) k said address ∷ []) c.code.ensures
+    ∙ ap (λ r. Refused rules.lane (verb_word line) code r address ∷ []) c.unknown-reason.ensures
+    ∙ ap (λ a. Refused rules.lane (verb_word line) code reason a ∷ []) c.address-address.ensures
     ∙ sym (ap (λ t. cond t owed []) (sym c.is_refusal.ensures ∙ c.if-not-is_refusal.false))
     ∙ sym (ap (λ t. cond t (refused_lines rules line c.args.reply) []) c.if-not-self.false)
