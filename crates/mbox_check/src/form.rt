@@ -1,5 +1,5 @@
 //! The form of a mailbox, checked as its bytes come.
-ghost use Rattle.std.specs.Prelude.{◌≡◌, ◌+◌, ◌<◌, ◌≤◌, ℕ, List, [], ◌∷◌, length, take, IfOk, IfErr, OnOk};
+ghost use Rattle.std.specs.Prelude.{◌≡◌, ◌+◌, ◌-◌, ◌<◌, ◌≤◌, ℕ, List, [], ◌∷◌, length, take, IfOk, IfErr, OnOk};
 ghost use Rattle.mail_world.specs.Counts.{counted};
 ghost use Rattle.mbox_check.specs.Form.{IsBad, IsLetterCount};
 ghost use Rattle.mbox_check.specs.States.{bad_at};
