@@ -13,7 +13,7 @@ use Rattle.mbox_check.specs.declared.state.FormState.{FormState}
 use Rattle.mbox_check.specs.declared.state.FormState.TheVariants.{Start, Open, Line, Inside}
 use Rattle.mbox_check.specs.Form.{IsMailboxOf, BeginsMailbox}
 use Rattle.mbox_check.specs.States.{part_text, next_byte, longer_part, is_nothing, is_whole}
-use Rattle.mbox_check.specs.SoFar.{EndsInLine, IsBody, IsOpen, IsLine, IsInsideLine, EndsAt}
+use Rattle.mbox_check.specs.SoFar.{EndsInLine, Begun, IsBody, IsOpen, IsLine, IsInsideLine, EndsAt}
 use Rattle.mbox_check.proofs.Bodies.{ends_after, text_short, line_short, body_line, body_ended, body_first, body_begins, begins_shorter, body_begins_mailbox}
 
 -- ---- parts of `From `
@@ -98,22 +98,22 @@ ends_in_part part text start e some = subst EndsInLine (sym e) (ends_after start
 
 -- ---- a part of `From ` after the lines of a letter
 
-pub record IsStarted (text : List ℕ) (n : ℕ) (part : Part) : Type 0 where
+pub record IsStarted (text : List ℕ) (n : Begun) (part : Part) : Type 0 where
   pub start : List ℕ
   pub body : IsBody start n
   pub whole : text ≡ start ++ part_text part
 
-pub open_started : (text : List ℕ) (n : ℕ) (part : Part) → IsOpen text n part → IsStarted text n part
+pub open_started : (text : List ℕ) (n : Begun) (part : Part) → IsOpen text n part → IsStarted text n part
 open_started text n part o = record { start = o.before ++ lf ∷ []; body = body_line o.before n [] o.body (literal [] refl) refl; whole = o.whole }
 
-pub line_started : (text : List ℕ) (n : ℕ) (part : Part) → IsLine text n part → IsStarted text n part
+pub line_started : (text : List ℕ) (n : Begun) (part : Part) → IsLine text n part → IsStarted text n part
 line_started text n part l = record { start = l.before ++ lf ∷ []; body = l.body; whole = l.whole }
 
-pub started_begins : (text : List ℕ) (n : ℕ) (part : Part) (more : List ℕ) → IsStarted text n part → is_boundary (text ++ more) ≡ true
+pub started_begins : (text : List ℕ) (n : Begun) (part : Part) (more : List ℕ) → IsStarted text n part → is_boundary (text ++ more) ≡ true
 started_begins text n part more s =
     ap is_boundary (ap (λ (l : List ℕ). l ++ more) s.whole ∙ append_assoc s.start (part_text part) more) ∙ body_begins s.start n (part_text part ++ more) s.body
 
-pub started_line : (text : List ℕ) (n : ℕ) (part : Part) → IsStarted text n part → IsBody (text ++ lf ∷ []) n
+pub started_line : (text : List ℕ) (n : Begun) (part : Part) → IsStarted text n part → IsBody (text ++ lf ∷ []) n
 started_line text n part s =
     subst (λ (l : List ℕ). IsBody l n) (sym (ap (λ (l : List ℕ). l ++ lf ∷ []) s.whole ∙ append_assoc s.start (part_text part) (lf ∷ [])))
     (body_line s.start n (part_text part) s.body (part_one part) (part_plain part))
@@ -127,18 +127,18 @@ part_begins text letters part are e =
     sym (append_assoc text (part_text part) rest ∙ ap (λ (l : List ℕ). text ++ l) (part_whole part)) in
     begins_shorter (text ++ part_text part) rest (subst BeginsMailbox whole (body_begins_mailbox _ _ (body_first text letters [] are e (literal [] refl))))
 
-pub at_begins : (state : FormState) (text : List ℕ) (n : ℕ) → EndsAt text n state → BeginsMailbox text
+pub at_begins : (state : FormState) (text : List ℕ) (n : Begun) → EndsAt text n state → BeginsMailbox text
 at_begins (Start part) text n at = subst BeginsMailbox (sym at.1) (part_begins [] [] part tt refl)
 at_begins (Open part) text n at =
     let ended = body_ended at.before n at.body in
-    subst BeginsMailbox (sym at.whole) (part_begins (at.before ++ lf ∷ []) ended.letters part ended.is.are (sym ended.is.whole))
+    subst BeginsMailbox (sym at.whole) (part_begins (at.before ++ lf ∷ []) (ended.before ++ ended.last ∷ []) part ended.is.are (sym ended.is.whole))
 at_begins (Line part) text n at =
     begins_shorter text (lf ∷ []) (body_begins_mailbox (text ++ lf ∷ []) n (started_line text n part (line_started text n part at)))
 at_begins Inside text n at = begins_shorter text (lf ∷ []) (body_begins_mailbox (text ++ lf ∷ []) n (at.goes [] (literal [] refl)))
 
 -- ---- where it may not end
 
-line_part_short : (part : Part) (text : List ℕ) (n : ℕ) → IsLine text n part → (letters : List Letter) → IsMailboxOf text letters → ⊥
+line_part_short : (part : Part) (text : List ℕ) (n : Begun) → IsLine text n part → (letters : List Letter) → IsMailboxOf text letters → ⊥
 line_part_short Nothing text n l letters m =
     line_short l.before l.ends letters (subst (λ (x : List ℕ). IsMailboxOf x letters) (l.whole ∙ append-nil (l.before ++ lf ∷ [])) m)
 line_part_short F text n l letters m = text_short text (ends_in_part F text (l.before ++ lf ∷ []) l.whole refl) letters m
@@ -146,7 +146,7 @@ line_part_short Fr text n l letters m = text_short text (ends_in_part Fr text (l
 line_part_short Fro text n l letters m = text_short text (ends_in_part Fro text (l.before ++ lf ∷ []) l.whole refl) letters m
 line_part_short From text n l letters m = text_short text (ends_in_part From text (l.before ++ lf ∷ []) l.whole refl) letters m
 
-pub at_short : (state : FormState) (text : List ℕ) (n : ℕ) → EndsAt text n state → is_whole state ≡ false → (letters : List Letter)
+pub at_short : (state : FormState) (text : List ℕ) (n : Begun) → EndsAt text n state → is_whole state ≡ false → (letters : List Letter)
     → IsMailboxOf text letters → ⊥
 at_short (Start part) text n at e = text_short text (ends_in_part part text [] at.1 e)
 at_short (Open part) text n at e = text_short text (ends_in_part part text (at.before ++ lf ∷ []) at.whole e)
@@ -161,11 +161,11 @@ all_of text e = ap is_boundary (sym (append-nil text)) ∙ e
 pub start_bad : (part : Part) (text : List ℕ) → text ≡ part_text part → is_nothing part ≡ false → is_boundary text ≡ false
 start_bad part text e some = ap is_boundary e ∙ boundary_part part some
 
-pub open_good : (part : Part) (text : List ℕ) (n : ℕ) → IsOpen text n part → is_boundary text ≡ true
+pub open_good : (part : Part) (text : List ℕ) (n : Begun) → IsOpen text n part → is_boundary text ≡ true
 open_good part text n o = all_of text (started_begins text n part [] (open_started text n part o))
 
-pub line_good : (part : Part) (text : List ℕ) (n : ℕ) → IsLine text n part → is_boundary text ≡ true
+pub line_good : (part : Part) (text : List ℕ) (n : Begun) → IsLine text n part → is_boundary text ≡ true
 line_good part text n l = all_of text (started_begins text n part [] (line_started text n part l))
 
-pub inside_good : (text : List ℕ) (n : ℕ) → IsInsideLine text n → is_boundary text ≡ true
+pub inside_good : (text : List ℕ) (n : Begun) → IsInsideLine text n → is_boundary text ≡ true
 inside_good text n i = all_of text (i.begins [])

@@ -1,10 +1,10 @@
 -- A letter that has begun: more lines, its end, the next letter.
-use Rattle.std.proofs.Common.{◌≡◌, inl, inr, ℕ, suc, Bool, true, false, cond, ◌&&◌, ◌==◌, List, [], ◌∷◌, ◌++◌, map, length, sym, ap, subst, ◌∙◌, refl}
+use Rattle.std.proofs.Common.{◌≡◌, inl, inr, ℕ, suc, ◌+◌, ◌≤◌, arith, Bool, true, false, cond, ◌&&◌, ◌==◌, List, [], ◌∷◌, ◌++◌, map, length, take, sym, ap, subst, ◌∙◌, refl}
 use Rattle.std.proofs.Common.{append_assoc, append-nil, true≢false}
 use Rattle.std.specs.Prelude.{codes}
 use Rattle.std.specs.Str.{byte}
 use Rattle.std.proofs.lemmas.Bool.{and_parts, or_from, eqb-true}
-use Rattle.std.proofs.lemmas.List.{map-append, same_from_push}
+use Rattle.std.proofs.lemmas.List.{length-append, map-append, same_from_push}
 use Rattle.std.proofs.lemmas.Grind.{flat_map-append}
 use Rattle.mail_world.specs.Text.{lf, with_lf, IsOneLine}
 use Rattle.mail_world.specs.Records.{is_from_line, quoted, unquoted, quoted_text}
@@ -15,8 +15,8 @@ use Rattle.mail_world.proofs.OneReading.{all-append}
 use Rattle.mbox_letters.specs.Letters.{is_boundary}
 use Rattle.mbox_letters.proofs.Bodies.{begins_from, lines-whole}
 use Rattle.mbox_letters.proofs.Mailboxes.{letter-lines, boundary-letters}
-use Rattle.mbox_check.specs.Form.{IsMailboxOf, BeginsMailbox}
-use Rattle.mbox_check.specs.SoFar.{EndsInLine, IsBody}
+use Rattle.mbox_check.specs.Form.{IsMailboxOf, BeginsMailbox, IsInLetter}
+use Rattle.mbox_check.specs.SoFar.{EndsInLine, Begun, IsBody}
 use Rattle.mbox_check.proofs.MailLines.{no_nil, written_end}
 
 -- ---- a text whose last byte isn't LF
@@ -61,7 +61,7 @@ letters-push : (ls : List Letter) (l : Letter) → AreLetters ls → IsLetter l 
 letters-push [] l h k = (k, tt)
 letters-push (x ∷ ls) l h k = (h.0, letters-push ls l h.1 k)
 
-length-push : (ls : List Letter) (l : Letter) → length (ls ++ l ∷ []) ≡ suc (length ls)
+pub length-push : (ls : List Letter) (l : Letter) → length (ls ++ l ∷ []) ≡ suc (length ls)
 length-push [] l = refl
 length-push (x ∷ ls) l = ap (λ n. suc n) (length-push ls l)
 
@@ -107,11 +107,12 @@ regroup w h q l =
     append_assoc w (codes "From " ++ (h ++ lf ∷ q)) l
     ∙ ap (λ (m : List ℕ). w ++ m) (append_assoc (codes "From ") (h ++ lf ∷ q) l ∙ ap (λ (m : List ℕ). codes "From " ++ m) (append_assoc h (lf ∷ q) l))
 
-pub body_line : (text : List ℕ) (n : ℕ) (line : List ℕ) → IsBody text n → IsOneLine line → begins_from line ≡ false → IsBody (text ++ (line ++ lf ∷ [])) n
+pub body_line : (text : List ℕ) (n : Begun) (line : List ℕ) → IsBody text n → IsOneLine line → begins_from line ≡ false → IsBody (text ++ (line ++ lf ∷ [])) n
 body_line text n line b h plain = record {
   letters = b.letters;
   are = b.are;
   count = b.count;
+  starts = b.starts;
   head = b.head;
   headed = b.headed;
   ls = b.ls ++ unquoted line ∷ [];
@@ -123,16 +124,19 @@ body_line text n line b h plain = record {
 -- ---- its end
 
 -- the letters of a mailbox that ends here
-pub record IsEnded (text : List ℕ) (n : ℕ) : Type 0 where
-  pub letters : List Letter
-  pub is : IsMailboxOf text letters
-  pub count : n ≡ length letters
+pub record IsEnded (text : List ℕ) (n : Begun) : Type 0 where
+  pub before : List Letter
+  pub last : Letter
+  pub is : IsMailboxOf text (before ++ last ∷ [])
+  pub count : n.count ≡ suc (length before)
+  pub starts : n.start ≡ length (written before)
 
-pub body_ended : (text : List ℕ) (n : ℕ) → IsBody text n → IsEnded (text ++ lf ∷ []) n
+pub body_ended : (text : List ℕ) (n : Begun) → IsBody text n → IsEnded (text ++ lf ∷ []) n
 body_ended text n b =
     let last : Letter = record { head = b.head; body = with_lf b.ls } in
     let same : quoted_text (with_lf b.ls) ≡ with_lf (map quoted b.ls) = ap (λ ls. with_lf (map quoted ls)) (lines-whole b.ls b.one) in record {
-      letters = b.letters ++ last ∷ [];
+      before = b.letters;
+      last = last;
       is = record {
         are = letters-push b.letters last b.are (record { head = b.headed; body = ends-with_lf b.ls });
         whole = written-push b.letters last
@@ -140,17 +144,19 @@ body_ended text n b =
             ∙ sym (regroup (written b.letters) b.head (with_lf (map quoted b.ls)) (lf ∷ []))
             ∙ ap (λ (l : List ℕ). l ++ lf ∷ []) (sym b.whole);
       };
-      count = b.count ∙ sym (length-push b.letters last);
+      count = b.count;
+      starts = b.starts;
     }
 
 -- ---- the next letter
 
 pub body_first : (text : List ℕ) (letters : List Letter) (head : List ℕ) → AreLetters letters → text ≡ written letters → IsOneLine head
-    → IsBody (text ++ (codes "From " ++ (head ++ lf ∷ []))) (suc (length letters))
+    → IsBody (text ++ (codes "From " ++ (head ++ lf ∷ []))) (record { count = suc (length letters); start = length (written letters) })
 body_first text letters head are e h = record {
   letters = letters;
   are = are;
   count = refl;
+  starts = refl;
   head = head;
   headed = h;
   ls = [];
@@ -158,7 +164,7 @@ body_first text letters head are e h = record {
   whole = ap (λ (l : List ℕ). l ++ (codes "From " ++ (head ++ lf ∷ []))) e;
 }
 
-pub body_begins : (text : List ℕ) (n : ℕ) (more : List ℕ) → IsBody text n → is_boundary (text ++ more) ≡ true
+pub body_begins : (text : List ℕ) (n : Begun) (more : List ℕ) → IsBody text n → is_boundary (text ++ more) ≡ true
 body_begins text n more b =
     let first : List ℕ = codes "From " ++ (b.head ++ lf ∷ with_lf (map quoted b.ls)) in
     ap is_boundary (ap (λ (l : List ℕ). l ++ more) b.whole ∙ append_assoc (written b.letters) first more) ∙ boundary-letters b.letters (first ++ more) refl
@@ -169,5 +175,34 @@ pub begins_shorter : (text more : List ℕ) → BeginsMailbox (text ++ more) →
 begins_shorter text more b =
     record { more = more ++ b.more; letters = b.letters; is = subst (λ (l : List ℕ). IsMailboxOf l b.letters) (append_assoc text more b.more) b.is }
 
-pub body_begins_mailbox : (text : List ℕ) (n : ℕ) → IsBody text n → BeginsMailbox text
-body_begins_mailbox text n b = let ended = body_ended text n b in record { more = lf ∷ []; letters = ended.letters; is = ended.is }
+pub body_begins_mailbox : (text : List ℕ) (n : Begun) → IsBody text n → BeginsMailbox text
+body_begins_mailbox text n b = let ended = body_ended text n b in record { more = lf ∷ []; letters = ended.before ++ ended.last ∷ []; is = ended.is }
+
+-- ---- the letter that has begun
+
+body_long : (text : List ℕ) (n : Begun) → IsBody (text ++ lf ∷ []) n → n.start + 5 ≤ length text
+body_long text n b =
+    let rest : List ℕ = with_lf (map quoted b.ls) in
+    let line : List ℕ = b.head ++ lf ∷ rest in
+    let whole : length (text ++ lf ∷ []) ≡ length (written b.letters ++ (codes "From " ++ line)) = ap (λ (l : List ℕ). length l) b.whole in
+    let left : length (text ++ lf ∷ []) ≡ length text + 1 = length-append text (lf ∷ []) in
+    let right : length (written b.letters ++ (codes "From " ++ line)) ≡ length (written b.letters) + length (codes "From " ++ line) =
+    length-append (written b.letters) (codes "From " ++ line) in
+    let first : length (codes "From " ++ line) ≡ 5 + length line = length-append (codes "From ") line in
+    let long : length line ≡ length b.head + suc (length rest) = length-append b.head (lf ∷ rest) in
+    let starts : n.start ≡ length (written b.letters) = b.starts in omega arith
+
+-- with an LF the text ends after a line of it
+pub body_in_letter : (text whole : List ℕ) (n : Begun) → IsBody (text ++ lf ∷ []) n → take (length text) whole ≡ text
+    → IsInLetter whole (length text) n.count n.start
+body_in_letter text whole n b e =
+    let ended = body_ended (text ++ lf ∷ []) n b in record {
+      more = lf ∷ lf ∷ [];
+      before = ended.before;
+      last = ended.last;
+      is = subst (λ (l : List ℕ). IsMailboxOf l (ended.before ++ ended.last ∷ []))
+          (append_assoc text (lf ∷ []) (lf ∷ []) ∙ ap (λ (l : List ℕ). l ++ lf ∷ lf ∷ []) (sym e)) ended.is;
+      numbered = ended.count;
+      starts = ended.starts;
+      begun = body_long text n b;
+    }

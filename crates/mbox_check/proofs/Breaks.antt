@@ -11,13 +11,14 @@ use Rattle.mbox_check.specs.declared.state.Part.{Part}
 use Rattle.mbox_check.specs.declared.state.FormState.{FormState}
 use Rattle.mbox_check.specs.declared.state.FormState.TheVariants.{Start, Open, Line, Inside}
 use Rattle.mbox_check.specs.declared.fault.BadForm.TheVariants.{NoFromLine, NoEmptyLine}
-use Rattle.mbox_check.specs.Form.{IsMailboxOf, BeginsMailbox, BreaksAt, IsBad}
+use Rattle.mbox_check.specs.Form.{IsMailboxOf, BeginsMailbox, BreaksAt, counted_start, IsBad}
 use Rattle.mbox_check.specs.States.{part_text, next_byte, longer_part, is_whole, bad_at}
-use Rattle.mbox_check.specs.SoFar.{IsLine, EndsAt}
+use Rattle.mbox_check.specs.SoFar.{Begun, IsLine, EndsAt}
+use Rattle.mail_world.proofs.OneLine.{literal}
 use Rattle.mbox_check.proofs.MailLines.{from_after}
 use Rattle.mbox_letters.proofs.Mailboxes.{boundary-letters}
-use Rattle.mbox_check.proofs.Bodies.{ends_not_lf, ends_not_empty}
-use Rattle.mbox_check.proofs.Begins.{part_grown, boundary_else, line_started, started_begins, at_begins, at_short, start_bad, open_good, line_good, inside_good}
+use Rattle.mbox_check.proofs.Bodies.{ends_not_lf, ends_not_empty, body_in_letter}
+use Rattle.mbox_check.proofs.Begins.{part_grown, boundary_else, open_started, line_started, started_begins, started_line, at_begins, at_short, start_bad, open_good, line_good, inside_good}
 
 take_prefix : (text more : List ℕ) → take (length text) (text ++ more) ≡ text
 take_prefix [] more = refl
@@ -47,16 +48,50 @@ breaks_end text begins short = record {
 
 -- ---- at the end
 
-pub bad_end : (state : FormState) (text : List ℕ) (n taken : ℕ) → taken ≡ counted (length text) → EndsAt text n state → is_whole state ≡ false
-    → IsBad text (bad_at state taken)
-bad_end (Start part) text n taken t at e =
+pub bad_end : (state : FormState) (text : List ℕ) (n : Begun) (taken letters start : ℕ) → taken ≡ counted (length text) → letters ≡ counted n.count
+    → start ≡ counted_start n.start
+    → EndsAt text n state → is_whole state ≡ false → IsBad text (bad_at state taken letters start)
+bad_end (Start part) text n taken letters start t l s at e =
     (start_bad part text at.1 e, (length text, t, breaks_end text (at_begins (Start part) text n at) (at_short (Start part) text n at e)))
-bad_end (Open part) text n taken t at e =
-    (open_good part text n at, (length text, t, breaks_end text (at_begins (Open part) text n at) (at_short (Open part) text n at e)))
-bad_end (Line part) text n taken t at e =
-    (line_good part text n at, (length text, t, breaks_end text (at_begins (Line part) text n at) (at_short (Line part) text n at e)))
-bad_end Inside text n taken t at e =
-    (inside_good text n at, (length text, t, breaks_end text (at_begins Inside text n at) (at_short Inside text n at e)))
+bad_end (Open part) text n taken letters start t l s at e = (
+  open_good part text n at,
+  (
+    length text,
+    n.count,
+    n.start,
+    t,
+    l,
+    s,
+    breaks_end text (at_begins (Open part) text n at) (at_short (Open part) text n at e),
+    body_in_letter text text n (started_line text n part (open_started text n part at)) (take_all (length text) text (omega arith)),
+  ),
+)
+bad_end (Line part) text n taken letters start t l s at e = (
+  line_good part text n at,
+  (
+    length text,
+    n.count,
+    n.start,
+    t,
+    l,
+    s,
+    breaks_end text (at_begins (Line part) text n at) (at_short (Line part) text n at e),
+    body_in_letter text text n (started_line text n part (line_started text n part at)) (take_all (length text) text (omega arith)),
+  ),
+)
+bad_end Inside text n taken letters start t l s at e = (
+  inside_good text n at,
+  (
+    length text,
+    n.count,
+    n.start,
+    t,
+    l,
+    s,
+    breaks_end text (at_begins Inside text n at) (at_short Inside text n at e),
+    body_in_letter text text n (at.goes [] (literal [] refl)) (take_all (length text) text (omega arith)),
+  ),
+)
 
 -- ---- at a byte
 
@@ -67,7 +102,7 @@ no_prefix part text b e f m =
     let bad : is_boundary (text ++ b ∷ m.more) ≡ false = ap (λ (l : List ℕ). is_boundary (l ++ b ∷ m.more)) e ∙ boundary_else part b m.more f in
     true≢false (sym good ∙ ap is_boundary (m.is.whole ∙ append_assoc text (b ∷ []) m.more) ∙ bad)
 
-pub start_breaks : (part : Part) (text more : List ℕ) (n b taken : ℕ) → taken ≡ counted (length text) → EndsAt text n (Start part)
+pub start_breaks : (part : Part) (text more : List ℕ) (n : Begun) (b taken : ℕ) → taken ≡ counted (length text) → EndsAt text n (Start part)
     → (next_byte part == b) ≡ false
     → IsBad (text ++ b ∷ more) (NoFromLine taken)
 start_breaks part text more n b taken t at e = (
@@ -76,7 +111,7 @@ start_breaks part text more n b taken t at e = (
 )
 
 -- nor has it a From line after a line that isn't empty
-no_line : (part : Part) (text : List ℕ) (n b : ℕ) → IsLine text n part → next_byte part ≡ b → longer_part part ≡ None → BeginsMailbox (text ++ b ∷ []) → ⊥
+no_line : (part : Part) (text : List ℕ) (n : Begun) (b : ℕ) → IsLine text n part → next_byte part ≡ b → longer_part part ≡ None → BeginsMailbox (text ++ b ∷ []) → ⊥
 no_line part text n b l e f m =
     let prefix : List ℕ = l.before ++ lf ∷ [] in
     let whole : written m.letters ≡ l.before ++ lf ∷ (codes "From " ++ m.more) =
@@ -84,10 +119,19 @@ no_line part text n b l e f m =
     ∙ append_assoc l.before (lf ∷ []) (codes "From " ++ m.more) in
     elim (from_after m.letters l.before m.more m.is.are whole) [ inl g ↦ ends_not_empty l.before l.ends g | inr g ↦ ends_not_lf l.before g.0 l.ends g.1 ]
 
-pub line_breaks : (part : Part) (text more : List ℕ) (n b taken : ℕ) → taken ≡ counted (length text) → IsLine text n part → next_byte part ≡ b
-    → longer_part part ≡ None
-    → IsBad (text ++ b ∷ more) (NoEmptyLine taken)
-line_breaks part text more n b taken t l e f = (
+pub line_breaks : (part : Part) (text more : List ℕ) (n : Begun) (b taken letters start : ℕ) → taken ≡ counted (length text) → letters ≡ counted n.count
+    → start ≡ counted_start n.start
+    → IsLine text n part → next_byte part ≡ b → longer_part part ≡ None → IsBad (text ++ b ∷ more) (NoEmptyLine taken letters start)
+line_breaks part text more n b taken letters start t c s l e f = (
   started_begins text n part (b ∷ more) (line_started text n part l),
-  (length text, t, breaks_next text more b (at_begins (Line part) text n l) (no_line part text n b l e f)),
+  (
+    length text,
+    n.count,
+    n.start,
+    t,
+    c,
+    s,
+    breaks_next text more b (at_begins (Line part) text n l) (no_line part text n b l e f),
+    body_in_letter text (text ++ b ∷ more) n (started_line text n part (line_started text n part l)) (take_prefix text (b ∷ more)),
+  ),
 )

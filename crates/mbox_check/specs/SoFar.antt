@@ -11,7 +11,7 @@ use Rattle.mbox_check.specs.declared.form.FormCheck.{FormCheck}
 use Rattle.mbox_check.specs.declared.state.Part.{Part}
 use Rattle.mbox_check.specs.declared.state.FormState.{FormState}
 use Rattle.mbox_check.specs.declared.state.FormState.TheVariants.{Start, Open, Line, Inside}
-use Rattle.mbox_check.specs.Form.{IsBad}
+use Rattle.mbox_check.specs.Form.{IsBad, counted_start}
 use Rattle.mbox_check.specs.States.{part_text}
 
 -- the last byte isn't LF
@@ -21,11 +21,17 @@ pub record EndsInLine (text : List ℕ) : Type 0 where
   pub whole : text ≡ prefix ++ last ∷ []
   pub other : (last == lf) ≡ false
 
--- n letters have begun, and the text ends after a line of the last
-pub record IsBody (text : List ℕ) (n : ℕ) : Type 0 where
+-- how many letters have begun, and where the last of them did; any place before there is one
+pub record Begun : Type 0 where
+  pub count : ℕ
+  pub start : ℕ
+
+-- that many letters have begun, the last there, and the text ends after a line of it
+pub record IsBody (text : List ℕ) (n : Begun) : Type 0 where
   pub letters : List Letter
   pub are : AreLetters letters
-  pub count : n ≡ suc (length letters)
+  pub count : n.count ≡ suc (length letters)
+  pub starts : n.start ≡ length (written letters)
   pub head : List ℕ
   pub headed : IsOneLine head
   pub ls : List (List ℕ)
@@ -33,35 +39,36 @@ pub record IsBody (text : List ℕ) (n : ℕ) : Type 0 where
   pub whole : text ≡ written letters ++ (codes "From " ++ (head ++ lf ∷ with_lf (map quoted ls)))
 
 -- a part of `From ` stands after an empty line
-pub record IsOpen (text : List ℕ) (n : ℕ) (part : Part) : Type 0 where
+pub record IsOpen (text : List ℕ) (n : Begun) (part : Part) : Type 0 where
   pub before : List ℕ
   pub body : IsBody before n
   pub whole : text ≡ (before ++ lf ∷ []) ++ part_text part
 
 -- it stands after a line that isn't empty
-pub record IsLine (text : List ℕ) (n : ℕ) (part : Part) : Type 0 where
+pub record IsLine (text : List ℕ) (n : Begun) (part : Part) : Type 0 where
   pub before : List ℕ
   pub ends : EndsInLine before
   pub body : IsBody (before ++ lf ∷ []) n
   pub whole : text ≡ (before ++ lf ∷ []) ++ part_text part
 
 -- whatever ends the line makes it a line of the last letter
-pub record IsInsideLine (text : List ℕ) (n : ℕ) : Type 0 where
+pub record IsInsideLine (text : List ℕ) (n : Begun) : Type 0 where
   pub ends : EndsInLine text
   pub begins : (more : List ℕ) → is_boundary (text ++ more) ≡ true
   pub goes : (more : List ℕ) → IsOneLine more → IsBody (text ++ (more ++ lf ∷ [])) n
 
--- the text, in which n letters have begun, ends in that state
-abbrev pub EndsAt : List ℕ → ℕ → FormState → Type 0
-EndsAt text n (Start part) = (n ≡ 0) × (text ≡ part_text part)
+-- the text, in which that many letters have begun, the last there, ends in that state
+abbrev pub EndsAt : List ℕ → Begun → FormState → Type 0
+EndsAt text n (Start part) = (n.count ≡ 0) × (text ≡ part_text part)
 EndsAt text n (Open part) = IsOpen text n part
 EndsAt text n (Line part) = IsLine text n part
 EndsAt text n Inside = IsInsideLine text n
 
 pub record IsReadSoFar (text : List ℕ) (form : FormCheck) : Type 0 where
-  pub n : ℕ
-  pub count : form.letters ≡ counted n
+  pub n : Begun
+  pub count : form.letters ≡ counted n.count
   pub taken : form.taken ≡ counted (length text)
+  pub start : form.start ≡ counted_start n.start
   pub at : EndsAt text n form.state
 
 -- whatever came before, the bytes came after it
