@@ -4,7 +4,7 @@ use Rattle.mail_world.specs.declared.limits.TheConstants.{BLOCK_SIZE, BLOCK_LIMI
 use Rattle.mail_world.specs.declared.limits.TheConstants.{LEAST_MESSAGE_LIMIT, LARGEST_MESSAGE_LIMIT}
 use Rattle.log.specs.declared.level.LevelFilter.TheVariants as filter
 use Rattle.lmtpd_words.specs.Words.{octal, usual_blocks}
-use Rattle.lmtpd_words.specs.declared.words.TheConstants.{BOXES_FILE_LIMIT, DEFAULT_BLOCKS, DEFAULT_CAPACITY, DEFAULT_LANES, DEFAULT_LOCK_WAIT, DEFAULT_LOG}
+use Rattle.lmtpd_words.specs.declared.words.TheConstants.{BOXES_FILE_LIMIT, DEFAULT_BAD_COMMANDS, DEFAULT_BLOCKS, DEFAULT_CAPACITY, DEFAULT_LANES, DEFAULT_LOCK_WAIT, DEFAULT_LOG}
 use Rattle.lmtpd_words.specs.declared.words.TheConstants.{DEFAULT_MAILBOX_MODE, DEFAULT_READS, DEFAULT_SESSION_TIME, DEFAULT_SOCKET_MODE, DEFAULT_SUFFIX, DEFAULT_TIMEOUT}
 use Rattle.lmtpd_words.specs.declared.words.TheConstants.{SUFFIX_LIMIT}
 
@@ -25,6 +25,9 @@ timeout = refl
 
 pub session_time : DEFAULT_SESSION_TIME ≡ 3600
 session_time = refl
+
+pub bad_commands : DEFAULT_BAD_COMMANDS ≡ 200
+bad_commands = refl
 
 pub log : DEFAULT_LOG ≡ filter.Off
 log = refl

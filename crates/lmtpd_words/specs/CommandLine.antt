@@ -102,6 +102,9 @@ timeout_rule = number_rule (codes "timeout") 1 86400
 abbrev pub session_time_rule : Rule
 session_time_rule = number_rule (codes "session-time") 1 86400
 
+abbrev pub bad_commands_rule : Rule
+bad_commands_rule = number_rule (codes "bad-commands") 1 1000000
+
 abbrev pub log_rule : Rule
 log_rule = text_rule (codes "log")
 
@@ -150,8 +153,9 @@ required_app = with_rule (with_rule (with_rule (new_app (codes "serve")) host_ru
 abbrev pub limited_app : App
 limited_app =
     with_rule (with_rule (with_rule (with_rule (with_rule (with_rule (with_rule (with_rule (with_rule (with_rule (with_rule
-    (with_rule required_app domains_rule) recipient_delimiter_rule) message_limit_rule) rename_marks_rule)
-    refuse_malformed_rule) smtputf8_rule) lanes_rule) blocks_rule) capacity_rule) reads_rule) timeout_rule) session_time_rule
+    (with_rule (with_rule required_app domains_rule) recipient_delimiter_rule) message_limit_rule) rename_marks_rule)
+    refuse_malformed_rule) smtputf8_rule) lanes_rule) blocks_rule) capacity_rule) reads_rule) timeout_rule)
+    session_time_rule) bad_commands_rule
 
 abbrev pub kept_app : App
 kept_app =

@@ -16,6 +16,7 @@ use Rattle.mail_world.specs.Site.{Site, IsMessageLimit, is_delimiter}
 use Rattle.mail_world.specs.Text.{has_byte}
 use Rattle.lmtp_text.specs.Sites.{site_of, texts}
 use Rattle.lmtpd_words.specs.Boxes.{listed_boxes}
+use Rattle.lmtpd_words.specs.declared.words.TheConstants.{DEFAULT_BAD_COMMANDS}
 use Rattle.lmtpd_words.specs.declared.words.TheConstants.{DEFAULT_BLOCKS, DEFAULT_CAPACITY, DEFAULT_LANES}
 use Rattle.lmtpd_words.specs.declared.words.TheConstants.{DEFAULT_LOCK_WAIT, DEFAULT_LOG, DEFAULT_MAILBOX_MODE}
 use Rattle.lmtpd_words.specs.declared.words.TheConstants.{DEFAULT_READS, DEFAULT_SESSION_TIME, DEFAULT_SOCKET_MODE}
@@ -191,6 +192,7 @@ pub record IsServeRead (rows : List Row) (words : ServeWords) : Type 0 where
   pub reads : IsNumberOr DEFAULT_READS (one_of (codes "reads") rows) words.reads
   pub timeout : IsNumberOr DEFAULT_TIMEOUT (one_of (codes "timeout") rows) words.timeout
   pub session_time : IsNumberOr DEFAULT_SESSION_TIME (one_of (codes "session-time") rows) words.session_time
+  pub bad_commands : IsNumberOr DEFAULT_BAD_COMMANDS (one_of (codes "bad-commands") rows) words.bad_commands
   pub log : IsLevel (first_of (codes "log") rows) words.log
   pub log_addresses : IsFlag (one_of (codes "log-addresses") rows) words.log_addresses
   pub quota : IsLimit (one_of (codes "quota") rows) words.quota

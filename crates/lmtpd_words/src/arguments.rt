@@ -77,7 +77,7 @@ pub const REHEARSE: [Argument; 12] = [
 ];
 
 /// What a server takes: what must be given, what may be, what ends it, and the mailboxes.
-pub const SERVE: [Argument; 28] = [
+pub const SERVE: [Argument; 29] = [
     HOST,
     LISTEN,
     DIR,
@@ -93,6 +93,7 @@ pub const SERVE: [Argument; 28] = [
     READS,
     TIMEOUT,
     SESSION_TIME,
+    BAD_COMMANDS,
     LOG,
     LOG_ADDRESSES,
     QUOTA,
@@ -265,6 +266,17 @@ const SESSION_TIME: Argument = Argument {
     kind: ValueKind::Number {
         least: 1,
         most: SECONDS_OF_A_DAY,
+    },
+};
+
+const BAD_COMMANDS: Argument = Argument {
+    name: "bad-commands",
+    value: "COUNT",
+    help: "Bad commands without a message between them that stop a conversation, 1 to 1000000 [default: 200]",
+    is_required: false,
+    kind: ValueKind::Number {
+        least: 1,
+        most: 1_000_000,
     },
 };
 

@@ -20,9 +20,10 @@ use crate::texts::{
     BAD_SUFFIX,
 };
 use crate::words::{
-    CheckWords, CopyWords, DEFAULT_BLOCKS, DEFAULT_CAPACITY, DEFAULT_LANES, DEFAULT_LOCK_WAIT,
-    DEFAULT_LOG, DEFAULT_MAILBOX_MODE, DEFAULT_READS, DEFAULT_SESSION_TIME, DEFAULT_SOCKET_MODE,
-    DEFAULT_TIMEOUT, MODE_DIGIT_LIMIT, RehearseWords, ServeWords, SiteWords, Words,
+    CheckWords, CopyWords, DEFAULT_BAD_COMMANDS, DEFAULT_BLOCKS, DEFAULT_CAPACITY, DEFAULT_LANES,
+    DEFAULT_LOCK_WAIT, DEFAULT_LOG, DEFAULT_MAILBOX_MODE, DEFAULT_READS, DEFAULT_SESSION_TIME,
+    DEFAULT_SOCKET_MODE, DEFAULT_TIMEOUT, MODE_DIGIT_LIMIT, RehearseWords, ServeWords, SiteWords,
+    Words,
 };
 use clap::ArgMatches;
 use lmtp_text::is_delimiter;
@@ -146,6 +147,7 @@ fn serve_words<'a>(
         reads: number_or(matches, "reads", DEFAULT_READS),
         timeout: number_or(matches, "timeout", DEFAULT_TIMEOUT),
         session_time: number_or(matches, "session-time", DEFAULT_SESSION_TIME),
+        bad_commands: number_or(matches, "bad-commands", DEFAULT_BAD_COMMANDS),
         log,
         log_addresses: is_given(matches, "log-addresses"),
         quota: quota_of(matches),

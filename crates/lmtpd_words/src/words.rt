@@ -24,6 +24,9 @@ pub const DEFAULT_TIMEOUT: u32 = 300;
 /// The seconds that a conversation may last in all.
 pub const DEFAULT_SESSION_TIME: u32 = 3_600;
 
+/// The bad commands, without a message between them, after which a conversation is stopped.
+pub const DEFAULT_BAD_COMMANDS: u32 = 200;
+
 /// What is logged.
 pub const DEFAULT_LOG: LevelFilter = LevelFilter::Off;
 
@@ -109,6 +112,8 @@ pub struct ServeWords<'a> {
     pub timeout: u32,
     /// The seconds that a conversation may last in all.
     pub session_time: u32,
+    /// The bad commands, without a message between them, after which a conversation is stopped.
+    pub bad_commands: u32,
     /// What is logged.
     pub log: LevelFilter,
     /// The log shows the addresses of senders and recipients.
