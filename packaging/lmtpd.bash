@@ -2,11 +2,11 @@
 _lmtpd() {
     local serve rehearse check copy word=${COMP_WORDS[COMP_CWORD]} before=${COMP_WORDS[COMP_CWORD - 1]}
     serve='--host --listen --dir --domains --recipient-delimiter --message-limit --lanes --blocks --capacity --reads'
-    serve+=' --rename-marks --refuse-malformed --smtputf8 --timeout --session-time --log --log-addresses --quota'
+    serve+=' --rename-marks --refuse-malformed --smtputf8 --timeout --session-time --log --log-addresses --quota --over-quota'
     serve+=' --lock-wait --mailbox-suffix --mailbox-mode'
     serve+=' --socket-mode --connections --stop-file --start-anyway --check-words --boxes --help'
     rehearse='--host --time --domains --recipient-delimiter --message-limit --rename-marks --refuse-malformed --smtputf8'
-    rehearse+=' --blocks --quota --boxes --help'
+    rehearse+=' --blocks --quota --over-quota --boxes --help'
     check='--help'
     copy='--help'
     COMPREPLY=()
@@ -16,6 +16,8 @@ _lmtpd() {
         compopt -o default
     elif [ "$before" = --log ]; then
         mapfile -t COMPREPLY < <(compgen -W 'off error info' -- "$word")
+    elif [ "$before" = --over-quota ]; then
+        mapfile -t COMPREPLY < <(compgen -W 'defer reject' -- "$word")
     elif [ "$before" = --recipient-delimiter ]; then
         mapfile -t COMPREPLY < <(compgen -W '+ - = # ~' -- "$word")
     elif [ "$COMP_CWORD" = 1 ]; then

@@ -51,6 +51,16 @@ try 1 'lmtpd: size' "${good[@]}" --blocks 65537 anna
 try 2 clap "${good[@]}" --blocks 4294967296 anna
 try 2 clap "${good[@]}" --blocks x anna
 for limit in 65535 268435457 x '' 1e6; do try 2 clap "${good[@]}" --message-limit "$limit" anna; done
+for what in '' Defer rejects defer,reject 'reject ' 552; do
+    try 2 clap "${good[@]}" --over-quota="$what" anna
+    try 2 clap "${serve[@]}" --dir "$folder" --over-quota="$what" anna
+done
+for what in defer reject; do
+    try 0 none "${good[@]}" --over-quota "$what" anna
+    try 0 none "${serve[@]}" --dir "$folder" --over-quota="$what" --check-words anna
+done
+try 2 clap "${good[@]}" --over-quota defer --over-quota reject anna
+try 2 clap check --over-quota defer anna.mbox
 for limit in 65535 268435457 x; do try 2 clap "${serve[@]}" --dir /nowhere --message-limit "$limit" anna; done
 for byte in '' ++ x . _ @ '\' ' ' é; do try 2 clap "${good[@]}" --recipient-delimiter="$byte" anna; done
 for byte in '' +- x; do try 2 clap "${serve[@]}" --dir /nowhere --recipient-delimiter="$byte" anna; done

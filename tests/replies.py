@@ -75,6 +75,10 @@ def over_quota(box):
     return f"452 4.2.2 Over quota for {box}"
 
 
+def rejected_over_quota(box):
+    return f"552 5.2.2 Over quota for {box}"
+
+
 def too_large(box):
     return f"552 5.3.4 Too large for {box}"
 

@@ -63,6 +63,7 @@ def check_words():
     assert completed("lmtpd s") == {"serve"}
     assert completed("lmtpd serve --log ") == {"off", "error", "info"}
     assert completed("lmtpd serve --log i") == {"info"}
+    assert completed("lmtpd serve --over-quota ") == completed("lmtpd rehearse --over-quota ") == {"defer", "reject"}
 
 
 def check_version():

@@ -5,7 +5,8 @@ What is expected is written out here by the rules of the standards and by hand; 
 from dataclasses import dataclass, field
 
 import replies
-from replies import CLOSING, GO_AHEAD, GREETING, OFFER, RECIPIENT_OK, SENDER_OK, malformed, over_quota, stored, too_large
+from replies import CLOSING, GO_AHEAD, GREETING, OFFER, RECIPIENT_OK, SENDER_OK
+from replies import malformed, over_quota, rejected_over_quota, stored, too_large
 
 CRLF = b"\r\n"
 PROLOGUE = [b"LHLO relay.example", b"MAIL FROM:<carl@a.example>"]
@@ -334,6 +335,14 @@ def quotas():
             [*OPENED, RECIPIENT_OK, GO_AHEAD, reply, CLOSING],
             {"anna": held},
             ["--quota", str(quota)],
+        )
+    for what, reply in [("defer", over_quota("anna")), ("reject", rejected_over_quota("anna"))]:
+        yield Row(
+            f"one message over the quota, with {what}, and one that fits",
+            [*PROLOGUE, TO_ANNA, b"DATA", *HELLO, PROLOGUE[1], TO_ANNA, b"DATA", b".", b"QUIT"],
+            [*OPENED, RECIPIENT_OK, GO_AHEAD, reply, SENDER_OK, RECIPIENT_OK, GO_AHEAD, stored("anna"), CLOSING],
+            {"anna": record(b"", number=2)},
+            ["--quota", "188", "--over-quota", what],
         )
     yield Row(
         "a shorter message fits after one that is over the quota",

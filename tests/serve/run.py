@@ -24,6 +24,7 @@ import logs  # noqa: F401
 import neighbour_files  # noqa: F401
 import no_descriptors  # noqa: F401
 import notified  # noqa: F401
+import over_quota  # noqa: F401
 import pipelining  # noqa: F401
 import pipes  # noqa: F401
 import races  # noqa: F401

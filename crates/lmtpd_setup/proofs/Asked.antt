@@ -10,3 +10,6 @@ same_marks site asked e f = let g : site.renames_marks ≡ asked = e ∙ sym f i
 
 pub same_refusals : (site : Site) (asked : Bool) → site.refuses_malformed ≡ false → asked ≡ false → site ≡ record site { refuses_malformed = asked }
 same_refusals site asked e f = let g : site.refuses_malformed ≡ asked = e ∙ sym f in ap (λ b. record site { refuses_malformed = b }) g
+
+pub same_quotas : (site : Site) (asked : Bool) → site.rejects_over_quota ≡ false → asked ≡ false → site ≡ record site { rejects_over_quota = asked }
+same_quotas site asked e f = let g : site.rejects_over_quota ≡ asked = e ∙ sym f in ap (λ b. record site { rejects_over_quota = b }) g

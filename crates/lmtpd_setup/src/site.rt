@@ -32,6 +32,7 @@ pub fn site_of(alloc: Global, words: &SiteWords) -> Result<Site, Fault>
     let site = with_utf8_where_asked(site, words.smtputf8);
     let site = with_renamed_marks_where_asked(site, words.rename_marks);
     let site = with_malformed_refused_where_asked(site, words.refuse_malformed);
+    let site = with_over_quota_rejected_where_asked(site, words.reject_over_quota);
     match words.recipient_delimiter {
         Some(delimiter) => Ok(site.with_recipient_delimiter(delimiter)),
         None => Ok(site),
@@ -65,6 +66,18 @@ fn with_malformed_refused_where_asked(site: Site, is_asked: bool) -> Site
 {
     if is_asked {
         site.with_malformed_refused()
+    } else {
+        site
+    }
+}
+
+#[tactic(auto, using(crate::proofs::Asked::same_quotas))]
+fn with_over_quota_rejected_where_asked(site: Site, is_asked: bool) -> Site
+    requires { site.rejects_over_quota ≡ false }
+    ensures { result ≡ record site { rejects_over_quota = is_asked } }
+{
+    if is_asked {
+        site.with_over_quota_rejected()
     } else {
         site
     }

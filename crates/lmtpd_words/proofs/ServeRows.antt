@@ -103,3 +103,11 @@ pub mailbox_suffix_of_a_rehearsal : of_rows (first_of (codes "mailbox-suffix"))
     (codes "lmtpd" ∷ codes "rehearse" ∷ codes "--host" ∷ codes "h" ∷ codes "--time" ∷ codes "0" ∷ codes "anna" ∷ []) ≡ Some None
 unfolding clap_on_literals
 mailbox_suffix_of_a_rehearsal = refl
+
+pub over_quota_given : of_rows (first_of (codes "over-quota")) (served (codes "--over-quota" ∷ codes "reject" ∷ codes "anna" ∷ [])) ≡ Some (Some (codes "reject"))
+unfolding clap_on_literals
+over_quota_given = refl
+
+pub over_quota_left_out : of_rows (first_of (codes "over-quota")) (served (codes "anna" ∷ [])) ≡ Some None
+unfolding clap_on_literals
+over_quota_left_out = refl

@@ -70,6 +70,9 @@ rename_marks_rule = flag_rule (codes "rename-marks")
 abbrev pub refuse_malformed_rule : Rule
 refuse_malformed_rule = flag_rule (codes "refuse-malformed")
 
+abbrev pub over_quota_rule : Rule
+over_quota_rule = text_rule (codes "over-quota")
+
 abbrev pub smtputf8_rule : Rule
 smtputf8_rule = flag_rule (codes "smtputf8")
 
@@ -142,9 +145,9 @@ check_words_rule = flag_rule (codes "check-words")
 abbrev pub rehearse_app : App
 rehearse_app =
     with_rule (with_rule (with_rule (with_rule (with_rule (with_rule (with_rule (with_rule (with_rule (with_rule (with_rule
-    (with_rule (new_app (codes "rehearse")) host_rule) time_rule) domains_rule) recipient_delimiter_rule)
-    message_limit_rule) rename_marks_rule) refuse_malformed_rule) smtputf8_rule) blocks_rule) quota_rule) boxes_rule)
-    box_rule
+    (with_rule (with_rule (new_app (codes "rehearse")) host_rule) time_rule) domains_rule) recipient_delimiter_rule)
+    message_limit_rule) rename_marks_rule) refuse_malformed_rule) smtputf8_rule) blocks_rule) quota_rule) over_quota_rule)
+    boxes_rule) box_rule
 
 -- what must be given, then what may be, then what ends the server
 abbrev pub required_app : App
@@ -159,8 +162,8 @@ limited_app =
 
 abbrev pub kept_app : App
 kept_app =
-    with_rule (with_rule (with_rule (with_rule (with_rule (with_rule (with_rule
-    limited_app log_rule) log_addresses_rule) quota_rule) lock_wait_rule) mailbox_suffix_rule) mailbox_mode_rule)
+    with_rule (with_rule (with_rule (with_rule (with_rule (with_rule (with_rule (with_rule
+    limited_app log_rule) log_addresses_rule) quota_rule) over_quota_rule) lock_wait_rule) mailbox_suffix_rule) mailbox_mode_rule)
     socket_mode_rule
 
 abbrev pub serve_app : App

@@ -154,6 +154,17 @@ abbrev pub IsPathIfGiven : Option Text → Option Text → Type 0
 IsPathIfGiven given None = given ≡ None
 IsPathIfGiven given (Some path) = NamesPath given path
 
+-- a text says what becomes of a copy over the quota: it is put off where none is given or it says so, and else refused
+abbrev pub over_quota_word : Bool → List ℕ
+over_quota_word true = codes "reject"
+over_quota_word false = codes "defer"
+
+abbrev pub IsOverQuota : Option Text → Bool → Type 0
+IsOverQuota given rejects = (given ≡ Some (over_quota_word rejects)) ⊎ ((given ≡ None) × (rejects ≡ false))
+
+abbrev pub IsNoOverQuota : Option Text → Type 0
+IsNoOverQuota given = (rejects : Bool) → IsOverQuota given rejects → ⊥
+
 -- a flag is given: clap has a text for that, and another one for a flag that isn't
 abbrev pub IsFlag : Option Text → Bool → Type 0
 IsFlag given is_set = IsTrue is_set ↔ (given ≡ Some (codes "true"))
@@ -170,6 +181,7 @@ pub record IsSiteRead (rows : List Row) (words : SiteWords) : Type 0 where
   pub rename_marks : IsFlag (one_of (codes "rename-marks") rows) words.rename_marks
   pub refuse_malformed : IsFlag (one_of (codes "refuse-malformed") rows) words.refuse_malformed
   pub smtputf8 : IsFlag (one_of (codes "smtputf8") rows) words.smtputf8
+  pub over_quota : IsOverQuota (first_of (codes "over-quota") rows) words.reject_over_quota
   -- a rehearsal has no such argument, and so the usual one
   pub mailbox_suffix : IsSuffixOr (first_of (codes "mailbox-suffix") rows) words.mailbox_suffix.now
 
@@ -225,7 +237,7 @@ abbrev pub LacksSite : List Row → Type 0
 LacksSite rows = LacksText (codes "host") rows
     ⊎ (IsNoMessageLimit (one_of (codes "message-limit") rows)
     ⊎ (IsNoDelimiter (first_of (codes "recipient-delimiter") rows)
-    ⊎ IsNoSuffix (first_of (codes "mailbox-suffix") rows)))
+    ⊎ (IsNoSuffix (first_of (codes "mailbox-suffix") rows) ⊎ IsNoOverQuota (first_of (codes "over-quota") rows))))
 
 abbrev pub LacksRehearse : List Row → Type 0
 LacksRehearse rows = LacksNumber (codes "time") rows ⊎ LacksSite rows
@@ -274,6 +286,7 @@ pub record HasListed (text : Text) (words filled : SiteWords) : Type 0 where
   pub rename_marks : filled.rename_marks ≡ words.rename_marks
   pub refuse_malformed : filled.refuse_malformed ≡ words.refuse_malformed
   pub smtputf8 : filled.smtputf8 ≡ words.smtputf8
+  pub reject_over_quota : filled.reject_over_quota ≡ words.reject_over_quota
   pub mailbox_suffix : filled.mailbox_suffix ≡ words.mailbox_suffix
 
 -- the site that they name
@@ -285,6 +298,7 @@ named_site words =
       utf8 = words.smtputf8;
       renames_marks = words.rename_marks;
       refuses_malformed = words.refuse_malformed;
+      rejects_over_quota = words.reject_over_quota;
     }
 
 -- the same as a server has it, which tells a recipient that its mailbox is busy

@@ -61,7 +61,7 @@ impl Argument {
 }
 
 /// What a rehearsal takes.
-pub const REHEARSE: [Argument; 12] = [
+pub const REHEARSE: [Argument; 13] = [
     HOST,
     TIME,
     DOMAINS,
@@ -72,12 +72,13 @@ pub const REHEARSE: [Argument; 12] = [
     SMTPUTF8,
     BLOCKS,
     QUOTA,
+    OVER_QUOTA,
     BOXES_FILE,
     BOXES,
 ];
 
 /// What a server takes: what must be given, what may be, what ends it, and the mailboxes.
-pub const SERVE: [Argument; 29] = [
+pub const SERVE: [Argument; 30] = [
     HOST,
     LISTEN,
     DIR,
@@ -97,6 +98,7 @@ pub const SERVE: [Argument; 29] = [
     LOG,
     LOG_ADDRESSES,
     QUOTA,
+    OVER_QUOTA,
     LOCK_WAIT,
     MAILBOX_SUFFIX,
     MAILBOX_MODE,
@@ -302,6 +304,14 @@ const QUOTA: Argument = Argument {
     help: "Bytes that a mailbox may hold, 0 to 18446744073709551615; a letter beyond is refused [default: no limit]",
     is_required: false,
     kind: ValueKind::Bytes,
+};
+
+const OVER_QUOTA: Argument = Argument {
+    name: "over-quota",
+    value: "WHAT",
+    help: "What becomes of a copy over --quota: defer (the relay tries again) or reject (it bounces) [default: defer]",
+    is_required: false,
+    kind: ValueKind::Text,
 };
 
 const LOCK_WAIT: Argument = Argument {

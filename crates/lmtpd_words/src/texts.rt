@@ -31,6 +31,10 @@ pub const BAD_STOP_FILE: &str =
 pub const BAD_DELIMITER: &str =
     "invalid value for '--recipient-delimiter <BYTE>': it is one of + - = # ~";
 
+/// The error for another word than those that say what becomes of a copy over the quota.
+pub const BAD_OVER_QUOTA: &str =
+    "invalid value for '--over-quota <WHAT>': it is one of defer, reject";
+
 /// The error for words that aren't UTF-8.
 pub const BAD_TEXT: &str = "invalid UTF-8 was detected in one or more arguments";
 

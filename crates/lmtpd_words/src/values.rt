@@ -8,7 +8,7 @@ ghost use Rattle.lmtpd_words.specs.Words.{IsAsked, IsCheckRead, IsCopyRead, IsLi
 ghost use Rattle.lmtpd_words.specs.Words.{IsServeRead};
 ghost use Rattle.lmtpd_words.specs.Words.{IsEmpty, IsModeOr, IsNoMode, IsNoPath, NamesPath, IsPathIfGiven, WritesMode};
 ghost use Rattle.lmtpd_words.specs.Words.{IsFlag, IsLevel, IsNoLevel, IsNoNumber, IsSiteRead, octal};
-ghost use Rattle.lmtpd_words.specs.Words.{IsDelimiterIfGiven, IsNoDelimiter};
+ghost use Rattle.lmtpd_words.specs.Words.{IsDelimiterIfGiven, IsNoDelimiter, IsNoOverQuota, IsOverQuota};
 ghost use Rattle.lmtpd_words.specs.Words.{IsMessageLimitOr, IsNoMessageLimit, usual_blocks};
 ghost use Rattle.lmtpd_words.specs.Words.{IsLacking, LacksCheck, LacksCopied, LacksCopy, LacksNumber, LacksRehearse};
 ghost use Rattle.lmtpd_words.specs.Words.{LacksServe, LacksSite};
@@ -16,8 +16,8 @@ ghost use Rattle.lmtpd_words.specs.Words.{is_log_level, number, listed};
 
 use crate::suffix::suffix_of;
 use crate::texts::{
-    BAD_DELIMITER, BAD_FOLDER, BAD_LEVEL, BAD_MAILBOX_MODE, BAD_SOCKET_MODE, BAD_STOP_FILE,
-    BAD_SUFFIX,
+    BAD_DELIMITER, BAD_FOLDER, BAD_LEVEL, BAD_MAILBOX_MODE, BAD_OVER_QUOTA, BAD_SOCKET_MODE,
+    BAD_STOP_FILE, BAD_SUFFIX,
 };
 use crate::words::{
     CheckWords, CopyWords, DEFAULT_BAD_COMMANDS, DEFAULT_BLOCKS, DEFAULT_CAPACITY, DEFAULT_LANES,
@@ -76,7 +76,8 @@ fn copied_words_of<'a>(matches: &ArgMatches<'a>) -> Option<Words<'a>>
 }
 
 /// What is said where a value is refused that `clap` leaves to us: the folder comes first, then the stop file, then the
-/// level, then the two modes, then the suffix, and last the delimiter, which a rehearsal has too.
+/// level, then the two modes, then the suffix, then the delimiter, and last what becomes of a copy over the quota, which
+/// two a rehearsal has too.
 pub fn refused_text(matches: &ArgMatches<'_>) -> &'static str {
     match matches.subcommand_matches("serve") {
         Some(serve) if folder_of(serve).is_none() => BAD_FOLDER,
@@ -85,7 +86,19 @@ pub fn refused_text(matches: &ArgMatches<'_>) -> &'static str {
         Some(serve) if mailbox_mode_of(serve).is_none() => BAD_MAILBOX_MODE,
         Some(serve) if socket_mode_of(serve).is_none() => BAD_SOCKET_MODE,
         Some(serve) if suffix_of(serve).is_none() => BAD_SUFFIX,
-        _ => BAD_DELIMITER,
+        Some(serve) => refused_site_text(serve),
+        None => match matches.subcommand_matches("rehearse") {
+            Some(rehearse) => refused_site_text(rehearse),
+            None => BAD_DELIMITER,
+        },
+    }
+}
+
+fn refused_site_text(matches: &ArgMatches<'_>) -> &'static str {
+    if delimiter_of(matches).is_none() {
+        BAD_DELIMITER
+    } else {
+        BAD_OVER_QUOTA
     }
 }
 
@@ -205,6 +218,9 @@ fn site_words<'a>(
     let Some(mailbox_suffix) = suffix_of(matches) else {
         return Ok(None);
     };
+    let Some(reject_over_quota) = over_quota_of(matches) else {
+        return Ok(None);
+    };
     let domains = domains_of(alloc, matches)?;
     let boxes = boxes_of(alloc, matches)?;
     Ok(Some(SiteWords {
@@ -218,6 +234,7 @@ fn site_words<'a>(
         rename_marks: is_given(matches, "rename-marks"),
         refuse_malformed: is_given(matches, "refuse-malformed"),
         smtputf8: is_given(matches, "smtputf8"),
+        reject_over_quota,
         mailbox_suffix,
     }))
 }
@@ -288,6 +305,28 @@ fn delimiter_in(text: &str) -> Option<u8>
         return None;
     }
     Some(*byte)
+}
+
+// Whether a copy over the quota is refused for good, and it isn't where nothing is said; none where the text says
+// neither.
+fn over_quota_of(matches: &ArgMatches<'_>) -> Option<bool>
+    ensures { let given = first_of (codes "over-quota") (rows_of (found_of matches.now)) in
+        MatchOption result (IsNoOverQuota given) (IsOverQuota given) }
+{
+    match matches.get_str("over-quota") {
+        Some(text) => over_quota_in(text),
+        None => Some(false),
+    }
+}
+
+fn over_quota_in(text: &str) -> Option<bool>
+    ensures { MatchOption result (IsNoOverQuota (Some text.now)) (IsOverQuota (Some text.now)) }
+{
+    match text {
+        "defer" => Some(false),
+        "reject" => Some(true),
+        _ => None,
+    }
 }
 
 // The blocks that were given, and else the usual ones for as many lanes and the limit of a message.

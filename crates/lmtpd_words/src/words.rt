@@ -74,6 +74,8 @@ pub struct SiteWords<'a> {
     pub refuse_malformed: bool,
     /// Addresses may be in UTF-8 (RFC 6531).
     pub smtputf8: bool,
+    /// A copy over the quota is refused for good, and not put off.
+    pub reject_over_quota: bool,
     /// What a mailbox's file has after its name; a rehearsal has no files, and the usual suffix.
     pub mailbox_suffix: &'a str,
 }

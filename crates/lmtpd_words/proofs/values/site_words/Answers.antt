@@ -19,5 +19,6 @@ returns c =
       rename_marks = c.is_given.ensures;
       refuse_malformed = c.is_given-2.ensures;
       smtputf8 = c.is_given-3.ensures;
+      over_quota = c.in-Some-over_quota_of.ensures;
       mailbox_suffix = c.in-Some-suffix_of.ensures;
     }
