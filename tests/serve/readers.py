@@ -93,7 +93,7 @@ def the_name_is_held(folder):
 
 
 def is_held(folder, hold):
-    with Server(folder, ["anna", "ben"], 2, "--lanes", 2, "--lock-wait", WAIT) as server:
+    with Server(folder, ["anna", "ben"], 2, "--lanes", 4, "--lock-wait", WAIT) as server:
         with Client(server.address).greet() as client, concurrent.futures.ThreadPoolExecutor(1) as pool:
             equal_at_once(client, "anna", stored("anna"))
             with hold(server.mailbox("anna")):
