@@ -180,6 +180,7 @@ for suffix in '' .mail lock; do
 done
 for mode in 8 1000 +660 00660 x ''; do try 2 clap "${serve[@]}" --dir /nowhere --socket-mode "$mode" anna; done
 for time in 0 86401 -1 x ''; do try 2 clap "${serve[@]}" --dir /nowhere --session-time "$time" anna; done
+for number in 0 1000001 -1 x ''; do try 2 clap "${serve[@]}" --dir /nowhere --bad-commands "$number" anna; done
 for number in 0 1000001 -1 x ''; do try 2 clap "${serve[@]:0:5}" --dir /nowhere --connections "$number" anna; done
 try 2 clap "${serve[@]}" --dir /nowhere --stop-file '' anna
 try 2 clap "${serve[@]}" --dir /nowhere --stop-file= anna
@@ -204,7 +205,8 @@ try 2 'lmtpd: no box' "${serve[@]}" --dir /nowhere --check-words
 try 2 $'[ERROR lmtpd] bad box name=Anna\nlmtpd: bad box' "${serve[@]}" --dir /nowhere --check-words Anna
 try 2 clap "${serve[@]}" --dir /nowhere --log-addresses=yes anna
 try 2 clap "${serve[@]}" --dir /nowhere --log-addresses --log-addresses anna
-for word in --start-anyway --log-addresses --stop-file=stop --socket-mode=0660 --session-time=9 --connections=9; do
+for word in --start-anyway --log-addresses --stop-file=stop --socket-mode=0660 --session-time=9 --bad-commands=9 \
+    --connections=9; do
     try 2 clap "${good[@]}" "$word" anna
     try 2 clap check "$word" anna.mbox
     try 1 'lmtpd: cannot open anna.mbox' "${serve[@]:0:5}" --dir /nowhere "$word" anna

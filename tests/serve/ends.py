@@ -56,6 +56,25 @@ def a_session_has_its_time(folder):
         equal(server.end().status, 0)
 
 
+@case
+def bad_commands_have_their_number(folder):
+    """with --bad-commands 3 a client hears 421 after its third bad command since its last letter: a recipient who isn't
+    here is none, and a letter between them has them counted anew"""
+    with Server(folder, ["anna"], 1, "--lanes", 1, "--bad-commands", 3) as server, Client(server.address) as client:
+        client.greet()
+        bad = ["NOPE", "DATA"]
+        equal([client.ask(line)[:3] for line in bad], ["500", "503"])
+        equal(client.ask("MAIL FROM:<a@b>")[:3], "250")
+        equal([client.ask("RCPT TO:<zoe@mx.example>")[:3] for _ in range(5)], ["550"] * 5)
+        equal([client.ask(line)[:3] for line in ["RCPT TO:<anna@mx.example>", "DATA"]], ["250", "354"])
+        equal(client.ask("NOPE\r\n."), STORED)
+        equal([client.ask(line)[:3] for line in bad], ["500", "503"])
+        equal(client.ask("NOOP")[:3], "250")
+        client.send("EXPN anna")
+        equal([client.hear()[:3], client.hear(), client.hear()], ["502", STOPPING, ""])
+        equal(server.end().status, 0)
+
+
 def send_slowly(client):
     try:
         for _ in range(40):

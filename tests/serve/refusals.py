@@ -59,6 +59,10 @@ NUMBERS = [
     ("--session-time", 86_401),
     ("--session-time", "1h"),
     ("--session-time", ""),
+    ("--bad-commands", 0),
+    ("--bad-commands", 1_000_001),
+    ("--bad-commands", "x"),
+    ("--bad-commands", ""),
     ("--lanes", "-1"),
     ("--quota", "-1"),
     ("--quota", 18_446_744_073_709_551_616),
@@ -279,6 +283,7 @@ def the_ends_of_what_a_lock_is_waited_for_and_of_a_mode(folder):
     """the least, the most and texts between: the words are taken, and what is told is the next thing that is wrong"""
     taken = [("--lock-wait", value) for value in [0, 10, 3_600]]
     taken += [("--session-time", value) for value in [1, 3_600, 86_400]]
+    taken += [("--bad-commands", value) for value in [1, 200, 1_000_000]]
     taken += [("--stop-file", "0"), ("--socket-mode", "0600"), ("--socket-mode", "0777")]
     taken += [("--mailbox-mode", value) for value in ["0", "7", "600", "0600", "0777", "777", "0000", "660"]]
     suffixes = ["", ".", "x", "-", "_", "x" * 32, ".A-z_0.9", ".lock.x", ".mbox"]
