@@ -2,8 +2,8 @@
 _lmtpd() {
     local serve rehearse check copy word=${COMP_WORDS[COMP_CWORD]} before=${COMP_WORDS[COMP_CWORD - 1]}
     serve='--host --listen --dir --domains --recipient-delimiter --message-limit --lanes --blocks --capacity --reads'
-    serve+=' --rename-marks --refuse-malformed --smtputf8 --timeout --session-time --log --log-addresses --quota --over-quota'
-    serve+=' --lock-wait --mailbox-suffix --mailbox-mode'
+    serve+=' --rename-marks --refuse-malformed --smtputf8 --timeout --session-time --bad-commands --log'
+    serve+=' --log-addresses --quota --over-quota --lock-wait --mailbox-suffix --mailbox-mode'
     serve+=' --socket-mode --connections --stop-file --start-anyway --check-words --boxes --help'
     rehearse='--host --time --domains --recipient-delimiter --message-limit --rename-marks --refuse-malformed --smtputf8'
     rehearse+=' --blocks --quota --over-quota --boxes --help'
