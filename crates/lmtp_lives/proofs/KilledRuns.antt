@@ -156,7 +156,7 @@ module _ (outcome : Outcome) (end : TurnEnd) (lock unlock : Standing) (got : ℕ
         reads = record { made = 1; counts = inl refl; within = lit≤ tt; read_bound = λ e. cc };
         said = take got text;
         moved = record { read = tt; unread = tt; written = tt; still = refl };
-        accounted = record { outcomes = (refl, tt); none_left = refl; none_lacks = tt };
+        accounted = record { outcomes = (refl, tt); none_left = refl; none_lacks = tt; none_busy = λ e. refl };
         says = record {
           begins = record { rest = drop got text; whole = sym (take-append-drop got text) };
           whole = λ fails. absurd (fails refl);
