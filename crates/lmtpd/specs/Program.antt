@@ -112,7 +112,11 @@ connections_asked words = option_map_or (λ count. count) words.connections (2 ^
 
 -- what a conversation may ask of its client: two waits make a second
 abbrev pub bounds_asked : ServeWords → Bounds
-bounds_asked words = record { reads = words.reads; waits = min (words.timeout * 2) (2 ^ 32 - 1) }
+bounds_asked words = record {
+  reads = words.reads;
+  waits = min (words.timeout * 2) (2 ^ 32 - 1);
+  bad_commands = words.bad_commands;
+}
 
 -- what a server is run with that its words ask for, on that socket and until that curfew
 abbrev pub serving_asked : {C : Type 0} → ServeWords → ServerSocket → Arc (ServerCurfew C) Global

@@ -31,7 +31,12 @@ impl<R: Read, W: Write> Peer for StreamPeer<R, W> {
       holds = [];
     } };
 
-    fn read(&mut self, buffer: &mut ReadBuffer, _pause: Pause) -> Result<Came, PeerFault> {
+    fn read(
+        &mut self,
+        buffer: &mut ReadBuffer,
+        _pause: Pause,
+        _bad_commands: u32,
+    ) -> Result<Came, PeerFault> {
         self.reads = self.reads.saturating_add(1);
         match buffer.take_piece(&mut self.reader) {
             Ok(0) => Ok(Came::End),

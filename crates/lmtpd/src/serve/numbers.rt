@@ -37,5 +37,6 @@ pub fn bounds_asked(words: &ServeWords<'_>) -> Bounds
     Bounds {
         reads: u64::from(words.reads),
         waits: words.timeout.saturating_mul(waits_a_second),
+        bad_commands: words.bad_commands,
     }
 }
