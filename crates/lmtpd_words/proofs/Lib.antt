@@ -2,6 +2,7 @@ pub mod LineNames
 pub mod ArgumentRows
 mod BoxRows
 pub mod Calls
+pub mod Lacking
 pub mod Given
 pub mod Numbers
 mod ServeRows
