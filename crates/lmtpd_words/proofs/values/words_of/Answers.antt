@@ -1,4 +1,4 @@
-use Rattle.std.proofs.Common.{◌≡◌, ◌∙◌, sym, refl, subst}
+use Rattle.std.proofs.Common.{◌∙◌, sym, refl, subst}
 use Rattle.std.specs.Prelude.{MatchOption}
 use Rattle.clap.specs.Words.{found_of, rows_of}
 use Rattle.lmtpd_words.specs.Words.{LacksRehearse, LacksServe, IsRehearseRead, IsServeRead}
