@@ -9,7 +9,8 @@ pub mod Rules
 pub mod Shown
 pub mod Sink
 pub mod Texts
+pub mod Told
 pub mod TurnLines
+pub mod Unserved
 pub mod Verbs
 pub mod Words
-pub mod Unserved

@@ -1,8 +1,7 @@
 //! The domains that clients of a lane named and that aren't served: which of them are told.
 
-ghost use Rattle.std.specs.Prelude.{◌≡◌, ◌≤◌, map, vec_capacity};
-ghost use Rattle.mail_head.specs.Texts.{text_of};
-ghost use Rattle.lmtpd_log.specs.Unserved.{was_told};
+ghost use Rattle.std.specs.Prelude.{◌≡◌, ◌≤◌, vec_capacity};
+ghost use Rattle.lmtpd_log.specs.Told.{was_told};
 ghost use Rattle.lmtpd_log.specs.declared.unserved.TheConstants.{DOMAIN_LIMIT};
 
 use mail_head::Text;
@@ -27,7 +26,7 @@ pub(crate) struct Unserved {
 impl Unserved {
     ghost use Rattle.std.specs.Prelude.{◌⊎◌, ◌++◌, ◌∷◌, [], true, false, length, take, IfOk};
     ghost use Rattle.mail_world.specs.declared.limits.TheConstants.{NAME_LIMIT};
-    ghost use Rattle.lmtpd_log.specs.Unserved.{told_domains};
+    ghost use Rattle.lmtpd_log.specs.Unserved.{has_told, told_domains};
 
     /// None yet. No other call takes memory.
     pub(crate) fn new(alloc: Global) -> Result<Unserved, AllocError>
@@ -60,7 +59,7 @@ impl Unserved {
     // Keeps the domain where there is room and it isn't kept yet, and says whether it did.
     fn keep(&mut self, domain: &[u8]) -> bool
         ensures kept { result ≡ true → told_domains self.new ≡ told_domains self.old ++ take NAME_LIMIT domain.now ∷ [] }
-        ensures first { result ≡ true → was_told (told_domains self.old) domain.now ≡ false }
+        ensures first { result ≡ true → has_told self.old domain.now ≡ false }
         ensures as_before { result ≡ false → told_domains self.new ≡ told_domains self.old }
         ensures within { length (told_domains self.new) ≤ DOMAIN_LIMIT }
     {
@@ -74,12 +73,9 @@ impl Unserved {
 
 // In any letter case.
 fn was_told(domains: &[Text<NAME_LIMIT>], domain: &[u8]) -> bool
-    ensures { result ≡ was_told (map (λ told. text_of told) domains.now) domain.now }
+    ensures { result ≡ was_told domains.now domain.now }
 {
-    for told in domains {
-        if told.text().eq_ignore_ascii_case(domain) {
-            return true;
-        }
-    }
-    false
+    domains
+        .iter()
+        .any(|told| told.text().eq_ignore_ascii_case(domain))
 }
