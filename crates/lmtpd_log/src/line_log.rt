@@ -107,7 +107,9 @@ impl<E: LineSink, C: Clock + Drop> LineLog<E, C> {
     // Says at once of a domain that isn't served that it isn't, the first time in an hour; without a clock the first time.
     fn tell_unserved(&mut self, said: Reading<'_>, reply: Reply)
         ensures shown { E.shown self.new.sink ≡ E.shown self.old.sink }
-        ensures rest { self.new ≡ record self.old { sink = self.new.sink; unserved = self.new.unserved } }
+        ensures waiting { self.new.waiting ≡ self.old.waiting }
+        ensures history { self.new.history ≡ self.old.history }
+        ensures setting { self.new.setting ≡ self.old.setting }
     {
         let Some(domain) = self.setting.unserved(said, reply) else {
             return;

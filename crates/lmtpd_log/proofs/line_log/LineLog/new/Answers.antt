@@ -11,7 +11,7 @@ invariant_of-result g c =
     record {
       room = c.in_ok-with_capacity.ensures.exact;
       owes = ap (λ ls. ls ++ lines_of waiting.items) c.requires ∙ ap lines_of c.in_ok-with_capacity.ensures.items
-          ∙ sym (ap (λ h. lines_owed rules h.heard) c.new-2.ensures);
+          ∙ sym (ap (λ h. lines_owed rules h.heard) c.new-3.ensures);
       rests = λ _. ap lines_of c.in_ok-with_capacity.ensures.items;
-      knows = c.in_ok-new.ensures ∙ sym (ap (λ h. letter_after (first_letter rules.addresses) h.heard) c.new-2.ensures);
+      knows = c.in_ok-new.ensures ∙ sym (ap (λ h. letter_after (first_letter rules.addresses) h.heard) c.new-3.ensures);
     }
