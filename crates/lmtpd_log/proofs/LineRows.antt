@@ -2,6 +2,8 @@
 use Rattle.std.proofs.Common.{◌≡◌, [], ◌∷◌, Some, None, codes, refl, false, true}
 use Rattle.mail_world.specs.declared.Outcome.TheVariants.{OverQuota}
 use Rattle.mail_world.specs.declared.Reply.TheVariants.{SenderOk, RecipientOk, NoSuchBox, Result}
+use Rattle.mail_world.specs.Commands.{command_at}
+use Rattle.mail_world.specs.Paths.{forward_path}
 use Rattle.mail_world.specs.Replies.{reply_text}
 use Rattle.mail_world.specs.Rows.{site}
 use Rattle.lmtp_talk.specs.Entries.{Entry, OfLine, OfCopy}
@@ -23,5 +25,5 @@ pub a_letter : lines_owed rules
     ≡ Refused 3 (codes "RCPT") (codes "550") (Some (codes "mailbox")) None
     ∷ Answered 7 3 17 (codes "ben") (codes "over-quota") (codes "452") 1234 (codes "relay.example") (Some (codes "<1@a>")) None
     ∷ []
-unfolding reply_text
+unfolding reply_text command_at forward_path
 a_letter = refl
