@@ -1,6 +1,6 @@
 //! Which size a server may not have, and the line of the log that says it.
 
-ghost use Rattle.std.specs.Prelude.{◌≡◌, ◌<◌, ◌≤◌, ◌⊎◌, ◌×◌, ◌↔◌, IfSome, IsTrue};
+ghost use Rattle.std.specs.Prelude.{◌≡◌, ◌<◌, ◌≤◌, ◌⊎◌, ◌↔◌, IfSome, IsTrue};
 
 use lmtpd_words::ServeWords;
 use log::{Log, error};
