@@ -1,4 +1,4 @@
-use Rattle.std.proofs.Common.{◌≡◌, ◌∙◌, ◌+◌, ◌≤◌, ◌<◌, ℕ, [], List, ap, sym, subst, is_err, length, OnErr, OnOk, Ok, Err, true, false, arith}
+use Rattle.std.proofs.Common.{◌≡◌, ◌∙◌, ◌+◌, ◌≤◌, [], List, ap, sym, subst, is_err, length, OnErr, OnOk, Ok, Err, true, false, arith}
 use Rattle.std.specs.Prelude.{Result}
 use Rattle.lmtp_text.specs.Sites.{texts}
 use Rattle.lmtpd_check.specs.Checked.{IsChecked}
