@@ -34,6 +34,7 @@ use Rattle.lmtpd_setup.specs.Setup.{IsNotSetUp, IsUnopenedAt, ends_asked, mailbo
 use Rattle.lmtpd_setup.specs.declared.ends.ServerCurfew.{ServerCurfew}
 use Rattle.lmtpd_setup.specs.declared.stop.Stop.{Stop}
 use Rattle.lmtpd.specs.Program.{IsListenAddress, IsListenedAt, IsNotRun, IsNotServed, IsServedAsAsked, IsSizeAsked, bounds_asked}
+use Rattle.slow_boxes.specs.declared.boxes.SlowBoxes.{SlowBoxes}
 use Rattle.lmtpd.specs.Program.{connections_asked, serving_asked, sizes_asked}
 use Rattle.lmtpd.proofs.Unrun.{causes, unrun}
 
@@ -63,38 +64,38 @@ size_of_sum x Good (inl e) = cc
 size_of_sum x Good (inr good) = good
 
 -- what a server is run with, part by part
-abbrev serving_with : {C : Type 0} → ServeWords → ServerSocket → Arc (ServerCurfew C) Global → Sizes → ℕ → Bounds → Bool
+abbrev serving_with : {C : Type 0} → ServeWords → ServerSocket → Arc (ServerCurfew C) Global → Arc SlowBoxes Global → Sizes → ℕ → Bounds → Bool
     → Serving ServerSocket (ServerCurfew C)
-serving_with words socket curfew sizes count bounds addresses = record {
+serving_with words socket curfew slow sizes count bounds addresses = record {
   sizes = sizes;
-  conversations = record { lanes = words.lanes; count = count; bounds = bounds; curfew = curfew };
+  conversations = record { lanes = words.lanes; count = count; bounds = bounds; curfew = curfew; slow = slow };
   listener = socket;
   addresses = addresses;
 }
 
-pub serving_is : {C : Type 0} (words : ServeWords) (socket : ServerSocket) (curfew : Arc (ServerCurfew C) Global) (sizes : Sizes) (count : ℕ)
+pub serving_is : {C : Type 0} (words : ServeWords) (socket : ServerSocket) (curfew : Arc (ServerCurfew C) Global) (slow : Arc SlowBoxes Global) (sizes : Sizes) (count : ℕ)
     (bounds : Bounds) (addresses : Bool)
     → sizes ≡ sizes_asked words → count ≡ connections_asked words → bounds ≡ bounds_asked words → addresses ≡ words.log_addresses
-    → serving_with words socket curfew sizes count bounds addresses ≡ serving_asked words socket curfew
-serving_is words socket curfew sizes count bounds addresses a b c d =
-    ap (λ (z : Sizes). serving_with words socket curfew z count bounds addresses) a
-    ∙ ap (λ (n : ℕ). serving_with words socket curfew (sizes_asked words) n bounds addresses) b
-    ∙ ap (λ (each : Bounds). serving_with words socket curfew (sizes_asked words) (connections_asked words) each addresses) c
-    ∙ ap (λ (t : Bool). serving_with words socket curfew (sizes_asked words) (connections_asked words) (bounds_asked words) t) d
+    → serving_with words socket curfew slow sizes count bounds addresses ≡ serving_asked words socket curfew slow
+serving_is words socket curfew slow sizes count bounds addresses a b c d =
+    ap (λ (z : Sizes). serving_with words socket curfew slow z count bounds addresses) a
+    ∙ ap (λ (n : ℕ). serving_with words socket curfew slow (sizes_asked words) n bounds addresses) b
+    ∙ ap (λ (each : Bounds). serving_with words socket curfew slow (sizes_asked words) (connections_asked words) each addresses) c
+    ∙ ap (λ (t : Bool). serving_with words socket curfew slow (sizes_asked words) (connections_asked words) (bounds_asked words) t) d
 
 pub served_as_asked : (C : Type 0) {G S : Type 0} (told : G → Option (List Entry)) (shows : G → Bool) (view : SpoolsView S) (held : S → Held)
     (words : ServeWords) (before after : Option (List ℕ)) (served : Served) (site : Site) (serving : Serving ServerSocket (ServerCurfew C)) (opened : Opened)
-    (curfew : Arc (ServerCurfew C) Global) (spools : List S)
+    (curfew : Arc (ServerCurfew C) Global) (slow : Arc SlowBoxes Global) (spools : List S)
     → words.check_words ≡ false
     → IsListenedAt words opened → (site ≡ serving_site words.site) × (site_fault words.site ≡ None)
-    → serving ≡ serving_asked words opened.socket curfew
+    → serving ≡ serving_asked words opened.socket curfew slow
     → (length spools ≡ length words.site.boxes.items) × (map held spools ≡ mailboxes_asked words)
     × AllByRecursion (λ spool. IfSome (view.told spool) (λ ends. ends ≡ [])) spools
     → IsCurfewOf (ends_asked words) (arc_value curfew)
     → (◌≡◌ {A = Result Served HouseFault} (Ok served) (Err house.Size)) ⊎ IsSize site serving.sizes words.lanes (length spools) (length spools)
     → IsServerRun site view told shows serving spools before after served
     → IsServedAsAsked C told shows view held words before after served
-served_as_asked C told shows view held words before after served site serving opened curfew spools serves listens made asked boxes ends good ran = record {
+served_as_asked C told shows view held words before after served site serving opened curfew slow spools serves listens made asked boxes ends good ran = record {
   serves = serves;
   opened = opened;
   listens = listens;
@@ -103,6 +104,7 @@ served_as_asked C told shows view held words before after served site serving op
       (size_of_sum served (IsSize site serving.sizes words.lanes (length spools) (length spools)) good);
   curfew = curfew;
   ends = ends;
+  slow = slow;
   spools = spools;
   each_box = boxes.0;
   mailboxes = boxes.1;

@@ -17,6 +17,7 @@ use Rattle.lmtp_house.specs.House.{IsSize}
 use Rattle.lmtp_house.specs.declared.house.sizes.Sizes.{Sizes}
 use Rattle.lmtp_tcp.specs.declared.tcp_peer.Bounds.{Bounds}
 use Rattle.lmtpd_words.specs.CommandLine.{program_app}
+use Rattle.slow_boxes.specs.declared.boxes.SlowBoxes.{SlowBoxes}
 use Rattle.lmtpd_words.specs.Words.{IsAsked, IsLacking, named_site, serving_site}
 use Rattle.lmtpd_words.specs.declared.words.RehearseWords.{RehearseWords}
 use Rattle.lmtpd_words.specs.declared.words.ServeWords.{ServeWords}
@@ -118,16 +119,18 @@ bounds_asked words = record {
   bad_commands = words.bad_commands;
 }
 
--- what a server is run with that its words ask for, on that socket and until that curfew
-abbrev pub serving_asked : {C : Type 0} → ServeWords → ServerSocket → Arc (ServerCurfew C) Global
+-- what a server is run with that its words ask for, on that socket, until that curfew, and with these words for which
+-- of its mailboxes are slow
+abbrev pub serving_asked : {C : Type 0} → ServeWords → ServerSocket → Arc (ServerCurfew C) Global → Arc SlowBoxes Global
     → Serving ServerSocket (ServerCurfew C)
-serving_asked words socket curfew = record {
+serving_asked words socket curfew slow = record {
   sizes = sizes_asked words;
   conversations = record {
     lanes = words.lanes;
     count = connections_asked words;
     bounds = bounds_asked words;
     curfew = curfew;
+    slow = slow;
   };
   listener = socket;
   addresses = words.log_addresses;
@@ -152,12 +155,13 @@ pub record IsServedAsAsked (C : Type 0) {G S : Type 0} (told : G → Option (Lis
   pub sizes : IsSizeAsked words
   pub curfew : Arc (ServerCurfew C) Global
   pub ends : IsCurfewOf (ends_asked words) (arc_value curfew)
+  pub slow : Arc SlowBoxes Global
   pub spools : List S
   pub each_box : length spools ≡ length words.site.boxes.items
   pub mailboxes : map held spools ≡ mailboxes_asked words
   pub untold : AllByRecursion (λ spool. IfSome (view.told spool) (λ ends. ends ≡ [])) spools
-  pub ran : IsServerRun (serving_site words.site) view told shows (serving_asked words opened.socket curfew) spools
-      before after served
+  pub ran : IsServerRun (serving_site words.site) view told shows (serving_asked words opened.socket curfew slow)
+      spools before after served
 
 -- why none ran though its site is sound: a mailbox's file, or only their folder where it is to start anyway, what it
 -- listens on, or the server; a port that none may have is seen only now where the socket was passed

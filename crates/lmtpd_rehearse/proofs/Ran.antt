@@ -412,7 +412,7 @@ module _ (site : Site) (quota : Option ℕ) (moment : ℕ) {P : Type 0} (state :
         input = by.input;
         account = c.dispositions;
         accounted = record {
-          complete = by.accounted;
+          complete = subst (λ x. IsAccount site x) by.unstopped by.accounted;
           moments = subst D (account_told site 0 c by.accounted)
               (all_mapped (λ d. d.moment ≡ moment) (λ (t : Transaction). t.disposition) (transactions_in site 0 c) (subst F ts_are work.moments));
           verdicts = subst N by.unstopped (subst W (ap (λ l. transactions site 0 l) are) work.verdicts);

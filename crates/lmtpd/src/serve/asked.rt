@@ -22,6 +22,7 @@ use lmtpd_setup::{
     ServerLog, ServerSetup, Stop, WaitingMailbox, open_address, set_up, tell_of_sizes,
 };
 use lmtpd_words::ServeWords;
+use log::Log;
 use mbox_rd::{FileLock, RangeLock, Spool, Writeback};
 use std::env::Env;
 use std::fs::{Files, OpenOptions};
@@ -133,11 +134,16 @@ where
     match served {
         Ok(served) => Ok(served),
         Err(cause) => {
-            if matches!(cause, HouseFault::Size) {
-                tell_of_sizes(words, &log);
-            }
+            tell_of_cause(words, &log, cause);
             Err(Stop::Fault(house_fault(cause)))
         }
+    }
+}
+
+// Where it was for a size the log says which.
+fn tell_of_cause<G: Log>(words: &ServeWords<'_>, log: &G, cause: HouseFault) {
+    if matches!(cause, HouseFault::Size) {
+        tell_of_sizes(words, log);
     }
 }
 

@@ -9,9 +9,9 @@ use Rattle.lmtpd.proofs.serve.asked.serve_opened.Goals as goal
 pub returns-in-Ok : goal.returns-in-Ok
 returns-in-Ok g c =
     let serving =
-    serving_is c.args.words.now c.args.opened.socket c.args.setup.curfew c.sizes_asked-sizes.result c.connections_asked.result c.bounds_asked.result
+    serving_is c.args.words.now c.args.opened.socket c.args.setup.curfew c.args.setup.slow c.sizes_asked-sizes.result c.connections_asked.result c.bounds_asked.result
     c.args.setup.logs.addresses c.sizes_asked-sizes.ensures c.connections_asked.ensures c.bounds_asked.ensures c.requires.addresses in
-    served_as_asked _ _ _ _ held_as c.args.words.now _ _ c.in-Ok.served (arc_value c.args.setup.site) _ c.args.opened c.args.setup.curfew
+    served_as_asked _ _ _ _ held_as c.args.words.now _ _ c.in-Ok.served (arc_value c.args.setup.site) _ c.args.opened c.args.setup.curfew c.args.setup.slow
     c.args.setup.spools.items c.requires.served c.requires.opened (c.requires.site, c.requires.sound) serving (c.requires.count, c.requires.mailboxes, c.requires.untold)
     c.requires.ends c.in-Ok.ensures.sized c.in-Ok.ensures.ran
 

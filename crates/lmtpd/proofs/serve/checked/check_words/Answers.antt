@@ -1,4 +1,4 @@
-use Rattle.std.proofs.Common.{inr, length, refl}
+use Rattle.std.proofs.Common.{◌≡◌, ◌∙◌, true, false, sym, inr, length, refl}
 use Rattle.std.specs.Arc.{arc_value}
 use Rattle.std.proofs.lemmas.Result.{err_from_is_err_and}
 use Rattle.lmtpd.proofs.AsAsked.{size_asked, size_given, unset_checked}
@@ -29,8 +29,11 @@ returns-else-is_size g c =
           c.requires,
           refl,
           λ good.
-              false_is_not_true c.if-is_size.false (c.is_size.ensures.size.1 (size_given c.args.words.now (arc_value c.in_ok-setup.setup.site) c.sizes_asked.result
-              (length c.in_ok-setup.setup.spools.items) c.in_ok-setup.ensures.site c.sizes_asked.ensures c.in_ok-setup.ensures.count good)),
+              let wrong : true ≡ false =
+              sym (c.is_size.ensures.size.1 (size_given c.args.words.now (arc_value c.in_ok-setup.setup.site) c.sizes_asked.result
+              (length c.in_ok-setup.setup.spools.items) c.in_ok-setup.ensures.site c.sizes_asked.ensures c.in_ok-setup.ensures.count good))
+              ∙ c.if-is_size.false in
+              cc,
         ),
       ),
     ))
