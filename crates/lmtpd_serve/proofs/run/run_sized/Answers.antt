@@ -1,4 +1,6 @@
-use Rattle.std.proofs.Common.{rules, subst}
+use Rattle.std.proofs.Common.{◌≡◌, ◌≤◌, Err, ap, rules, arith, subst, sym}
+use Rattle.lmtp_house.specs.declared.house.fault.HouseFault.TheVariants as house
+use Rattle.mail_world.specs.declared.limits.TheConstants.{LANE_LIMIT}
 use Rattle.std.specs.Arc.{arc_value}
 use Rattle.mail_world.specs.Site.{Site}
 use Rattle.lmtpd_serve.specs.Served.{ListsOn, counts_text}
@@ -33,3 +35,17 @@ returns-clause-ran g c = record {
       c.in_ok-gates.ensures.announced
       (subst (λ (s : Site). ListsOn announced.is_cut (counts_text s.boxes tallies) between after cut) c.in_ok-served_site.ensures c.served_by.ensures.said);
 }
+
+pub returns-in-Err-clause-sized : goal.returns-in-Err-clause-sized
+returns-in-Err-clause-sized g c e =
+    let lanes = c.in_ok-gates.ensures.lanes.count in
+    let gates = c.in_ok-gates.ensures.gates in
+    let same : c.in-Err.fault ≡ house.Size = cc in
+    c.in-Err.ensures.size.0 (ap Err same) (record {
+      blocks = c.requires.blocks;
+      slots = c.requires.slots;
+      capacity = c.requires.capacity;
+      some_lanes = subst (λ n. (1 ≤ n) × (n ≤ LANE_LIMIT)) (sym lanes) c.requires.some_lanes;
+      each_spool = c.requires.each_spool;
+      each_gate = omega (arith, gates, c.len.ensures, c.requires.each_gate);
+    })
