@@ -1,9 +1,9 @@
 -- A server that words ask for: what it comes to, and why it didn't run, cause by cause.
-use Rattle.std.proofs.Common.{◌≡◌, ◌∙◌, ◌⊎◌, inl, inr, ℕ, Bool, false, true, List, [], Option, length, map, None, IfSome, ap, sym, subst}
+use Rattle.std.proofs.Common.{◌≡◌, ◌∙◌, ◌⊎◌, inl, inr, ℕ, Bool, false, true, List, [], Option, length, map, None, IfSome, ap, refl, sym, subst}
 use Rattle.std.specs.Arc.{arc_value}
 use Rattle.std.specs.declared.alloc.Global.{Global}
 use Rattle.std.specs.declared.sync.Arc.{Arc}
-use Rattle.std.specs.Prelude.{Err, Ok, Result}
+use Rattle.std.specs.Prelude.{Err, MatchResult, Ok, Result}
 use Rattle.std.specs.List.{AllByRecursion}
 use Rattle.mail_world.specs.Site.{Site}
 use Rattle.lmtp_talk.specs.Entries.{Entry}
@@ -33,7 +33,7 @@ use Rattle.lmtpd_setup.specs.Names.{IsNoSite}
 use Rattle.lmtpd_setup.specs.Setup.{IsNotSetUp, IsUnopenedAt, ends_asked, mailboxes_asked}
 use Rattle.lmtpd_setup.specs.declared.ends.ServerCurfew.{ServerCurfew}
 use Rattle.lmtpd_setup.specs.declared.stop.Stop.{Stop}
-use Rattle.lmtpd.specs.Program.{IsListenAddress, IsListenedAt, IsNotRun, IsNotServed, IsServedAsAsked, IsSizeAsked, bounds_asked}
+use Rattle.lmtpd.specs.Program.{AreServeWords, IsListenAddress, IsListenedAt, IsNotRun, IsNotServed, IsServedAsAsked, IsSizeAsked, bounds_asked}
 use Rattle.slow_boxes.specs.declared.boxes.SlowBoxes.{SlowBoxes}
 use Rattle.lmtpd.specs.Program.{connections_asked, serving_asked, sizes_asked}
 use Rattle.lmtpd.proofs.Unrun.{causes, unrun}
@@ -129,6 +129,22 @@ no_server words cause site sizes count served address made asked boxes only (inr
     not_run words cause served address made.1 (unrun (IsSizeAsked words) cause (inl (size_asked words site sizes count made.0 asked boxes good))
     (λ f asks. only (ap Err f) (size_given words site sizes count made.0 asked boxes asks))
     (λ bad. absurd (bad (size_asked words site sizes count made.0 asked boxes good))))
+
+-- the words alone were to be checked: its sizes are within their limits, or they aren't
+pub sized_or_not : (words : ServeWords) (site : Site) (count : ℕ) (r : Result (Unit {0}) Stop) → words.check_words ≡ true
+    → IsListenAddress words.listen.now → site_fault words.site ≡ None → site ≡ serving_site words.site → count ≡ length words.site.boxes.items
+    → MatchResult r (λ _. IsSize site (sizes_asked words) words.lanes count count)
+    (λ s. (s ≡ stop.Fault fault.Size) × (IsSize site (sizes_asked words) words.lanes count count → ⊥))
+    → MatchResult r (λ _. AreServeWords words) (IsNotServed words)
+sized_or_not words site count (Ok done) checked address sound is boxes good = record {
+  asked = checked;
+  listen_address = address;
+  sound = sound;
+  sizes = size_asked words site (sizes_asked words) count is refl boxes good;
+}
+sized_or_not words site count (Err s) checked address sound is boxes bad =
+    subst (λ x. IsNotServed words x) (sym bad.0)
+    (inr (inr (address, inr (sound, inr (checked, (refl, λ good. bad.1 (size_given words site (sizes_asked words) count is refl boxes good)))))))
 
 -- it has no site
 pub siteless : (words : ServeWords) (s : Stop) → IsListenAddress words.listen.now → IsNoSite words s → IsNotServed words s

@@ -1,13 +1,16 @@
 //! The words of a server, which are tried and not followed.
 
 ghost use Rattle.std.specs.Prelude.{◌≡◌, true, MatchResult};
-ghost use Rattle.lmtpd.specs.Program.{AreServeWords, IsNotServed};
+ghost use Rattle.lmtp_house.specs.House.{IsSize};
+ghost use Rattle.lmtpd.specs.Program.{AreServeWords, IsNotServed, sizes_asked};
 
 use super::numbers::sizes_asked;
 use lmtp_house::is_size;
+use lmtp_text::Site;
 use lmtpd_listen::listen_address_of;
 use lmtpd_setup::{Fault, Stop, set_up, tell_of_sizes};
 use lmtpd_words::ServeWords;
+use log::Log;
 use mbox_rd::{RangeLock, Writeback};
 use std::env::Env;
 use std::fs::Files;
@@ -25,17 +28,25 @@ where
 {
     listen_address_of(words.listen)?;
     let setup = set_up(rt, threads, words)?;
-    let count = setup.spools.len();
-    if is_size(
-        &setup.site,
-        sizes_asked(words),
-        words.lanes as usize,
-        count,
-        count,
-    ) {
+    look_at_sizes(words, &setup.site, setup.spools.len(), &setup.log)
+}
+
+// Whether a server of that many mailboxes may have the sizes of its words; where it may not the log says which.
+fn look_at_sizes<'a, G: Log>(
+    words: &ServeWords<'_>,
+    site: &Site,
+    boxes: usize,
+    log: &G,
+) -> Result<(), Stop<'a>>
+    ensures { MatchResult result (λ _. IsSize site.now (sizes_asked words.now) words.now.lanes boxes boxes)
+        (λ stop. (stop ≡ Stop.Fault Fault.Size)
+        × ¬ IsSize site.now (sizes_asked words.now) words.now.lanes boxes boxes) }
+{
+    let sizes = sizes_asked(words);
+    if is_size(site, sizes, words.lanes as usize, boxes, boxes) {
         Ok(())
     } else {
-        tell_of_sizes(words, &setup.log);
+        tell_of_sizes(words, log);
         Err(Stop::Fault(Fault::Size))
     }
 }
