@@ -22,7 +22,7 @@ ANSWER = re.compile(
     r"\[INFO  lmtpd\] copy answered id=(\d{16})-(\d+-\d+) mailbox=(\S+) outcome=(\S+) code=(\d{3})"
     r" bytes=(\d+) seconds=(\d+\.\d{3}) client=(\S+)"
 )
-REFUSAL = re.compile(r"\[INFO  lmtpd\] command refused lane=(\d+) verb=(\S+) code=(\d{3})")
+REFUSAL = re.compile(r"\[INFO  lmtpd\] command refused lane=(\d+) verb=(\S+) code=(\d{3})(?: reason=(?:domain|mailbox))?")
 LETTER = ["Subject: a secret", "", "hello"]
 # the bytes of that letter
 SIZE = sum(len(line) + 2 for line in LETTER)
@@ -140,6 +140,8 @@ def refused_commands_are_logged(folder):
     refused = [code[:3] for code in heard if code[0] in "45"]
     lines = [REFUSAL.fullmatch(line) for line in ended.errors[:-1]]
     assert all(lines), ended.errors
+    reasons = [line for line in ended.errors if " reason=" in line]
+    equal(reasons, ["[INFO  lmtpd] command refused lane=0 verb=RCPT code=550 reason=mailbox"])
     expected = [("0", *logged) for _, logged in said if logged]
     equal(([line.groups() for line in lines], [line[3] for line in lines]), (expected, refused))
 
