@@ -1,5 +1,6 @@
 """All cases of this folder, for tests/serve.sh."""
 
+import os
 import sys
 
 import accepts  # noqa: F401  (each adds its cases)
@@ -40,5 +41,8 @@ import unopened  # noqa: F401
 import unserved  # noqa: F401
 import written  # noqa: F401
 from cases import run_all
+
+if os.environ.get("HELD_UP"):
+    import not_stopped  # noqa: F401
 
 sys.exit(0 if run_all(sys.argv[1:]) else 1)
