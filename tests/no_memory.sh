@@ -4,10 +4,10 @@
 # server of two lanes and two mailboxes, and of a check of files and a copy of one in turn (tests/memory/refuse.c,
 # preloaded), once that one alone and once all later ones too, until a run ends well. A refused run says
 # `lmtpd: memory`, or `lmtpd: no thread` where a thread or its start's memory was refused, and ends with status 1.
-# Without memory a rehearsal has read nothing, a check has said nothing, a copy has made nothing, a server has taken no
-# data, and no mailbox has a byte; without a thread each letter that a lane which had started told Stored lies in its
-# mailbox, and no other. One refusal alone may be made good: a list that may not grow by half asks for just what it
-# needs. LMTPD names a program that is built already.
+# Without memory a rehearsal has read nothing, a check has said nothing, a copy has made nothing; without memory or a
+# thread a server has greeted no client, and no mailbox has a byte. One refusal alone may be made good: a list that may
+# not grow by half asks for just what it needs, and a server goes on without the thread that says what a stop waits for.
+# LMTPD names a program that is built already.
 set -euo pipefail
 cd "$(dirname "$0")/.."
 . tests/needs cc python3

@@ -262,7 +262,8 @@ where
         })
     }
 
-    /// Runs each lane in a thread, to its end. At `Err` those that had started have ended, and their senders are gone.
+    /// Runs each lane in a thread, to its end, once all threads have started. At `Err` one was refused: those that had
+    /// started have ended without a client, and their senders are gone.
     pub fn run<R: Threads + Wait + Copy + Send + 'static>(
         self,
         rt: R,
@@ -276,12 +277,12 @@ where
             mut crew,
             columns,
         } = self;
-        match crew.start_all(rt, jobs) {
-            Ok(()) => Ok(take_lanes(columns, crew.join(&rt))),
-            Err(refused) => {
-                drop(crew.join(&rt));
-                Err(refused)
-            }
+        let started = crew.start_all(rt, jobs);
+        let reports = crew.join(&rt);
+        started?;
+        match reports {
+            Some(reports) => Ok(take_lanes(columns, reports)),
+            None => Err(Refused),
         }
     }
 }

@@ -321,7 +321,7 @@ where
         })
     }
 
-    /// Starts each worker in a thread. At `Err` these have started, and one was refused.
+    /// Starts each worker in a thread. At `Err` these have started, and one was refused: they end without a turn.
     pub fn start<R: Threads + Wait + Copy + Send + 'static>(
         self,
         rt: R,
@@ -360,9 +360,13 @@ where
     {
         let Working {
             crew,
-            columns,
+            mut columns,
             gates,
         } = self;
-        take_workers(columns, gates, crew.join(rt))
+        let Some(reports) = crew.join(rt) else {
+            columns.gone = true;
+            return WorkerReports { columns, gates };
+        };
+        take_workers(columns, gates, reports)
     }
 }

@@ -15,7 +15,7 @@ pub enum HouseFault {
     /// A lane or a worker found a channel gone.
     #[error("channel gone")]
     ChannelGone,
-    /// A thread was refused; the threads that had started ran to their end.
+    /// A thread was refused; the others ended without a client.
     #[error("no thread")]
     NoThread,
 }

@@ -1,7 +1,7 @@
 use Rattle.std.proofs.Common.{◌≡◌, ◌++◌, ◌≤◌, ◌+◌, length, vec_items}
 use Rattle.std.specs.List.{AllByRecursion}
 use Rattle.std.specs.Vec.Iter.{into_iter_items, into_iter_len}
-use Rattle.lmtp_threads.proofs.crew.Crew.start_all.Given as goal
+use Rattle.lmtp_threads.proofs.crew.Crew.start_each.Given as goal
 
 -- the tasks that have started, and those that are left
 abbrev pub invariant-loop-task : goal.invariant-loop-task
