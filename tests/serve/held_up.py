@@ -1,12 +1,14 @@
 """Neighbours who hold up their own mailboxes, and who send letters there: another user's letters go on beside them."""
 
 import contextlib
+import fcntl
 import os
+import signal
 import time
 
 from cases import case, equal
 from clients import Client
-from leases import hold_leases, letters_beside_a_lease
+from leases import lease_break_seconds, letters_beside_a_lease, put_a_lease_in_place
 from neighbours import ANNA, MANY, Senders, Site, done_by, need_undisturbed, seconds_of_letters
 from readers import bytes_held
 from replies import BUSY, GO_AHEAD, RECIPIENT_OK, RESET_OK, stored
@@ -35,14 +37,20 @@ def six_lockers(folder):
 six_lockers.seconds = 120
 
 
-def hold_a_lease_on_another(folder):
-    """Puts another file in the place of anna's mailbox, with a lease on it."""
+def hold_leases_on_others(folder):
+    """Puts a new file in the place of anna's mailbox, with a lease on it, each time somebody waits for the last one."""
+    signal.signal(signal.SIGIO, signal.SIG_IGN)
     os.umask(0)
-    other, path = folder / "other", folder / "anna.mbox"
-    os.close(os.open(other, os.O_CREAT | os.O_WRONLY, 0o660))
-    for _ in hold_leases(other):
-        other.rename(path)
-        yield
+    path = folder / "anna.mbox"
+    held = []
+    while True:
+        if not held or fcntl.fcntl(held[-1], fcntl.F_GETLEASE) != fcntl.F_WRLCK:
+            other = folder / f"other{len(held)}"
+            held.append(os.open(other, os.O_CREAT | os.O_RDONLY, 0o660))
+            fcntl.fcntl(held[-1], fcntl.F_SETLEASE, fcntl.F_WRLCK)
+            other.rename(path)
+            yield
+        time.sleep(0.0005)
 
 
 def letters_beside_a_leased_mailbox(folder, count):
@@ -50,7 +58,7 @@ def letters_beside_a_leased_mailbox(folder, count):
     second, and one of those was put off that four clients send besides."""
     site = Site(folder)
     with site.serve("--lanes", 4) as server, contextlib.ExitStack() as held:
-        held.enter_context(done_by(ANNA, hold_a_lease_on_another, site.mail))
+        held.enter_context(done_by(ANNA, put_a_lease_in_place, site.mail))
         waiting = [held.enter_context(Client(server.address).greet()) for _ in range(count)]
         for client in waiting:
             client.start_message("anna", "hello")
@@ -75,6 +83,21 @@ def lease_on_a_mailbox_with_three_letters(folder):
     lanes, and then four clients send him more: another user's letters go on, 0.1 s in the middle and 1 s at most, once
     one of these was put off"""
     need_undisturbed(letters_beside_a_leased_mailbox(folder, 3))
+
+
+@case
+def leases_on_new_mailboxes_for_all_lanes(folder):
+    """four clients at once send letters to a user who puts a file with a lease in the place of his mailbox, each time
+    a new one, on four lanes: after one wait of the system's another user's letters go on, 0.1 s in the middle and 1 s
+    at most"""
+    site = Site(folder)
+    with site.serve("--lanes", 4) as server:
+        with done_by(ANNA, hold_leases_on_others, site.mail), Senders(server.address, ["anna"]) as senders:
+            senders.wait_until_put_off(lease_break_seconds() + 10)
+            need_undisturbed(seconds_of_letters(server.address, "ben"))
+
+
+leases_on_new_mailboxes_for_all_lanes.seconds = 180
 
 
 @case

@@ -1,7 +1,9 @@
 """A user holds a lease on a file of his own: whoever opens it waits, up to `fs.lease-break-time` (45 seconds)."""
 
+import contextlib
 import fcntl
 import os
+import pathlib
 import signal
 import time
 
@@ -12,6 +14,7 @@ from replies import stored
 from restarts import SECONDS_TO_END, asked_to_stop, ended_in_time
 
 WITHIN = 5  # seconds, in which a server listens beside leases
+TOLD_AFTER = 8  # seconds, after which a stop says what it waits for
 NAMES = ["anna.mbox", "anna.mbox.lock", "anna.mbox.source.lock"]
 
 
@@ -32,6 +35,21 @@ def hold_leases(*paths):
                 pass  # somebody has the file open
             os.utime(one)
         time.sleep(0.0005)
+
+
+def put_a_lease_in_place(folder):
+    """Puts another file in the place of anna's mailbox, with a lease on it."""
+    os.umask(0)
+    other = folder / "other"
+    os.close(os.open(other, os.O_CREAT | os.O_WRONLY, 0o660))
+    for _ in hold_leases(other):
+        other.rename(folder / "anna.mbox")
+        yield
+
+
+def lease_break_seconds():
+    """For how long the system waits for the holder of a lease."""
+    return int(pathlib.Path("/proc/sys/fs/lease-break-time").read_text())
 
 
 def letters_beside_a_lease(folder, *words):
@@ -78,3 +96,22 @@ def stop_beside_a_lease(folder):
             client.send(".")
             time.sleep(1)
             equal(ended_in_time(server, asked_to_stop(folder), SECONDS_TO_END + 1).status, 0)
+
+
+@case
+def stop_says_which_mailbox_it_waits_for(folder):
+    """a user puts a file with a lease in the place of his mailbox, and a letter for him and one for another wait: eight
+    seconds after the stop, and not before, the log names his mailbox, and no other"""
+    site = Site(folder)
+    with site.serve("--log", "error", "--stop-file", folder / "stop") as server, contextlib.ExitStack() as held:
+        held.enter_context(done_by(ANNA, put_a_lease_in_place, site.mail))
+        clients = [held.enter_context(Client(server.address).greet()) for _ in range(2)]
+        for client, name in zip(clients, ["anna", "ben"]):
+            client.start_message(name, "hello")
+            client.send(".")
+        equal(clients[1].hear(), stored("ben"))
+        since = asked_to_stop(folder)
+        said = server.process.stderr.readline()
+        took = time.monotonic() - since
+        equal(said, "[ERROR lmtpd] the stop waits for a call of the system mailbox=anna\n")
+        assert TOLD_AFTER <= took < TOLD_AFTER + 2, took

@@ -90,6 +90,30 @@ def conversations_are_logged(folder):
 
 
 @case
+def a_conversation_names_its_client(folder):
+    """a conversation's line has the address that the client comes from, and not the server's"""
+
+    def hold(address):
+        with socket.create_connection(address, timeout=20, source_address=("127.0.0.9", 0)) as client:
+            client.sendall(b"QUIT\r\n")
+            while client.recv(4_096):
+                pass
+
+    equal(one_conversation(folder, hold)[1], "127.0.0.9")
+
+
+@case
+def ids_begin_with_the_start(folder):
+    """the id of a copy's line begins with the microsecond in which the server began"""
+    before = time.time_ns() // 1_000
+    with Server(folder, ["anna"], 1, "--lanes", 1, "--log", "info") as server:
+        after = time.time_ns() // 1_000
+        deliver_one(server.address, ["anna"], *LETTER)
+        found = ANSWER.fullmatch(server.end().errors[0])
+    assert before <= int(found[1]) <= after, (before, found[1], after)
+
+
+@case
 def copies_are_logged_as_they_are_answered(folder):
     """each copy has its line before the conversation ends: the id of its Received line, the mailbox, the outcome, the
     code, the bytes, the seconds since its data had ended, and the client's name; without an address and a subject"""

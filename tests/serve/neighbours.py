@@ -129,10 +129,10 @@ class Senders:
         finally:
             self.clients.discard(client)
 
-    def wait_until_put_off(self):
-        """Until each of the mailboxes had a letter put off, which takes less than a second each, or for eight seconds,
+    def wait_until_put_off(self, within=8):
+        """Until each of the mailboxes had a letter put off, which takes less than a second each, or for so many seconds,
         in which a server that waits for one of them has come no further."""
-        until = time.monotonic() + 8
+        until = time.monotonic() + within
         while time.monotonic() < until and not all(self.put_off(name) for name in self.names):
             time.sleep(0.1)
 

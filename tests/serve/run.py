@@ -1,10 +1,10 @@
 """All cases of this folder, for tests/serve.sh."""
 
-import os
 import sys
 
 import accepts  # noqa: F401  (each adds its cases)
 import boxes  # noqa: F401
+import calls_in_order  # noqa: F401
 import changed  # noqa: F401
 import checked_words  # noqa: F401
 import closed  # noqa: F401
@@ -24,6 +24,7 @@ import lock_texts  # noqa: F401
 import logs  # noqa: F401
 import neighbour_files  # noqa: F401
 import no_descriptors  # noqa: F401
+import no_threads  # noqa: F401
 import notified  # noqa: F401
 import over_quota  # noqa: F401
 import pipelining  # noqa: F401
@@ -41,8 +42,5 @@ import unopened  # noqa: F401
 import unserved  # noqa: F401
 import written  # noqa: F401
 from cases import run_all
-
-if os.environ.get("HELD_UP"):
-    import not_stopped  # noqa: F401
 
 sys.exit(0 if run_all(sys.argv[1:]) else 1)

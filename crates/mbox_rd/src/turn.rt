@@ -11,10 +11,15 @@ ghost use Rattle.mbox_rd.specs.Moments.{LeavesInTurn};
 use crate::patience::Patience;
 use mbox_file::{FileEnd, MailboxFile};
 use mbox_spool::InUse;
-use std::time::Clock;
+use std::io;
+use std::time::{Clock, Duration};
 
 /// How many files are looked at in one try, where the path names another one each time.
 const OPENINGS: usize = 4;
+
+/// Where the look at one file, and the opening of the next, took so many seconds, no further one is looked at in this
+/// try: whoever holds a lease on a file holds up each opening for as long as the system waits for him.
+const LATE_SECONDS: u64 = 1;
 
 const EPERM: i32 = 1;
 
@@ -75,29 +80,41 @@ pub(crate) fn wait_for_turn<F: MailboxFile, C: Clock>(
     ensures opened { IfErr result (OpensAfter (F.state file.old) (F.state file.new)) }
 {
     for pauses in 1..tries {
-        match begin_turn(file) {
+        match begin_turn(file, clock) {
             Ok(end) => return Ok(end),
             Err(InUse::Locked) if patience.pause(clock, pauses) => {}
             Err(in_use) => return Err(in_use),
         }
     }
-    begin_turn(file)
+    begin_turn(file, clock)
 }
 
-// The path may name another file than the open one, which is then opened, and it is tried again.
-fn begin_turn<F: MailboxFile>(file: &mut F) -> Result<FileEnd, InUse>
+// The path may name another file than the open one, which is then opened, and it is tried again, unless that took long.
+fn begin_turn<F: MailboxFile, C: Clock>(file: &mut F, clock: &C) -> Result<FileEnd, InUse>
     ensures ok { IfOk result (HasBegun (F.state file.old) (F.state file.new)) }
     ensures err { OnErr result (HasMissed (F.state file.old) (F.state file.new)) }
     ensures opened { IfErr result (OpensAfter (F.state file.old) (F.state file.new)) }
 {
     for _ in 1..OPENINGS {
+        let began = clock.monotonic();
         if let Some(end) = begin_or_reopen(file)? {
             return Ok(end);
+        }
+        if is_late(clock, began) {
+            return Err(InUse::Locked);
         }
     }
     match begin_or_reopen(file)? {
         Some(end) => Ok(end),
         None => Err(InUse::Locked),
+    }
+}
+
+// Whether seconds have passed since then. Where the clock tells no time none have.
+fn is_late<C: Clock>(clock: &C, began: io::Result<Duration>) -> bool {
+    match (began, clock.monotonic()) {
+        (Ok(began), Ok(now)) => now.saturating_sub(began).as_secs() >= LATE_SECONDS,
+        _ => false,
     }
 }
 
