@@ -6,6 +6,7 @@
 
 mod busy;
 mod conversations;
+mod hanging;
 mod lane_clock;
 mod lines;
 mod run;
@@ -15,6 +16,7 @@ mod turn_gate;
 mod watching;
 
 pub use conversations::Conversations;
+pub use hanging::watch_stop;
 pub use lines::{Trouble, write_trouble_lines};
 pub use lmtp_house::{Endpoint, Listener, Sizes, Tally, WAIT_MS, Watched};
 pub use run::serve_run;

@@ -145,6 +145,14 @@ impl SlowBoxes {
             || self.lanes_held(now).count_ones() < share_of(self.lanes)
     }
 
+    /// Whether the turn under way at the mailbox, if there is one, is old.
+    pub fn has_old_turn<C: Clock>(&self, mailbox: u32, clock: &C) -> bool {
+        match self.boxes.get(mailbox as usize) {
+            Some(words) => words.turns.is_old(milliseconds(clock)),
+            None => false,
+        }
+    }
+
     // The lanes that have a copy without an answer at a slow mailbox.
     fn lanes_held(&self, now: u64) -> u64 {
         let mut lanes = 0;

@@ -17,7 +17,7 @@ use box_worker::TurnObserver;
 use lmtp_house::{HouseFault, Observer};
 use lmtpd_listen::{Opened, listen_address_of};
 use lmtpd_log::{LaneLog, LineLog, LogSink, MailboxLog};
-use lmtpd_serve::{Conversations, Served, serve_run};
+use lmtpd_serve::{Conversations, Served, serve_run, watch_stop};
 use lmtpd_setup::{
     ServerLog, ServerSetup, Stop, WaitingMailbox, open_address, set_up, tell_of_sizes,
 };
@@ -64,6 +64,7 @@ where
     let listen_address = listen_address_of(words.listen)?;
     let setup = set_up(rt, threads, words)?;
     let opened = open_address(rt, alloc, listen_address, words.socket_mode, &setup.log)?;
+    watch_stop(threads, &setup.curfew, &setup.slow, &setup.site, setup.log);
     serve_opened(rt, threads, words, setup, opened, writer)
 }
 
