@@ -2,6 +2,8 @@ pub mod Lists
 pub mod Mending
 pub mod Bodies
 pub mod Torn
+pub mod Cuts
+pub mod Spoilt
 pub mod Stepping
 pub mod Lived
 pub mod Alone
