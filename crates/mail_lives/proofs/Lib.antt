@@ -4,6 +4,7 @@ pub mod Bodies
 pub mod Torn
 pub mod Cuts
 pub mod Spoilt
+pub mod SpoiltLives
 pub mod Stepping
 pub mod Lived
 pub mod Alone

@@ -5,3 +5,4 @@ pub mod Rows
 pub mod Lives
 pub mod ReadBack
 pub mod Spoils
+pub mod SpoiltLives

@@ -1,5 +1,5 @@
--- Mailboxes behind whose kept bytes a crash left any others, as a file system may whose files grow before their bytes are
--- written; and what is found there, whatever the bytes are.
+-- Mailboxes behind whose kept bytes a crash left any others, as a file system may whose files grow before their bytes
+-- are written; and what is found there, whatever the bytes are.
 use Rattle.std.specs.Prelude.{◌≡◌, ℕ, Bool, true, false, ◌&&◌, List, [], ◌∷◌, ◌++◌, drop, codes, if◌then◌else◌, ⊤}
 use Rattle.std.specs.List.{onto_first}
 use Rattle.mail_world.specs.Text.{begins_with, lines}

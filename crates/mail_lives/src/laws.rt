@@ -13,6 +13,7 @@ ghost use Rattle.mail_lives.specs.Lives.{Life, HaveLived, lives_steps, taken_thr
 ghost use Rattle.mail_lives.specs.ReadBack.{stored_in, torn_in, LeavesAlone, StandAmong, left_through, IsReadBack};
 ghost use Rattle.mail_lives.specs.Spoils.{Lines, own_lines, Move, Adds, Spoils, MoveLeaves, AreWhole, MovesLeave};
 ghost use Rattle.mail_lives.specs.Spoils.{AreFound, found};
+ghost use Rattle.mail_lives.specs.SpoiltLives.{SpoiltLife, HaveLivedSpoilt, lives_moves, all_taken, all_told, added_in};
 ghost use Rattle.mail_world.specs.Site.{Site};
 
 /// Whatever is stored, torn, or left by others, in whatever order: a mailbox that is read as letters is so afterwards,
@@ -60,8 +61,8 @@ pub fn letters_stay()
         → AllByRecursion (IsReadBack calendar site steps old new) (stored_in steps) }
 {}
 
-/// Whatever bytes a crash leaves behind letters that were kept: each of these is found, and all but the last of them have
-/// just their own lines; that one's lines begin with its own.
+/// Whatever bytes a crash leaves behind letters that were kept: each of these is found, and all but the last of them
+/// have just their own lines; that one's lines begin with its own.
 pub fn kept_letters_are_found()
     ensures { (letters : List Letter) (last : Letter) (bytes : List ℕ) → AreLetters letters → IsLetter last
         → (gained : Lines) × (further : List Lines)
@@ -69,11 +70,12 @@ pub fn kept_letters_are_found()
         ≡ map own_lines letters ++ (own_lines last ++ gained) ∷ further) }
 {}
 
-/// However often crashes leave any bytes behind those that were kept, and the next letters are added there: in a mailbox
-/// that had no bytes at first each letter that was added is found, once and in its order, and begins with all its
-/// lines. Only the last one before such bytes gains lines by them.
+/// However often crashes leave any bytes behind those that were kept, and the next letters are added there: in a
+/// mailbox that had no bytes at first each letter that was added is found, once and in its order, and begins with all
+/// its lines. Only the last one before such bytes gains lines by them.
 pub fn spoilt_are_found()
-    ensures { (moves : List Move) (new : List ℕ) → AreWhole moves → MovesLeave moves [] new → AreFound moves (found new) }
+    ensures { (moves : List Move) (new : List ℕ) → AreWhole moves → MovesLeave moves [] new
+        → AreFound moves (found new) }
 {}
 
 /// A copy's turn that stores adds the copy's letter, and one that is cut off leaves bytes as a crash does.
@@ -83,4 +85,15 @@ pub fn turns_are_moves()
         → IsLetter (letter_of calendar site note) × MoveLeaves (Adds (letter_of calendar site note)) old new }
     ensures torn { (calendar : Calendar) (site : Site) (note : Note) (old new : List ℕ)
         → StepLeaves calendar site (Tears note) old new → (bytes : List ℕ) × MoveLeaves (Spoils bytes) old new }
+{}
+
+/// After any number of lives, each of which ends with any bytes behind those that were kept: each copy that was told
+/// Stored is found, once, in the order of the turns, and begins with all its lines. Only the last one before a turn
+/// that broke, or before a life's end, gains lines, and only there further letters are found.
+pub fn spoilt_lives_are_found()
+    ensures are { (calendar : Calendar) (site : Site) (lives : List SpoiltLife) (new : List ℕ) → IsOneLine site.host
+        → AllByRecursion IsMailed (all_taken lives) → HaveLivedSpoilt calendar site lives [] new
+        → AreFound (lives_moves calendar site lives) (found new) }
+    ensures told { (calendar : Calendar) (site : Site) (lives : List SpoiltLife)
+        → added_in (lives_moves calendar site lives) ≡ map (letter_of calendar site) (all_told lives) }
 {}
