@@ -1,13 +1,13 @@
 -- Lives after which any bytes may stand behind those that were kept.
-use Rattle.std.proofs.Common.{◌≡◌, ℕ, List, [], ◌∷◌, ◌++◌, map, Option, refl, sym, ap, ◌∙◌, subst, append-nil}
+use Rattle.std.proofs.Common.{◌≡◌, ℕ, List, [], ◌∷◌, ◌++◌, map, Option, refl, sym, ap, ◌∙◌, subst, append_assoc, append-nil, drop}
 use Rattle.std.specs.List.{AllByRecursion}
 use Rattle.std.proofs.lemmas.List.{append_cancel_left, map-append}
 use Rattle.std.proofs.lemmas.Grind.{flat_map-append}
 use Rattle.mail_world.specs.declared.Note.{Note}
 use Rattle.mail_world.specs.declared.Outcome.{Outcome}
 use Rattle.mail_world.specs.declared.Outcome.TheVariants.{Stored, Failed, OverQuota, NoRoom, TooLarge, Malformed}
-use Rattle.mail_world.specs.Endings.{mended}
-use Rattle.mail_world.specs.Reading.{Letter, IsMailed, letter_of}
+use Rattle.mail_world.specs.Endings.{ending, mends, mended}
+use Rattle.mail_world.specs.Reading.{Letter, IsLetter, AreLetters, IsMailed, letter_of, letter_text, written}
 use Rattle.mail_world.specs.Records.{Calendar, record_of}
 use Rattle.mail_world.specs.Site.{Site}
 use Rattle.mail_world.specs.Text.{IsOneLine}
@@ -16,7 +16,10 @@ use Rattle.mail_lives.specs.Lives.{if_stored, stored_of}
 use Rattle.mail_lives.specs.Spoils.{Lines, own_lines, found, Move, Adds, Spoils, MovesLeave, AreWhole, MayGain, AreFound}
 use Rattle.mail_lives.specs.SpoiltLives.{SpoiltLife, TurnKeeps, TurnsKeep, HaveLivedSpoilt}
 use Rattle.mail_lives.specs.SpoiltLives.{turn_moves, turns_moves, moves_of, lives_moves, all_taken, all_told, if_adds, added_in}
+use Rattle.mail_world.proofs.Endings.{ending-append}
 use Rattle.mail_lives.proofs.Lists.{all_front, all_back}
+use Rattle.mail_lives.proofs.Mending.{begins_anew}
+use Rattle.mail_lives.proofs.Bodies.{whole_ends}
 use Rattle.mail_lives.proofs.Spoilt.{letters_found, stored_adds}
 
 -- ---- moves that are alike but for the bytes of those that spoil
@@ -146,13 +149,38 @@ module _ (calendar : Calendar) (site : Site) (one : IsOneLine site.host) where
       (lives_go lives (kept ++ life.spoilt) new (all_back IsMailed life.taken (all_taken lives) mailed)
       (record { are = lived.are.1; keep = keep.2 }))
 
-pub lives_found : (calendar : Calendar) (site : Site) (lives : List SpoiltLife) (new : List ℕ) → IsOneLine site.host
-    → AllByRecursion IsMailed (all_taken lives) → HaveLivedSpoilt calendar site lives [] new
-    → AreFound (lives_moves calendar site lives) (found new)
-lives_found calendar site lives new one mailed lived =
-    let goes = lives_go calendar site one lives [] new mailed lived in
-    alike_found goes.real (lives_moves calendar site lives) (found new) goes.alike
-    (letters_found goes.real new goes.whole goes.leave)
+-- ---- letters that were there at first
+
+clean_next : (letter : Letter) (old : List ℕ) → IsLetter letter → mended old ≡ [] → mended (old ++ letter_text letter) ≡ []
+clean_next letter old is clean =
+    ap mends (ending-append _ old (letter_text letter) ∙ begins_anew (ending old) (drop 1 (letter_text letter)) clean ∙ whole_ends letter is)
+
+letters_go : (letters : List Letter) (old : List ℕ) → AreLetters letters → mended old ≡ []
+    → Goes (map Adds letters) old (old ++ written letters)
+letters_go [] old are clean = stay old (old ++ []) (append-nil old)
+letters_go (letter ∷ letters) old are clean =
+    let next : List ℕ = old ++ letter_text letter in
+    let ih = letters_go letters next are.1 (clean_next letter old are.0 clean) in record {
+      real = Adds letter ∷ ih.real;
+      leave = (
+        next,
+        ap (λ (m : List ℕ). old ++ (m ++ letter_text letter)) (sym clean),
+        subst (λ (t : List ℕ). MovesLeave ih.real next t) (append_assoc old (letter_text letter) (written letters)) ih.leave,
+      );
+      whole = (are.0, ih.whole);
+      alike = (refl, ih.alike);
+    }
+
+pub lives_found : (calendar : Calendar) (site : Site) (lives : List SpoiltLife) (letters : List Letter) (new : List ℕ)
+    → IsOneLine site.host → AllByRecursion IsMailed (all_taken lives) → AreLetters letters
+    → HaveLivedSpoilt calendar site lives (written letters) new
+    → AreFound (map Adds letters ++ lives_moves calendar site lives) (found new)
+lives_found calendar site lives letters new one mailed are lived =
+    let moves : List Move = map Adds letters ++ lives_moves calendar site lives in
+    let goes : Goes moves [] new =
+    go_both (map Adds letters) (lives_moves calendar site lives) [] (written letters) new (letters_go letters [] are refl)
+    (lives_go calendar site one lives (written letters) new mailed lived) in
+    alike_found goes.real moves (found new) goes.alike (letters_found goes.real new goes.whole goes.leave)
 
 -- ---- what they add is what was told
 

@@ -87,13 +87,15 @@ pub fn turns_are_moves()
         → StepLeaves calendar site (Tears note) old new → (bytes : List ℕ) × MoveLeaves (Spoils bytes) old new }
 {}
 
-/// After any number of lives, each of which ends with any bytes behind those that were kept: each copy that was told
-/// Stored is found, once, in the order of the turns, and begins with all its lines. Only the last one before a turn
-/// that broke, or before a life's end, gains lines, and only there further letters are found.
+/// After any number of lives, each of which ends with any bytes behind those that were kept: each letter that was there
+/// at first and after them each copy that was told Stored is found, once, in the order of the turns, and begins with
+/// all its lines. Only the last one before a turn that broke, or before a life's end, gains lines, and only there
+/// further letters are found.
 pub fn spoilt_lives_are_found()
-    ensures are { (calendar : Calendar) (site : Site) (lives : List SpoiltLife) (new : List ℕ) → IsOneLine site.host
-        → AllByRecursion IsMailed (all_taken lives) → HaveLivedSpoilt calendar site lives [] new
-        → AreFound (lives_moves calendar site lives) (found new) }
+    ensures are { (calendar : Calendar) (site : Site) (lives : List SpoiltLife) (letters : List Letter) (new : List ℕ)
+        → IsOneLine site.host → AllByRecursion IsMailed (all_taken lives) → AreLetters letters
+        → HaveLivedSpoilt calendar site lives (written letters) new
+        → AreFound (map Adds letters ++ lives_moves calendar site lives) (found new) }
     ensures told { (calendar : Calendar) (site : Site) (lives : List SpoiltLife)
         → added_in (lives_moves calendar site lives) ≡ map (letter_of calendar site) (all_told lives) }
 {}
