@@ -1,6 +1,6 @@
 """Whether mailboxes have the letters that clients were told of: each whole, once and in its client's order, as git,
-Python and Dovecot's IMAP read them. Letters that nobody was told of, torn ones too, may stand between them. The one that
-was told last before a power cut may have gained lines: it begins with all its own."""
+Python and Dovecot's IMAP read them. Letters that nobody was told of, torn ones too, may stand between them. The one
+that was told last before a power cut may have gained lines: it begins with all its own."""
 
 import collections
 import pathlib
