@@ -153,8 +153,11 @@ class Beside:
         print(f"still there {len(found)}, deleted by {each};", end=" ")
         faults = {"lost": lost, "doubled": doubled, "torn": torn, "back": back, "stray": stray}
         print(", ".join(f"{fault} {len(letters)}" for fault, letters in faults.items()), end="; ")
-        # one that the server wrote once has one id, however often readers copied it
-        faults["doubled"] = [(one, ids_of(self.path.read_bytes(), one)) for one in doubled]
+        # one that the server wrote once has one id, however often readers copied it, as mutt does beside another
+        ids = {one: ids_of(self.path.read_bytes(), one) for one in doubled}
+        copied = [one for one in doubled if self.misread and is_one_id(ids[one])]
+        print(f"one id twice {len(copied)};", end=" ")
+        faults["doubled"] = [(one, ids[one]) for one in doubled if one not in copied]
         print(*(f"{who} misread {count}, {count_of(missing, who)} missing" for who, count in self.misread.items()))
         equal(faults, dict.fromkeys(faults, []))
         in_use = [f"lmtpd: anna in use {len(self.refused)}"] * bool(self.refused)
@@ -176,6 +179,11 @@ def ids_of(text, subject):
     """The ids that the server wrote into the letters of that subject."""
     heads = [letter.partition(b"\n\n")[0] for letter in split(text) if subject_of(letter) == subject]
     return [found[1].decode() if (found := ID.search(head)) else None for head in heads]
+
+
+def is_one_id(ids):
+    """Whether these are one that stands there more than once."""
+    return len(ids) > 1 and len(set(ids)) == 1 and None not in ids
 
 
 def whole_of(text):
