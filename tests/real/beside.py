@@ -18,7 +18,7 @@ import time
 
 from cases import equal
 from clients import Client
-from replies import not_stored, stored
+from replies import BUSY, not_stored, stored
 from server import run
 from service import FOLDER, SERVER_USER, Service
 
@@ -51,6 +51,7 @@ class Beside:
         self.home = self.made(folder / "home")
         self.path = FOLDER / "anna.mbox"
         self.told, self.refused, self.deleted = [], [], collections.Counter()
+        self.busy = []  # for which the mailbox was busy, so that they weren't taken
         self.deleted_by = collections.Counter()
         # by reader: what it saved of the letters that it deleted and isn't theirs
         self.misread = collections.Counter()
@@ -118,10 +119,10 @@ class Beside:
                 whose = readers[(count + number) % len(readers)] if (count + number) % NOBODYS else "nobody"
                 subject = f"for-{whose} {number}-{count}"
                 lines = [f"Subject: {subject}", "From: <carl@a.example>", "", *body_of(subject)]
-                [final] = client.deliver_at_once(["anna"], *lines)[1]
-                assert final in [stored("anna"), not_stored("anna")], final
-                is_stored = final == stored("anna")
-                (self.told if is_stored else self.refused).append(subject)
+                answers, finals = client.deliver_at_once(["anna"], *lines)
+                assert finals in [[stored("anna")], [not_stored("anna")]] or answers == [BUSY], (answers, finals)
+                is_stored = finals == [stored("anna")]
+                (self.told if is_stored else self.refused if finals else self.busy).append(subject)
                 count += 1
                 if not is_stored:
                     time.sleep(REST)
@@ -149,7 +150,8 @@ class Beside:
         back = [one for one in here if self.deleted[one] > 0]
         stray = [one for one in here | self.deleted if one not in told]
         each = ", ".join(f"{who} {count}" for who, count in sorted(self.deleted_by.items()))
-        print(f"told {len(told)}, {count_of(told, 'nobody')} of them for nobody, refused {len(self.refused)},", end=" ")
+        print(f"told {len(told)}, {count_of(told, 'nobody')} of them for nobody,", end=" ")
+        print(f"refused {len(self.refused)}, busy {len(self.busy)},", end=" ")
         print(f"still there {len(found)}, deleted by {each};", end=" ")
         faults = {"lost": lost, "doubled": doubled, "torn": torn, "back": back, "stray": stray}
         print(", ".join(f"{fault} {len(letters)}" for fault, letters in faults.items()), end="; ")
