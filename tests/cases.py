@@ -1,6 +1,6 @@
 """What the tests in Python share: each case is told by a line of its own, with its verdict (ok, FAILED, or absent for
 what this machine doesn't have), and in the end their count. A case is a function whose text is its name, or one
-comparison."""
+comparison. A case may give a text of what it saw, which its line has."""
 
 import pathlib
 import signal
@@ -38,8 +38,7 @@ def run(function):
     signal.alarm(getattr(function, "seconds", SECONDS))
     try:
         with tempfile.TemporaryDirectory() as folder:
-            function(pathlib.Path(folder))
-        verdict, why = "ok", ""
+            verdict, why = "ok", function(pathlib.Path(folder)) or ""
     except Absent as absent:
         verdict, why = "absent", str(absent)
     except Exception as fault:
@@ -62,7 +61,7 @@ def place(fault):
 
 
 def compare(name, found, expected):
-    """A case that is one comparison."""
+    """A case that is one comparison. A case may give a text of what it saw, which its line has."""
     is_same = found == expected
     tell(name, "ok" if is_same else "FAILED", "" if is_same else both(found, expected))
 

@@ -18,7 +18,7 @@ import time
 
 from cases import equal
 from clients import Client
-from replies import not_stored, stored
+from replies import BUSY, not_stored, stored
 from server import run
 from service import FOLDER, SERVER_USER, Service
 
@@ -51,6 +51,7 @@ class Beside:
         self.home = self.made(folder / "home")
         self.path = FOLDER / "anna.mbox"
         self.told, self.refused, self.deleted = [], [], collections.Counter()
+        self.busy = []  # for which the mailbox was busy, so that they weren't taken
         self.deleted_by = collections.Counter()
         # by reader: what it saved of the letters that it deleted and isn't theirs
         self.misread = collections.Counter()
@@ -118,10 +119,10 @@ class Beside:
                 whose = readers[(count + number) % len(readers)] if (count + number) % NOBODYS else "nobody"
                 subject = f"for-{whose} {number}-{count}"
                 lines = [f"Subject: {subject}", "From: <carl@a.example>", "", *body_of(subject)]
-                [final] = client.deliver_at_once(["anna"], *lines)[1]
-                assert final in [stored("anna"), not_stored("anna")], final
-                is_stored = final == stored("anna")
-                (self.told if is_stored else self.refused).append(subject)
+                answers, finals = client.deliver_at_once(["anna"], *lines)
+                assert finals in [[stored("anna")], [not_stored("anna")]] or answers == [BUSY], (answers, finals)
+                is_stored = finals == [stored("anna")]
+                (self.told if is_stored else self.refused if finals else self.busy).append(subject)
                 count += 1
                 if not is_stored:
                     time.sleep(REST)
@@ -149,12 +150,16 @@ class Beside:
         back = [one for one in here if self.deleted[one] > 0]
         stray = [one for one in here | self.deleted if one not in told]
         each = ", ".join(f"{who} {count}" for who, count in sorted(self.deleted_by.items()))
-        print(f"told {len(told)}, {count_of(told, 'nobody')} of them for nobody, refused {len(self.refused)},", end=" ")
+        print(f"told {len(told)}, {count_of(told, 'nobody')} of them for nobody,", end=" ")
+        print(f"refused {len(self.refused)}, busy {len(self.busy)},", end=" ")
         print(f"still there {len(found)}, deleted by {each};", end=" ")
         faults = {"lost": lost, "doubled": doubled, "torn": torn, "back": back, "stray": stray}
         print(", ".join(f"{fault} {len(letters)}" for fault, letters in faults.items()), end="; ")
-        # one that the server wrote once has one id, however often readers copied it
-        faults["doubled"] = [(one, ids_of(self.path.read_bytes(), one)) for one in doubled]
+        # one that the server wrote once has one id, however often readers copied it, as mutt does beside another
+        ids = {one: ids_of(self.path.read_bytes(), one) for one in doubled}
+        copied = [one for one in doubled if self.misread and is_one_id(ids[one])]
+        print(f"one id twice {len(copied)};", end=" ")
+        faults["doubled"] = [(one, ids[one]) for one in doubled if one not in copied]
         print(*(f"{who} misread {count}, {count_of(missing, who)} missing" for who, count in self.misread.items()))
         equal(faults, dict.fromkeys(faults, []))
         in_use = [f"lmtpd: anna in use {len(self.refused)}"] * bool(self.refused)
@@ -176,6 +181,11 @@ def ids_of(text, subject):
     """The ids that the server wrote into the letters of that subject."""
     heads = [letter.partition(b"\n\n")[0] for letter in split(text) if subject_of(letter) == subject]
     return [found[1].decode() if (found := ID.search(head)) else None for head in heads]
+
+
+def is_one_id(ids):
+    """Whether these are one that stands there more than once."""
+    return len(ids) > 1 and len(set(ids)) == 1 and None not in ids
 
 
 def whole_of(text):

@@ -81,7 +81,8 @@ class ByMutt:
 
 class ByMuttBesideOthers(ByMutt):
     """mutt where another program rewrites the mailbox too: it reads the letters that it saves from where they stood
-    when it opened the mailbox, without a lock, and so saves other text in their place, whoever delivers (2.2.12)."""
+    when it opened the mailbox, without a lock, and so saves other text in their place, whoever delivers (2.2.12). It
+    may also write a letter twice: with one id of the server's, which is looked at."""
 
     def asked_for(self, who, saved):
         own = {one for one in whole_of(saved) if reader_of(one) == who and not self.beside.deleted[one]}

@@ -1,11 +1,13 @@
 """Whether mailboxes have the letters that clients were told of: each whole, once and in its client's order, as git,
-Python and Dovecot's IMAP read them. Letters that nobody was told of, torn ones too, may stand between them."""
+Python and Dovecot's IMAP read them. Letters that nobody was told of, torn ones too, may stand between them. The one
+that was told last before a power cut may have gained lines: it begins with all its own."""
 
 import collections
 import pathlib
 import re
 import shutil
 import tempfile
+from typing import NamedTuple
 
 import letters
 from cases import equal
@@ -22,14 +24,11 @@ TRACE = re.compile(
 )
 
 
-# Bytes that were never written: where the power goes ext4 may leave a file longer than what it has of it, and reads NUL
-# there (Dovecot shows 0x80). They stand after a letter that was told, and so does what was kept behind them.
-UNWRITTEN = re.compile(rb"(?<=\n)\n[\0\x80].*\Z", re.DOTALL)
-
-
-def judge(held, told, unwritten=False):
+def judge(held, told, first_after=()):
     """Of each mailbox the bytes that it holds, once a server has stored a last letter there, and the messages that were
-    told 250, of each client in its order. With `unwritten` a letter may have gained bytes that were never written."""
+    told 250, of each client in its order; then those of them that were the first ones told after a power cut. Says of
+    each mailbox which messages gained lines, as git has them: each was the last one told before a cut."""
+    gained = {}
     with tempfile.TemporaryDirectory() as place:
         folder = pathlib.Path(place)
         with Dovecot(folder, folder / "inbox") as dovecot, dovecot.login() as client:
@@ -39,19 +38,41 @@ def judge(held, told, unwritten=False):
                 shutil.chown(path, "mail", "mail")
                 found = {"git": with_from_line(letters.by_git(path)), "Python": with_from_line(letters.by_python(path))}
                 found["Dovecot"] = filter(None, map(message_of, by_dovecot(client, name)))
-                for reader, messages in found.items():
-                    own = [UNWRITTEN.sub(b"", one) if unwritten else one for one in messages]
-                    equal((name, reader, faults_of(own, told[name])), (name, reader, {}))
+                whole = {reader: whole_ones(messages, told[name]) for reader, messages in found.items()}
+                for reader, ones in whole.items():
+                    equal((name, reader, faults_of(ones, told[name], first_after)), (name, reader, {}))
+                gained[name] = [one.message for one in whole["git"] if one.more]
+    return gained
 
 
-def faults_of(found, told):
+class Whole(NamedTuple):
+    """A letter in which a message that was told stands whole."""
+
+    message: bytes
+    more: bytes  # the lines behind it, which it gained
+
+
+def whole_ones(found, told):
+    """Those of the letters found. Each message has a first line of its own."""
+    by_first_line = {first_line(message): message for message in told}
+    wanted = [(text, by_first_line.get(first_line(text))) for text in found]
+    return [Whole(one, text[len(one) :]) for text, one in wanted if one and (text + b"\n").startswith(one + b"\n")]
+
+
+def faults_of(whole, told, first_after):
     """What is wrong with the whole letters that a reader found, by the first line of each."""
-    times = collections.Counter(found)
+    messages = [one.message for one in whole]
+    times = collections.Counter(messages)
     faults = {"lost": [one for one in told if not times[one]], "doubled": [one for one in told if times[one] > 1]}
-    wanted = set(told)
-    if not any(faults.values()) and by_client(one for one in found if one in wanted) != by_client(told):
+    if not any(faults.values()) and by_client(messages) != by_client(told):
         faults["out of order"] = told
-    return {fault: [one.partition(b"\n")[0] for one in messages] for fault, messages in faults.items() if messages}
+    after = [*messages[1:], None]
+    faults["changed"] = [one.message for one, then in zip(whole, after) if one.more and then not in first_after]
+    return {fault: [first_line(one) for one in ones] for fault, ones in faults.items() if ones}
+
+
+def first_line(text):
+    return text.partition(b"\n")[0]
 
 
 def by_client(messages):

@@ -1,9 +1,14 @@
 """A server is killed within its write of a record, or crashes at any moment of a turn, and five readers take what the next
-one made of it."""
+one made of it; where formail is installed it is a sixth, for which a From line without a head is a line of the letter
+before it."""
 
 import contextlib
+import os
+import pathlib
 import re
 import shutil
+import subprocess
+import tempfile
 
 import crashes
 import letters
@@ -17,7 +22,8 @@ from told_letters import by_dovecot
 LAST = 8  # bytes of the record, at each of which the server is killed
 # What mutt adds to a letter that it copies.
 OF_MUTT = re.compile(rb"^(?:Content-Length|Lines): \d+\n", re.MULTILINE)
-LENGTH = re.compile(rb"^Content-Length: (\d+)$", re.MULTILINE)
+# In a head with NULs it writes that within a line.
+LENGTH = re.compile(rb"Content-Length: (\d+)$", re.MULTILINE)
 
 
 @case
@@ -49,7 +55,18 @@ def five_readers_after_each_crash(folder):
             turn(place, readers)
 
 
-five_readers_after_each_crash.seconds = 900
+@case
+def five_readers_after_bytes_unwritten(folder):
+    """what a crash leaves where a file grew by a record of which not each byte was written, and NULs stand there: then
+    the five find that the last told letter begins with its own lines, those before it unchanged and the next one
+    whole"""
+    need_root()
+    folder.chmod(0o755)
+    with five_readers(folder) as readers:
+        crashes.with_bytes_unwritten(folder, readers)
+
+
+five_readers_after_each_crash.seconds = five_readers_after_bytes_unwritten.seconds = 900
 five_readers_after_a_cut.seconds = five_readers_after_a_first_cut.seconds = 240
 
 
@@ -67,13 +84,14 @@ def cut_and_read(folder, told):
 
 @contextlib.contextmanager
 def five_readers(folder):
-    """The check is the fifth."""
+    """The check is the fifth; formail is one more where it is installed."""
     mutt = Mutt(folder, {})
     with Dovecot(folder, folder / "inbox") as dovecot, dovecot.login() as client:
         home = dovecot.folder / "home"
         by_mutt = Reader(lambda path: copied_by(mutt, path))
         by_imap = Reader(lambda path: by_dovecot(client, put(path, home)), without_from_line)
-        yield READERS | {"mutt": by_mutt, "Dovecot": by_imap}
+        found = READERS | {"mutt": by_mutt, "Dovecot": by_imap}
+        yield found | ({"formail": Reader(by_formail, joins=True)} if shutil.which("formail") else {})
 
 
 def copied_by(mutt, path):
@@ -81,9 +99,23 @@ def copied_by(mutt, path):
     copied = mutt.copy(path)
     while copied:
         head, _, rest = copied.removeprefix(b"From ").partition(b"\n\n")
+        if b"\nFrom " in head:
+            # of a head with NULs it copies no more than stands before them, and no empty line
+            yield head.partition(b"\nFrom ")[0] + b"\n"
+            copied = copied[copied.find(b"\nFrom ") + 1 :]
+            continue
         length = int(LENGTH.search(head)[1])
         body, copied = rest[:length], rest[length:].removeprefix(b"\n")
         yield letters.unquoted(OF_MUTT.sub(b"", head + b"\n") + (b"\n" + body if body else b""))
+
+
+def by_formail(path):
+    with tempfile.TemporaryDirectory() as folder, path.open("rb") as file:
+        words = ["formail", "-s", "sh", "-c", 'cat > "$0/$FILENO"', folder]
+        subprocess.run(words, stdin=file, check=True)
+        for name in sorted(os.listdir(folder)):
+            # it leaves the quoting, and the empty line after the letter
+            yield letters.unquoted(pathlib.Path(folder, name).read_bytes().removeprefix(b"From ").removesuffix(b"\n"))
 
 
 def put(path, home):

@@ -99,14 +99,17 @@ class Client:
         return asked[1:], [self.hear() for _ in accepted]
 
     def deliver_at_once(self, recipients, *lines):
-        """As `deliver`, with the commands up to DATA in one write."""
+        """As `deliver`, with the commands up to DATA in one write. Where no recipient is taken there is no data."""
         commands = ["MAIL FROM:<carl@a.example>"]
         commands += [f"RCPT TO:<{recipient}@mx.example>" for recipient in recipients]
         self.send(*commands, "DATA")
         asked = [self.hear() for _ in commands]
-        assert self.hear().startswith("354 ")
-        self.send(*lines, ".")
         accepted = [answer for answer in asked[1:] if answer.startswith("250 ")]
+        assert self.hear().startswith("354 " if accepted else "503 ")
+        if not accepted:
+            assert self.ask("RSET").startswith("250 ")
+            return asked[1:], []
+        self.send(*lines, ".")
         return asked[1:], [self.hear() for _ in accepted]
 
     def quit(self):

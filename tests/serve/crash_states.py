@@ -39,11 +39,20 @@ def crashed_after_a_rename(folder):
     crashes.after_a_rename(folder, READERS)
 
 
+@case
+def crashed_with_bytes_unwritten(folder):
+    """what a crash leaves where a file grew by a record of which not each byte was written: NULs stand in place of
+    some, and any part of what was handed on behind them: the last told letter begins with its own lines, those before
+    it are unchanged, and the next one is whole, also beside an empty lock file that is older than five minutes"""
+    crashes.with_bytes_unwritten(folder, READERS)
+
+
 for it in (
     crashed_in_a_new_mailbox,
     crashed_after_a_told_letter,
     crashed_after_a_torn_tail,
     crashed_in_a_turn_that_breaks,
     crashed_after_a_rename,
+    crashed_with_bytes_unwritten,
 ):
     it.seconds = 180

@@ -4,13 +4,18 @@ letter is delivered, and readers look for what was told.
 
 Of a file's bytes those that were synced are there, and any prefix of what was appended since. A cut that wasn't synced
 may not be there. Which file a path names is sure once the folder was synced after it; until then the path may name what
-it named before, or nothing. A lock file may be there or not."""
+it named before, or nothing. A lock file may be there or not.
+
+One more thing was seen on that file system, and stands in a case of its own: a file that grew may be as long as it was
+to be, and NULs stand in place of what wasn't written, up to the end of a block or of the file."""
 
 import contextlib
+import os
 import re
 import shutil
 import socket
 import subprocess
+import time
 from typing import NamedTuple
 
 from cases import Absent, equal
@@ -23,6 +28,8 @@ from written import until_it_looks
 CALLS = "openat,write,ftruncate,fdatasync,fsync,link,linkat,unlink,unlinkat,rename,renameat"
 LINE = re.compile(r"(\w+)\((.*)\)\s+= (-?\d+)(?:<.*>)?(?: E.*| \(INJECTED\))?")
 AT_ONCE = 250  # mailboxes of one server
+BLOCK = 4_096  # bytes of a block of ext4 and xfs
+OLD = 301  # seconds after which a lock file goes that names no process
 LOCK = b"%d:" + socket.gethostname().encode()  # a lock file names its process and host
 
 
@@ -119,7 +126,7 @@ def states_of(disk, calls, told, kept):
     return sorted(found, key=lambda it: (it[1], it[0] is not None, it[0] or b""))
 
 
-def mended_and_read(folder, states, lock, readers):
+def mended_and_read(folder, states, lock, readers, is_spoilt=False):
     """A server begins on each of these states, every second one with the lock file of one that is gone."""
     for first in range(0, len(states), AT_ONCE):
         here = folder / f"states{first}"
@@ -130,9 +137,16 @@ def mended_and_read(folder, states, lock, readers):
             if state is not None:
                 path.write_bytes(state)
             if place % 2:
-                path.with_name(f"{path.name}.lock").write_bytes(lock)
-            cuts.append(Cut(path, place, told, state or b""))
+                leave_lock(path.with_name(f"{path.name}.lock"), lock)
+            cuts.append(Cut(path, place, told, state or b"", is_spoilt))
         judge(cuts, deliver_after(here, cuts), readers)
+
+
+def leave_lock(path, text):
+    path.write_bytes(text)
+    if not text:
+        then = time.time() - OLD
+        os.utime(path, (then, then))
 
 
 def crashed_everywhere(folder, readers, begun, *words, answer=stored, other=(), told=b"", kept=True, put=None):
@@ -194,3 +208,23 @@ def in_a_turn_that_breaks(folder, readers):
 def after_a_rename(folder, readers):
     first, old = record(folder, ["Subject: first", "", "a"]), record(folder, TOLD)
     crashed_everywhere(folder, readers, old + first, other=[old + first], told=old, put=old)
+
+
+def with_bytes_unwritten(folder, readers):
+    old = record(folder, ["Subject: first", "", "a"]) + record(folder, TOLD)
+    states = sorted(set(spoilt_states(old, record(folder, TORN))))
+    mended_and_read(folder, [(state, old) for state in states], b"", readers, is_spoilt=True)
+
+
+def spoilt_states(old, text):
+    """What a file may hold that grew by this record, of which not each byte was written: some of it was kept, NULs
+    follow, and then there is nothing more, or some of what a later block was to hold, wherever that begins."""
+    places = range(len(text) + 1)
+    head = text.find(b"\n") + 1
+    for kept in places:
+        yield old + text[:kept].ljust(len(text), b"\0")
+        yield (old + text[:kept]).ljust(2 * BLOCK, b"\0")
+    for kept in [0, 1, 5, len(b"From carl@a.ex"), head, len(text) // 2]:
+        for begin in range(kept + 1, len(text), 7):
+            for end in [begin + 1, begin + 20, len(text)]:
+                yield old + text[:kept].ljust(begin, b"\0") + text[begin:end]

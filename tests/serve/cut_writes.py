@@ -31,6 +31,7 @@ class Cut(NamedTuple):
     place: int  # how many bytes of what was to be written stand there
     before: bytes  # what stood there when the last letter was told, or nothing
     torn: bytes  # what the kill left
+    is_spoilt: bool = False  # bytes that nobody wrote may stand behind the last told letter, as lines of it
 
     @property
     def told(self):
@@ -48,6 +49,7 @@ class Reader(NamedTuple):
 
     letters_of: Callable  # those that it finds at a path
     shown: Callable = bytes  # what it shows of a letter
+    joins: bool = False  # takes what is torn for lines of the letter before it
 
 
 READERS = {"git": Reader(letters.by_git), "Python": Reader(letters.by_python)}
@@ -128,7 +130,8 @@ def faults_of(cut, said, readers):
         yield "the next letter"
     for name, reader in readers.items():
         told = [reader.shown(text) for text in cut.told]
-        if not is_right(read_by(reader, cut.path), told, reader.shown(then)):
+        may_gain = cut.is_spoilt or reader.joins
+        if not is_right(read_by(reader, cut.path), told, reader.shown(then), may_gain):
             yield name
     count = said.removeprefix("letters ")
     if not count.isdigit() or not 1 <= int(count) - len(cut.told) <= 1 + MOST_TORN:
@@ -143,14 +146,24 @@ def read_by(reader, path):
         return []
 
 
-def is_right(texts, told, then):
-    """Whether a reader finds what was told, then what is torn, and then the next one."""
+def is_right(texts, told, then, may_gain):
+    """Whether a reader finds what was told, of which the last one may have gained lines, then what is torn, and then
+    the next one."""
     count = len(texts) - len(told) - 1
-    return texts[: len(told)] == told and texts[-1:] == [then] and 0 <= count <= MOST_TORN
+    found = texts[: len(told)]
+    if told and may_gain and count >= 0 and begins_so(found[-1], told[-1]):
+        found = [*found[:-1], told[-1]]
+    return found == told and texts[-1:] == [then] and 0 <= count <= MOST_TORN
+
+
+def begins_so(text, lines):
+    """Whether a text begins with these lines."""
+    return (text + b"\n").startswith(lines)
 
 
 def judge(cuts, said, readers):
-    """Each told letter is unchanged and the next one whole, for each reader, and no byte is lost."""
+    """Each told letter is unchanged, but for lines that the last one gained where the mailbox is spoilt, and the next
+    one whole, for each reader, and no byte is lost."""
     wrong = {}
     for cut, line in zip(cuts, said, strict=True):
         for name in faults_of(cut, line, readers):

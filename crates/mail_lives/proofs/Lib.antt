@@ -2,6 +2,9 @@ pub mod Lists
 pub mod Mending
 pub mod Bodies
 pub mod Torn
+pub mod Cuts
+pub mod Spoilt
+pub mod SpoiltLives
 pub mod Stepping
 pub mod Lived
 pub mod Alone

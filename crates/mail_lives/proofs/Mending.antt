@@ -99,7 +99,7 @@ mended_in_part bytes q rest h =
     ∙ ap (λ t. bytes ++ t) (sym h)
 
 -- where a letter may begin, it doesn't matter what is before
-begins_anew : (e : Ending) (bytes : List ℕ) → mends e ≡ [] → ending_from e (byte "F" ∷ bytes) ≡ ending (byte "F" ∷ bytes)
+pub begins_anew : (e : Ending) (bytes : List ℕ) → mends e ≡ [] → ending_from e (byte "F" ∷ bytes) ≡ ending (byte "F" ∷ bytes)
 begins_anew Empty bytes h = refl
 begins_anew (Begun F) bytes h = cc
 begins_anew (Begun Fr) bytes h = cc
@@ -127,7 +127,7 @@ in_pick false e e' h k = k
 in_other : (b : ℕ) → (b == lf) ≡ false → IsInText (in_line b)
 in_other b h = rw h tt
 
-next_in : (e : Ending) (b : ℕ) → (b == lf) ≡ false → IsInText (next e b)
+pub next_in : (e : Ending) (b : ℕ) → (b == lf) ≡ false → IsInText (next e b)
 next_in Empty b h = in_pick (b == byte "F") (Begun F) (in_line b) tt (in_other b h)
 next_in (Begun F) b h = in_pick (b == byte "r") (Begun Fr) (in_line b) tt (in_other b h)
 next_in (Begun Fr) b h = in_pick (b == byte "o") (Begun Fro) (in_line b) tt (in_other b h)

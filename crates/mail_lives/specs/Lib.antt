@@ -4,3 +4,5 @@ pub mod Steps
 pub mod Rows
 pub mod Lives
 pub mod ReadBack
+pub mod Spoils
+pub mod SpoiltLives

@@ -1,15 +1,19 @@
 //! Laws of the definitions: each is the contract of a function with an empty body.
 
-ghost use Rattle.std.specs.Prelude.{◌≡◌, ℕ, ◌*◌, ◌≤◌, List, ◌++◌, map};
+ghost use Rattle.std.specs.Prelude.{◌≡◌, ℕ, ◌*◌, ◌≤◌, List, [], ◌∷◌, ◌++◌, map};
 ghost use Rattle.std.specs.List.{AllByRecursion};
+ghost use Rattle.mail_world.specs.declared.Note.{Note};
 ghost use Rattle.mail_world.specs.Text.{IsOneLine};
 ghost use Rattle.mail_world.specs.Prefixes.{IsPrefix};
 ghost use Rattle.mail_world.specs.Records.{Calendar};
-ghost use Rattle.mail_world.specs.Reading.{Letter, IsMailed, letter_of};
+ghost use Rattle.mail_world.specs.Reading.{Letter, IsLetter, AreLetters, IsMailed, letter_of, letter_text, written};
 ghost use Rattle.mail_lives.specs.ReadAs.{IsReadAs};
-ghost use Rattle.mail_lives.specs.Steps.{Step, StepsLeave, StepsComeTo, IsMailedStep};
+ghost use Rattle.mail_lives.specs.Steps.{Step, Stores, Tears, StepLeaves, StepsLeave, StepsComeTo, IsMailedStep};
 ghost use Rattle.mail_lives.specs.Lives.{Life, HaveLived, lives_steps, taken_through, told_through, broken_through};
 ghost use Rattle.mail_lives.specs.ReadBack.{stored_in, torn_in, LeavesAlone, StandAmong, left_through, IsReadBack};
+ghost use Rattle.mail_lives.specs.Spoils.{Lines, own_lines, Move, Adds, Spoils, MoveLeaves, AreWhole, MovesLeave};
+ghost use Rattle.mail_lives.specs.Spoils.{AreFound, found};
+ghost use Rattle.mail_lives.specs.SpoiltLives.{SpoiltLife, HaveLivedSpoilt, lives_moves, all_taken, all_told, added_in};
 ghost use Rattle.mail_world.specs.Site.{Site};
 
 /// Whatever is stored, torn, or left by others, in whatever order: a mailbox that is read as letters is so afterwards,
@@ -55,4 +59,43 @@ pub fn letters_stay()
     ensures stored { (calendar : Calendar) (site : Site) (steps : List Step) (old new : List Letter)
         → StepsComeTo calendar site steps old new
         → AllByRecursion (IsReadBack calendar site steps old new) (stored_in steps) }
+{}
+
+/// Whatever bytes a crash leaves behind letters that were kept: each of these is found, and all but the last of them
+/// have just their own lines; that one's lines begin with its own.
+pub fn kept_letters_are_found()
+    ensures { (letters : List Letter) (last : Letter) (bytes : List ℕ) → AreLetters letters → IsLetter last
+        → (gained : Lines) × (further : List Lines)
+        × (found (written letters ++ (letter_text last ++ bytes))
+        ≡ map own_lines letters ++ (own_lines last ++ gained) ∷ further) }
+{}
+
+/// However often crashes leave any bytes behind those that were kept, and the next letters are added there: in a
+/// mailbox that had no bytes at first each letter that was added is found, once and in its order, and begins with all
+/// its lines. Only the last one before such bytes gains lines by them.
+pub fn spoilt_are_found()
+    ensures { (moves : List Move) (new : List ℕ) → AreWhole moves → MovesLeave moves [] new
+        → AreFound moves (found new) }
+{}
+
+/// A copy's turn that stores adds the copy's letter, and one that is cut off leaves bytes as a crash does.
+pub fn turns_are_moves()
+    ensures stored { (calendar : Calendar) (site : Site) (note : Note) (old new : List ℕ)
+        → IsOneLine site.host → IsMailed note → StepLeaves calendar site (Stores note) old new
+        → IsLetter (letter_of calendar site note) × MoveLeaves (Adds (letter_of calendar site note)) old new }
+    ensures torn { (calendar : Calendar) (site : Site) (note : Note) (old new : List ℕ)
+        → StepLeaves calendar site (Tears note) old new → (bytes : List ℕ) × MoveLeaves (Spoils bytes) old new }
+{}
+
+/// After any number of lives, each of which ends with any bytes behind those that were kept: each letter that was there
+/// at first and after them each copy that was told Stored is found, once, in the order of the turns, and begins with
+/// all its lines. Only the last one before a turn that broke, or before a life's end, gains lines, and only there
+/// further letters are found.
+pub fn spoilt_lives_are_found()
+    ensures are { (calendar : Calendar) (site : Site) (lives : List SpoiltLife) (letters : List Letter) (new : List ℕ)
+        → IsOneLine site.host → AllByRecursion IsMailed (all_taken lives) → AreLetters letters
+        → HaveLivedSpoilt calendar site lives (written letters) new
+        → AreFound (map Adds letters ++ lives_moves calendar site lives) (found new) }
+    ensures told { (calendar : Calendar) (site : Site) (lives : List SpoiltLife)
+        → added_in (lives_moves calendar site lives) ≡ map (letter_of calendar site) (all_told lives) }
 {}

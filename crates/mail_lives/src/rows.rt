@@ -5,6 +5,7 @@ ghost use Rattle.mail_world.specs.Prefixes.{IsPrefix};
 ghost use Rattle.mail_world.specs.Reading.{Letter, AreLetters, letter_text, written};
 ghost use Rattle.mail_lives.specs.ReadAs.{IsReadAs};
 ghost use Rattle.mail_lives.specs.Rows.{told, bare};
+ghost use Rattle.mail_lives.specs.Spoils.{found};
 
 /// How a mailbox is read in which a record broke off.
 pub fn torn_mailboxes()
@@ -40,4 +41,25 @@ pub fn line_ends_alone_change_letters()
     ensures changed { written (told ∷ []) ++ codes "F\n\n" ≡ written (record told { body = codes "x\n\nF\n" } ∷ []) }
     ensures none { (letters : List Letter) (more : List ℕ) → AreLetters letters
         → written letters ≡ codes "F\n\n" ++ more → ⊥ }
+{}
+
+/// What is found in a mailbox that a crash spoilt, once the next letter was added.
+pub fn spoilt_mailboxes()
+    ensures whole { found (codes "From a\nx\n\n") ≡ (codes "From a" ∷ codes "x" ∷ [] ∷ []) ∷ [] }
+
+    // NULs, and what was kept behind them: lines of the letter before.
+    ensures zeros { found (codes "From a\nx\n\n" ++ 0 ∷ 0 ∷ codes "z\n\nFrom b\ny\n\n")
+        ≡ (codes "From a" ∷ codes "x" ∷ [] ∷ (0 ∷ 0 ∷ codes "z") ∷ [] ∷ [])
+        ∷ (codes "From b" ∷ codes "y" ∷ [] ∷ []) ∷ [] }
+
+    // The From line was kept, and NULs stand in it: one more, between the two.
+    ensures begun { found (codes "From a\nx\n\nFrom c" ++ 0 ∷ codes "\n\nFrom b\ny\n\n")
+        ≡ (codes "From a" ∷ codes "x" ∷ [] ∷ []) ∷ ((codes "From c" ++ 0 ∷ []) ∷ [] ∷ [])
+        ∷ (codes "From b" ∷ codes "y" ∷ [] ∷ []) ∷ [] }
+
+    // Where no letter stood before, they are none.
+    ensures first { found (0 ∷ codes "\n\nFrom b\ny\n\n") ≡ (codes "From b" ∷ codes "y" ∷ [] ∷ []) ∷ [] }
+
+    // A line that follows no empty one begins no letter.
+    ensures within { found (codes "From a\nFrom b\n\n") ≡ (codes "From a" ∷ codes "From b" ∷ [] ∷ []) ∷ [] }
 {}
