@@ -3,10 +3,12 @@
 import contextlib
 import os
 import resource
+import socket
 import time
 
 from cases import case, equal
-from clients import Client
+from clients import Client, deliver_one
+from inherited import Inheriting, passed
 from replies import CLOSING, stored
 from server import Server
 
@@ -56,3 +58,14 @@ def a_stop_while_there_is_no_descriptor(folder):
             passed = time.monotonic() - begun
     equal((ended.status, ended.said, ended.errors), (0, ["anna stored 0"], [NO_DESCRIPTOR]))
     equal(passed < 2, True)
+
+
+@case
+def a_socket_that_listens_no_more(folder):
+    """somebody who has the server's socket too ends its listening: what was told 250 is stored, and the server ends with
+    status 1 and `lmtpd: cannot listen`"""
+    with passed() as shared, Inheriting(folder, shared, connections=5) as server:
+        equal(deliver_one(shared.getsockname(), ["anna"], "hello"), [stored("anna")])
+        shared.shutdown(socket.SHUT_RDWR)
+        ended = server.end()
+    equal((ended.status, ended.said, ended.errors), (1, ["anna stored 1"], ["lmtpd: cannot listen"]))
