@@ -45,4 +45,4 @@ from cases import run_all
 if os.environ.get("HELD_UP"):
     import not_stopped  # noqa: F401
 
-sys.exit(0 if run_all(sys.argv[1:]) else 1)
+sys.exit(run_all(sys.argv[1:]))
