@@ -41,8 +41,12 @@ trap 'rm -rf "$folder"' EXIT
 rustc -O -o "$folder/load" bench/serve/load.rs
 rustc -O -o "$folder/floor" bench/serve/floor.rs
 rustc -O -o "$folder/plain" bench/serve/plain.rs
+status=0
 if command -v cc > /dev/null; then
     cc -O2 -shared -fPIC -o "$folder/slowsync.so" bench/serve/slowsync.c
+else
+    echo 'absent: slowsync.c (cc)'
+    status=77
 fi
-case "${1:-}" in --build | --try) exit 0 ;; esac
+case "${1:-}" in --build | --try) exit $status ;; esac
 python3 -B bench/serve/rounds.py "$folder" "$@"

@@ -1,10 +1,11 @@
 #!/usr/bin/env bash
 # Each benchmark's program compiles against the crates as they stand, so that none is left behind. They are compiled
-# side by side, with checks and unproved (`bench/program`); `make benchmarks` proves and builds them.
+# side by side, with checks and unproved (`bench/program`); `make benchmarks` proves and builds them. One that leaves
+# something out says so.
 set -uo pipefail
 cd "$(dirname "$0")/.."
 . tests/needs rustc
-failed=0
+status=0
 declare -A running
 for script in bench/*.sh; do
     "$script" --try < /dev/null &
@@ -14,8 +15,8 @@ for script in "${!running[@]}"; do
     wait "${running[$script]}"
     case $? in
     0) echo "ok: $script" ;;
-    77) echo "absent: $script" ;;
-    *) failed=1 && echo "FAILED: $script" ;;
+    77) [ "$status" = 1 ] || status=77 ;;
+    *) status=1 && echo "FAILED: $script" ;;
     esac
 done
-exit $failed
+exit $status

@@ -1,6 +1,7 @@
 """What the tests in Python share: each case is told by a line of its own, with its verdict (ok, FAILED, or absent for
 what this machine doesn't have), and in the end their count. A case is a function whose text is its name, or one
-comparison. A case may give a text of what it saw, which its line has."""
+comparison. A case may give a text of what it saw, which its line has. Of a case that is left out the line says last, in
+parentheses, what is lacking, in the words by which tests/may_be_absent names it."""
 
 import pathlib
 import signal
@@ -10,10 +11,11 @@ import traceback
 CASES = []
 SECONDS = 60  # that a case may take, where it says no other number itself
 VERDICTS = []  # of those that were told
+LEFT_OUT = 77  # the status of a script in which nothing fails, and something was left out
 
 
 class Absent(Exception):
-    """Something that a case needs isn't on this machine; the text says what."""
+    """Something that a case needs isn't on this machine; the text says what: several, with commas between them."""
 
 
 def case(function):
@@ -22,11 +24,11 @@ def case(function):
 
 
 def run_all(expected):
-    """Runs the cases whose names have one of these texts, or all; says whether none failed."""
+    """Runs the cases whose names have one of these texts, or all; gives the status with which the script ends."""
     for function in CASES:
         if not expected or any(text in name_of(function) for text in expected):
             run(function)
-    return none_failed()
+    return sum_up()
 
 
 def name_of(function):
@@ -72,11 +74,11 @@ def tell(name, verdict="ok", why=""):
     print(f"{verdict}: {name}{why and f' ({why})'}", flush=True)
 
 
-def none_failed():
-    """Counts the cases that were told, and gives whether none failed."""
+def sum_up():
+    """Counts the cases that were told, and gives the status with which the script ends."""
     held, failed, absent = [VERDICTS.count(verdict) for verdict in ["ok", "FAILED", "absent"]]
     print(f"{held} of {len(VERDICTS)} cases hold, {failed} fail, {absent} left out")
-    return failed == 0
+    return 1 if failed else LEFT_OUT if absent else 0
 
 
 def equal(found, expected):

@@ -3,26 +3,15 @@
 # where it had another. Then `rt ci`: proves every crate, tries the must-fail edits and runs the program; and beside it,
 # on the cores that it leaves idle, the scripts of tests/ that need the sources alone, and the wrong bodies that are
 # tried at once, each crate's once those below it are proved. Then, over what was built, the other scripts, side by
-# side. A script that lacks something of the machine says so and ends with status 77: that is counted apart, as absent.
-# The last line counts all: 'N passed, M failed'. The benchmarks' programs are only compiled (tests/benchmarks.sh), and
-# proved by `make benchmarks`.
+# side. A script that leaves something out, for want of something of the machine, says so and ends with status 77
+# (tests/counts). The last line but one says how much was left out, and why; with CI=true it fails for what
+# tests/may_be_absent doesn't take. The last line counts all: 'N passed, M failed'. The benchmarks' programs are only
+# compiled (tests/benchmarks.sh), and proved by `make benchmarks`.
 # usage: tests/gate.sh [--scripts]: with the word only the scripts, on what stands built
 set -uo pipefail
 cd "$(dirname "$0")/.."
 export LMTPD=$PWD/crates/lmtpd/out/lmtpd
-passed=0 failed=0 absent=0
-
-# count FILE: adds the last line of `rt ci`, which counts crates, edits and the program.
-count() {
-    local line
-    line=$(tail -n 1 "$1")
-    if [[ $line =~ ^([0-9]+)\ passed,\ ([0-9]+)\ failed$ ]]; then
-        passed=$((passed + BASH_REMATCH[1])) failed=$((failed + BASH_REMATCH[2]))
-    else
-        echo "rt ci ended with: $line"
-        failed=$((failed + 1))
-    fi
-}
+. tests/counts
 
 # play SCRIPT SECONDS: runs it, for that long at most, and keeps what it said and how it ended.
 play() {
@@ -34,7 +23,7 @@ play() {
 # play_on_sources: plays those that need the sources alone, one after the other.
 play_on_sources() {
     local script
-    for script in tests/{calls,units,memory,benchmarks,wrong_bodies}.sh; do play "$script" 3600; done
+    for script in tests/{calls,units,memory,benchmarks,wrong_bodies,left_out}.sh; do play "$script" 3600; done
 }
 
 # play_at_once: plays the wrong bodies that are tried at once, on half of the cores, on all once `rt ci` has ended, and
@@ -58,17 +47,13 @@ play_others() {
 
 # count_all: says what each script said, and adds how it ended.
 count_all() {
-    local script status
+    local script name
     for script in tests/*.sh; do
         [ "$script" != tests/gate.sh ] || continue
+        name=$(basename "$script")
         echo "== $script"
-        cat "$said/$(basename "$script")"
-        status=$(cat "$said/$(basename "$script").status")
-        case $status in
-        0) passed=$((passed + 1)) ;;
-        77) absent=$((absent + 1)) && echo "absent: $script" ;;
-        *) failed=$((failed + 1)) && echo "FAILED with status $status: $script" ;;
-        esac
+        cat "$said/$name"
+        count_script "$script" "$said/$name" "$(cat "$said/$name.status")"
     done
 }
 
@@ -81,7 +66,7 @@ if [ "${1:-}" != --scripts ]; then
     play_on_sources &
     sources=$!
     rt ci 2>&1 | tee "$said/rt"
-    count "$said/rt"
+    count_rt "$said/rt"
     wait "$sources"
 fi
 if [ -x "$LMTPD" ]; then
@@ -91,6 +76,4 @@ else
     echo 'FAILED: no program was built, so no script was run'
     failed=$((failed + 1))
 fi
-[ "$absent" = 0 ] || echo "$absent not run: see 'absent' above"
-echo "$passed passed, $failed failed"
-[ "$failed" = 0 ]
+say_counts

@@ -17,7 +17,7 @@ import sys
 import tempfile
 import time
 
-from cases import compare, none_failed
+from cases import compare, sum_up
 
 TEST = pathlib.Path("crates/mbox_letters/src/reading/tests.rt.in")
 DATE = b"Thu Jan  1 00:00:00 1970"
@@ -121,7 +121,7 @@ def main():
         constant = TEST.read_bytes().split(b'const PYTHON: &[u8] = b"', 1)[1].split(b'";', 1)[0]
         written = of_python(os.path.join(folder, "python"))
         compare("the test of read_mailbox takes what Python's mailbox writes", constant, written)
-    sys.exit(0 if none_failed() else 1)
+    sys.exit(sum_up())
 
 
 main()

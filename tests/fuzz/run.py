@@ -13,6 +13,7 @@ import time
 
 import conversations
 import replies
+from cases import sum_up, tell
 
 LMTPD = os.environ["LMTPD"]
 BOXES = ["anna", "ben"]
@@ -124,13 +125,14 @@ def main(cases, seed):
             if time.monotonic() - began > MOST_SECONDS:
                 break
     took = time.monotonic() - began
-    print(f"ok: {done} conversations, {stored} letters told Stored and read back as often, in {took:.0f} s")
+    tell(f"{done} conversations, {stored} letters told Stored and read back as often, in {took:.0f} s")
     if done < cases:
-        print(f"{cases - done} were left out, since the time was over")
+        tell(f"{cases - done} conversations", "absent", "time for all conversations")
+    return sum_up()
 
 
 try:
-    main(int(sys.argv[1]), sys.argv[2])
+    sys.exit(main(int(sys.argv[1]), sys.argv[2]))
 except Wrong as wrong:
     print(f"FAILED: {wrong}")
     sys.exit(1)

@@ -7,7 +7,7 @@ import subprocess
 import sys
 import tempfile
 
-from cases import none_failed, tell
+from cases import sum_up, tell
 from replies import CLOSING, as_bytes, stored
 
 LMTPD, LIBRARY = os.environ["LMTPD"], sys.argv[1]
@@ -213,4 +213,4 @@ try:
         in_turn("copy", copy, is_all)
 except Wrong as wrong:
     tell("refused in turn", "FAILED", str(wrong))
-sys.exit(0 if none_failed() else 1)
+sys.exit(sum_up())

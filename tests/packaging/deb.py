@@ -9,10 +9,10 @@ import shutil
 import sys
 import tempfile
 
+from cases import sum_up, tell
 from installed import INSTALLED, said_by
 
 LMTPD = os.environ["LMTPD"]
-ABSENT = 77  # the status by which the gate counts a script apart
 TOOLS = ["dpkg-deb", "dpkg-shlibdeps", "dpkg-gencontrol", "dpkg-parsechangelog", "strip"]
 # The list of mailboxes is no file of the package, which makes it where none is.
 LIST = {"etc/lmtpd.boxes": "usr/share/lmtpd/lmtpd.boxes"}
@@ -113,23 +113,27 @@ def check_refusals(folder):
 
 def check_by_lintian(package):
     if shutil.which("lintian") is None:
-        print("not looked at: lintian isn't installed")
+        tell("what lintian says of the package", "absent", "lintian")
         return
     _, said = said_by("lintian", str(package))
     errors = [line for line in said.splitlines() if line.startswith("E:")]
     assert errors == LACKING, errors
 
 
-lacking = [name for name in TOOLS if shutil.which(name) is None]
-if lacking:
-    print(f"no package was made: {', '.join(lacking)} isn't installed")
-    sys.exit(ABSENT)
-with tempfile.TemporaryDirectory() as room:
-    folder = pathlib.Path(room)
+def check_package(folder):
     package = made_in(folder / "one")
     assert package.read_bytes() == made_in(folder / "two").read_bytes(), "two packages of one program differ"
     check_files(package, folder / "root", check_names(package))
     check_dependencies(package)
     check_refusals(folder)
     check_by_lintian(package)
-print("ok: package")
+    tell("package")
+
+
+lacking = [name for name in TOOLS if shutil.which(name) is None]
+if lacking:
+    tell("package", "absent", ", ".join(lacking))
+else:
+    with tempfile.TemporaryDirectory() as room:
+        check_package(pathlib.Path(room))
+sys.exit(sum_up())

@@ -10,6 +10,7 @@ import subprocess
 import sys
 import tempfile
 
+from cases import sum_up, tell
 from installed import INSTALLED, said_by
 from served import check_served
 
@@ -66,12 +67,20 @@ def check_words():
     assert completed("lmtpd serve --over-quota ") == completed("lmtpd rehearse --over-quota ") == {"defer", "reject"}
 
 
+def is_here(program, shown):
+    """Whether the program is here that shows it; says that it is left out, where it isn't."""
+    is_found = shutil.which(program) is not None
+    if not is_found:
+        tell(shown, "absent", program)
+    return is_found
+
+
 def check_version():
     """The version names the toolchain as the toolchain itself does, where it is there."""
     status, said = said_by(LMTPD, "--version")
     kit = r"lmtpd [0-9.]+ \(([^ ,]+), (logic [0-9a-f]+)\)\n"
     assert status == 0 and re.fullmatch(kit, said), said
-    if shutil.which("rt"):
+    if is_here("rt", "that the version names the toolchain"):
         assert said_by("rt", "version")[1].strip() == " ".join(re.fullmatch(kit, said).groups()), said
 
 
@@ -402,7 +411,10 @@ def check_folder(folder):
     said_of_it = (folder / "all/usr/lib/tmpfiles.d/lmtpd.conf").read_text()
     [line] = re.findall("^[^#].*$", said_of_it, re.MULTILINE)
     assert line == "d /var/mail/lmtpd :0700 :lmtpd :lmtpd -", line
-    if os.geteuid() != 0 or not shutil.which("systemd-tmpfiles"):
+    shown = "that the folder of the mailboxes is made"
+    if os.geteuid() != 0:
+        tell(shown, "absent", "root")
+    if os.geteuid() != 0 or not is_here("systemd-tmpfiles", shown):
         return
     made, conf = folder / "made", folder / "made.conf"
     # the user of this machine that there is for sure
@@ -427,7 +439,7 @@ def check_forms(folder):
     places = [f"{name}={folder}/lmtpd.{name.lower()}" for name in ["CONF", "BOXES"]]
     install = ["make", "-s", "install", f"PREFIX={prefix}", *places, f"PROGRAM={LMTPD}"]
     assert said_by(*install) == (0, "")
-    if shutil.which("systemd-analyze"):
+    if is_here("systemd-analyze", "that systemd finds nothing wrong with the units"):
         # what this machine's own units say isn't ours
         system = prefix / "lib/systemd/system"
         units = [str(system / name) for name in ["lmtpd.socket", "lmtpd.service"]]
@@ -438,7 +450,7 @@ def check_forms(folder):
         _, said = said_by("systemd-analyze", "verify", "--man=no", *units)
         ours = [line for line in said.splitlines() if "lmtpd" in line]
         assert not ours, ours
-    if shutil.which("groff"):
+    if is_here("groff", "that groff finds nothing wrong with the manual page"):
         status, said = said_by("groff", "-mdoc", "-Tutf8", "-ww", "-z", "packaging/lmtpd.8")
         assert (status, said) == (0, ""), said
 
@@ -455,5 +467,5 @@ with tempfile.TemporaryDirectory() as room:
     check_leases(pathlib.Path(room) / "leases")
     check_run(pathlib.Path(room) / "run")
     check_served(pathlib.Path(room) / "served")
-print("ok: page, completion, version, unit, words, keys, folder, leases, what runs it in a container, and install")
-sys.exit(0)
+tell("page, completion, version, unit, words, keys, folder, leases, what runs it in a container, and install")
+sys.exit(sum_up())

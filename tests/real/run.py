@@ -50,4 +50,4 @@ import watched  # noqa: F401
 import with_postfix  # noqa: F401
 from cases import run_all
 
-sys.exit(0 if run_all(sys.argv[1:]) else 1)
+sys.exit(run_all(sys.argv[1:]))

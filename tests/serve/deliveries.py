@@ -23,7 +23,7 @@ HARD_LINES = ["Subject: hard lines", "", "From here on", ">From there", "..a dot
 def installed(name):
     path = shutil.which(name, path=f"{os.environ['PATH']}:/usr/sbin")
     if path is None:
-        raise Absent(f"{name} isn't installed")
+        raise Absent(name)
     return path
 
 
@@ -110,7 +110,7 @@ def an_ipv6_address(folder):
     try:
         socket.create_server(("::1", 0), family=socket.AF_INET6).close()
     except OSError:
-        raise Absent("loopback has no ::1") from None
+        raise Absent("::1 on loopback") from None
     with Server(folder, ["anna"], 1, "--lanes", 1, listen="[::1]:0") as server:
         host, port = server.address
         equal((host, server.first), ("::1", f"listening on [::1]:{port}\n"))

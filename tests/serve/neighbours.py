@@ -27,7 +27,7 @@ class Site:
 
     def __init__(self, folder, owner=OF_SERVER, group=MAIL, mode=0o3777):
         if os.geteuid() != 0:
-            raise Absent("it needs root")
+            raise Absent("root")
         self.group = group
         self.program = folder / "lmtpd"
         shutil.copy(os.environ["LMTPD"], self.program)
@@ -70,7 +70,7 @@ def done_by(user, action, *given):
     os.close(said)
     try:
         if not os.read(heard, 1):
-            raise Absent(f"{action.__name__} can't be done here")
+            raise Absent(f"leave to {action.__name__.replace('_', ' ')}")
         yield process
     finally:
         os.close(heard)

@@ -278,7 +278,7 @@ def its_own_number(folder):
 def another_users(folder):
     """a lock file of another user's process that is gone stays until it is old"""
     if os.geteuid() != 0:
-        raise Absent("it needs root")
+        raise Absent("root")
     with Server(folder, ["anna"], 1, "--lanes", 1, "--lock-wait", 0) as server:
         with Client(server.address).greet() as client:
             for age, reply in [(0, not_stored("anna")), (400, stored("anna"))]:
@@ -295,7 +295,7 @@ def hidden_processes(folder):
     """a lock file of a living process stays where the server is shown no other user's processes, as systemd has it by
     ProtectProc=invisible; one of a process that is gone goes"""
     if os.geteuid() != 0:
-        raise Absent("it needs root")
+        raise Absent("root")
     folder.chmod(0o777)
     with Server(folder, ["anna"], 1, "--lanes", 1, "--lock-wait", 0, preexec_fn=hide_processes) as server:
         with Client(server.address).greet() as client:

@@ -43,4 +43,4 @@ import unserved  # noqa: F401
 import written  # noqa: F401
 from cases import run_all
 
-sys.exit(0 if run_all(sys.argv[1:]) else 1)
+sys.exit(run_all(sys.argv[1:]))

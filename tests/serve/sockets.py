@@ -158,7 +158,7 @@ def a_link_to_a_socket_that_answers(folder):
 def no_device_is_replaced(folder):
     """where a device is, a server is refused, and the device stays; so it is where a mailbox's file would be"""
     if os.geteuid() != 0:
-        raise Absent("it needs root")
+        raise Absent("root")
     numbers = os.stat("/dev/null").st_rdev
     for path in [folder / "null", folder / "anna.mbox"]:
         os.mknod(path, stat.S_IFCHR | 0o666, numbers)
