@@ -1,5 +1,6 @@
 """In which order the system is asked for what, as strace has it: a copy is synced, and its folder, before it is said to
-be there; a mailbox is read under its lock, and its line is written before the next one is opened."""
+be there; a mailbox is read under its lock, and its line is written before the next one is opened; a line of the log is
+written after the reply that it tells of."""
 
 import os
 import re
@@ -7,9 +8,20 @@ import shutil
 import subprocess
 
 from cases import Absent, case, equal
+from clients import Client
+from replies import stored
+from server import Server
+from written import until_it_looks
 
 LETTER = b"From a@b Thu Jan  1 00:00:00 1970\nSubject: x\n\nhello\n\n"
 TRACED = "openat,fcntl,read,write,close,fsync,fdatasync"
+# what a call of the server sends or logs that the case looks for
+SENT = {
+    "503 sent": r'sendto\(.*"503 ',
+    "copies sent": r'sendto\(.*"250 2\.0\.0 Stored for anna\\r\\n250 2\.0\.0 Stored for ben',
+    "503 logged": r'write\(2, "\[INFO  lmtpd\] command refused .* code=503',
+    "a copy logged": r'write\(2, "\[INFO  lmtpd\] copy answered ',
+}
 # a call, the path of its descriptor or the one that it opens, and what it answered
 CALL = re.compile(r'(?:\d+ +)?(\w+)\((?:AT_FDCWD<[^>]*>, "([^"]*)"|\d+<([^>]*)>)(.*)\) += (-?\d+).*')
 
@@ -58,3 +70,25 @@ def a_mailbox_is_read_under_its_lock(folder):
     one = ["openat {0}", "fcntl {0} locked", "read {0}", "close {0}", "write output"]
     expected = [it.format(name) for name in ["anna.mbox", "ben.mbox"] for it in one]
     equal(names_of(calls, "anna.mbox", "ben.mbox", "output"), expected)
+
+
+@case
+def a_reply_goes_out_before_its_line(folder):
+    """what the server sends and what it logs of a conversation, in their order: no line stands in the log before the
+    reply that it tells of was sent"""
+    if shutil.which("strace") is None:
+        raise Absent("strace")
+    place = folder / "calls"
+    with Server(folder, ["anna", "ben"], 1, "--lanes", 1, "--log", "info") as server:
+        looks = ["strace", "-f", "-qq", "-s", "1000", "-e", "trace=write,sendto", "-e", "signal=none", "-o", place]
+        with subprocess.Popen([*looks, "-p", str(server.process.pid)], stdin=subprocess.DEVNULL) as tracer:
+            until_it_looks(tracer, server)
+            with Client(server.address).greet() as client:
+                equal(client.ask("RCPT TO:<carl@mx.example>")[:3], "503")
+                equal(client.deliver(["anna", "ben"], "Subject: x", "", "x")[1], [stored("anna"), stored("ben")])
+                client.quit()
+            server.end()
+            tracer.wait(20)
+    lines = place.read_text().splitlines()
+    told = [what for line in lines for what, text in SENT.items() if re.search(text, line)]
+    equal(told, ["503 sent", "503 logged", "copies sent", "a copy logged", "a copy logged"])
