@@ -12,12 +12,12 @@ loop-handle-preserved-in-Some-join g c =
     let task = c.in-Some.handle.promise.0.value in
     let grown = c.push_reserved.ensures in (
       λ whole.
-        let was = c.loop-handle.invariant.0 whole in
-        let all = AllZip-snoc g.T.Task.done was.0 (vec_items c.loop-handle.results) task c.in-Some-join.output was.2 c.in-Some-join.ensures in (
-          was.0 ++ task ∷ [],
-          rw append_assoc (rw step.0 at was.1),
-          rw grown.items all,
-        ),
+          let was = c.loop-handle.invariant.0 whole in
+          let all = AllZip-snoc g.T.Task.done was.0 (vec_items c.loop-handle.results) task c.in-Some-join.output was.2 c.in-Some-join.ensures in (
+            was.0 ++ task ∷ [],
+            rw append_assoc (rw step.0 at was.1),
+            rw grown.items all,
+          ),
       omega (arith, step.1, grown.len, grown.capacity, c.loop-handle.invariant.1),
     )
 
