@@ -129,9 +129,10 @@ def faults_of(cut, said, readers):
     if letters.letter_of(then).message != message_of(THEN):
         yield "the next letter"
     for name, reader in readers.items():
-        told = [reader.shown(text) for text in cut.told]
-        may_gain = cut.is_spoilt or reader.joins
-        if not is_right(read_by(reader, cut.path), told, reader.shown(then), may_gain):
+        # to one that joins them a From line alone is no letter
+        told = [reader.shown(text) for text in cut.told if not reader.joins or text.partition(b"\n")[2]]
+        gaining = len(told) if reader.joins else int(cut.is_spoilt)
+        if not is_right(read_by(reader, cut.path), told, reader.shown(then), gaining):
             yield name
     count = said.removeprefix("letters ")
     if not count.isdigit() or not 1 <= int(count) - len(cut.told) <= 1 + MOST_TORN:
@@ -146,14 +147,14 @@ def read_by(reader, path):
         return []
 
 
-def is_right(texts, told, then, may_gain):
-    """Whether a reader finds what was told, of which the last one may have gained lines, then what is torn, and then
-    the next one."""
+def is_right(texts, told, then, gaining):
+    """Whether a reader finds what was told, of which so many of the last may have gained lines, then what is torn, and
+    then the next one."""
     count = len(texts) - len(told) - 1
-    found = texts[: len(told)]
-    if told and may_gain and count >= 0 and begins_so(found[-1], told[-1]):
-        found = [*found[:-1], told[-1]]
-    return found == told and texts[-1:] == [then] and 0 <= count <= MOST_TORN
+    if not 0 <= count <= MOST_TORN or texts[-1] != then:
+        return False
+    sure = max(len(told) - gaining, 0)
+    return texts[:sure] == told[:sure] and all(map(begins_so, texts[sure : len(told)], told[sure:]))
 
 
 def begins_so(text, lines):

@@ -1,3 +1,4 @@
 pub mod Told
 pub mod ReadBack
 pub mod KilledRuns
+mod Spoilt

@@ -1,3 +1,4 @@
 pub mod Runs
 pub mod ReadBack
 pub mod Rows
+pub mod Spoilt

@@ -8,5 +8,5 @@
 mod laws;
 mod rows;
 
-pub use laws::{runs_are_lives, told_is_read_back, told_is_stored};
+pub use laws::{runs_are_lives, spoilt_runs_are_found, told_is_read_back, told_is_stored};
 pub use rows::killed_runs_exist;
