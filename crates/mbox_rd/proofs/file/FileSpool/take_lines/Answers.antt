@@ -1,4 +1,4 @@
-use Rattle.std.proofs.Common.{◌≡◌, ◌≤◌, ◌+◌, ℕ, List, rules, arith, ap, length, take, ◌∙◌}
+use Rattle.std.proofs.Common.{◌≡◌, ◌≤◌, ◌+◌, rules, arith, ap, length, take, ◌∙◌}
 use Rattle.mbox_rd.specs.FileSpool.{FileSpool}
 use Rattle.mbox_rd.proofs.Lined.{kept_by, lines_added}
 use Rattle.mbox_rd.proofs.file.FileSpool.take_lines.Goals as goal
