@@ -10,7 +10,7 @@
 # usage: tests/serve_memory.sh
 set -euo pipefail
 cd "$(dirname "$0")/.."
-. tests/needs rustc
+. tests/needs cc rustc
 . tests/built_program
 . tests/processes
 folder=$(mktemp -d)
