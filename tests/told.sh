@@ -1,6 +1,6 @@
 #!/usr/bin/env bash
 # How a wrong body's verdict is judged (tests/wrong_bodies/told.py), by verdicts of the prover that were recorded on
-# `lmtpd_check` as it was then (tests/told): an edit that changes nothing, a local with another name, a loosened ghost,
+# functions as they were then (tests/told): an edit that changes nothing, a local with another name, a loosened ghost,
 # and wrong bodies. It prints one line a case, and fails where a case does.
 set -euo pipefail
 cd "$(dirname "$0")/.."

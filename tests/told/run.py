@@ -22,9 +22,10 @@ class Recorded(attempts.Room):
 
     def __init__(self, folder, name):
         self.crate = folder
-        for path in ["src/files.rt", "proofs/files/check_each/Answers.antt"]:
-            (folder / path).parent.mkdir(parents=True, exist_ok=True)
-            shutil.copy(HERE / "crate" / f"{pathlib.Path(path).name}.in", folder / path)
+        for file in (HERE / "crate").rglob("*.in"):
+            path = folder / file.relative_to(HERE / "crate").with_suffix("")
+            path.parent.mkdir(parents=True, exist_ok=True)
+            shutil.copy(file, path)
         text, *self.left = re.split(r"\n= status (\d)+: .*\n", (HERE / f"{name}.told").read_text(encoding="utf-8"))
         self.edit = folder / f"{name}.edit"
         self.edit.write_text(text, encoding="utf-8")
@@ -74,10 +75,12 @@ def a_loosened_ghost(folder):
 @case
 def wrong_bodies(folder):
     """a wrong body is refused where an answer shows another statement than is asked for, where a goal is false at some
-    values, and where one asks for something else once the answers that name what isn't there are set aside"""
+    values, where the code isn't known to keep within bounds, and where a goal asks for something else once the answers
+    that name what isn't there are set aside"""
     for name, more in [
         ("another_statement", "check_each, returns-then-is_err (another statement)"),
         ("false_at_some_values", "keep_if, returns-then-not-is_kept-clause-items (false at some values)"),
+        ("read_too_far", "is_journal, slice_bounds-name-end (not proved)"),
         ("dropped_call", "check_each, loop-name-preserved (not proved), without its answer"),
     ]:
         equal((name, *judged(folder, name)), (name, told.REFUSED, more))

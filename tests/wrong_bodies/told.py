@@ -32,7 +32,7 @@ UNREAD = r"is not in scope|has no field|is no name|operand is missing|expected t
 NAMES = r"has no field|is not in scope|has no `|is no name|was not admitted"
 # a goal's name; that of a lemma beside it has no sign but `_`
 GOAL = r"`(returns|[^`\s.]+-[^`\s.]+)`"
-ASKED = rf"note: (?:\./)?(src/\S+?):(\d+):\d+: it is not proved that .*?\({GOAL}\)(.*)"
+ASKED = rf"note: (?:\./)?(src/\S+?):(\d+):\d+: (?:it is not proved that|`search` found no proof) .*?\({GOAL}\)(.*)"
 ANSWER = r"(?:\./)?proofs/(\S+)/(Answers|Invariants)\.antt:\d+:\d+: error: (.*)"
 STATEMENT = rf"note: {GOAL} of (?:\./)?proofs/(\S+)/Answers\.antt must prove: (.*)"
 DEFINED = r"(?:abbrev )?(?:pub )?"
