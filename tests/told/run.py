@@ -81,7 +81,7 @@ def wrong_bodies(folder):
         ("another_statement", "check_each, returns-then-is_err (another statement)"),
         ("false_at_some_values", "keep_if, returns-then-not-is_kept-clause-items (false at some values)"),
         ("read_too_far", "is_journal, slice_bounds-name-end (not proved)"),
-        ("dropped_call", "check_each, loop-name-preserved (not proved), without its answer"),
+        ("dropped_call", "check_each, returns-then-is_err (not proved), without its answer"),
     ]:
         equal((name, *judged(folder, name)), (name, told.REFUSED, more))
         equal((name, judged_at_once(folder, name)), (name, more))
@@ -96,6 +96,20 @@ def a_goal_of_another_function(folder):
         room.edit.write_text(f"{text.splitlines()[0]}\nold:     let mut findings\nnew:     let  mut findings\n")
         equal({it.name for it in places_of(room.edit, folder)}, {"check_files"})
         equal(room.refused_at_once(room.batches([room.edit])[0]), {})
+
+
+@case
+def another_name_in_a_statement(folder):
+    """a statement in which a local has another name is the same one; with another call it isn't"""
+    room = Recorded(folder, "renamed_local")
+    names = told.new_names(room.edit)
+    equal(names, {"found": "reading"})
+    (place,) = places_of(room.edit, folder)
+    line = "note: `returns-then-is_err` of proofs/files/check_each/Answers.antt must prove: c.{}.result ≡ 0"
+    texts = {place.path: (folder / place.path).read_text(encoding="utf-8")}
+    as_it_stands = told.asked(place, line.format("check_file-reading"), texts, {})
+    equal(told.asked(place, line.format("check_file-found"), texts, names), as_it_stands)
+    equal(told.asked(place, line.format("keep_if-found"), texts, names) == as_it_stands, False)
 
 
 @case
