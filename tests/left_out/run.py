@@ -176,7 +176,7 @@ def what_ci_installs(folder):
         return
     for does in ["exit 100", "sleep 60"]:
         said, errors, took = installed(folder, does, "2")
-        equal((does, said, took < 15), (does, "one two\n", True))
+        equal((does, said, took < 40), (does, "one two\n", True))
         assert "not installed: one two" in errors and "ended with status" in errors, errors
     equal(installed(folder, "exit 1", "0")[0], "one two\n")
     said, errors, _ = installed(folder, BRINGS)
@@ -187,6 +187,9 @@ def what_ci_installs(folder):
     equal(installed(folder, BRINGS)[0], "\n")
     (folder / "asked").unlink()
     equal((installed(folder, BRINGS)[:2], (folder / "asked").exists()), (("\n", ""), False))
+
+
+what_ci_installs.seconds = 120
 
 
 @case
