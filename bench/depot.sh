@@ -10,7 +10,7 @@
 # usage: bench/depot.sh [--build | --try]: with a word it only makes its programs, proved or unproved (bench/program)
 set -euo pipefail
 cd "$(dirname "$0")/.."
-. tests/needs rustc python3
+. tests/needs cc rustc python3
 . bench/program
 make_program depot_bench depot "mail_world msg_depot anyhow" "${1:-}"
 

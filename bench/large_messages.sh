@@ -7,7 +7,7 @@
 # usage: bench/large_messages.sh --build or --try, which only builds, or bench/large_messages.sh [ROUNDS], 5 without it
 set -euo pipefail
 cd "$(dirname "$0")/.."
-. tests/needs python3 rustc
+. tests/needs cc rustc python3
 folder=$(mktemp -d -p /dev/shm)
 trap 'rm -rf "$folder"' EXIT
 rustc -O -o "$folder/load" bench/serve/load.rs

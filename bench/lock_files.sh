@@ -5,7 +5,7 @@
 # usage: bench/lock_files.sh --build or --try, which only builds, or bench/lock_files.sh
 set -euo pipefail
 cd "$(dirname "$0")/.."
-. tests/needs rustc
+. tests/needs cc rustc
 folder=$(mktemp -d)
 trap 'rm -rf "$folder"' EXIT
 rustc -O -o "$folder/pairs" bench/lock_files/pairs.rs

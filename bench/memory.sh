@@ -7,7 +7,7 @@
 # usage: bench/memory.sh --build or --try, which only builds, or bench/memory.sh
 set -euo pipefail
 cd "$(dirname "$0")/.."
-. tests/needs rustc
+. tests/needs cc rustc
 [ "${1:-}" = --try ] || . tests/built_program
 . tests/processes
 folder=$(mktemp -d)

@@ -10,7 +10,7 @@
 # usage: bench/post.sh [--build | --try]: with a word it only makes its programs, proved or unproved (bench/program)
 set -euo pipefail
 cd "$(dirname "$0")/.."
-. tests/needs rustc python3
+. tests/needs cc rustc python3
 . bench/program
 make_program post post "mail_world mbox_record msg_depot mail_post anyhow" "${1:-}"
 

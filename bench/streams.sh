@@ -11,7 +11,7 @@
 # usage: bench/streams.sh [--build | --try]: with a word it only makes its programs, proved or unproved (bench/program)
 set -euo pipefail
 cd "$(dirname "$0")/.."
-. tests/needs rustc python3
+. tests/needs cc rustc python3
 . bench/program
 make_program streams streams "mail_world lmtp_wire lmtp_text mbox_spool mbox_record anyhow" "${1:-}"
 

@@ -4,7 +4,7 @@
 # something out says so.
 set -uo pipefail
 cd "$(dirname "$0")/.."
-. tests/needs rustc
+. tests/needs cc rustc
 status=0
 declare -A running
 for script in bench/*.sh; do

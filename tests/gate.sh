@@ -23,7 +23,7 @@ play() {
 # play_on_sources: plays those that need the sources alone, one after the other.
 play_on_sources() {
     local script
-    for script in tests/{calls,units,memory,benchmarks,wrong_bodies,left_out}.sh; do play "$script" 3600; done
+    for script in tests/{calls,units,memory,benchmarks,wrong_bodies,told,left_out}.sh; do play "$script" 3600; done
 }
 
 # play_at_once: plays the wrong bodies that are tried at once, on half of the cores, on all once `rt ci` has ended, and

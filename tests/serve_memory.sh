@@ -5,12 +5,12 @@
 # at once: 2 KiB to one mailbox, 20 KiB to ten, 1 MiB to one. strace may see none of these calls, and the size
 # of the process must stay the same. What is resident grows where pages that were taken at the start are used
 # for the first time: that may come to 256 KiB at most after the first copies of all sizes. Says what it
-# counted. Where strace isn't there, or may not look, that is said, sizes alone are compared, and the status is 77. LMTPD
+# counted. Where strace is not there, or may not look, that is said, sizes alone are compared, and the status is 77. LMTPD
 # names a program that is built already.
 # usage: tests/serve_memory.sh
 set -euo pipefail
 cd "$(dirname "$0")/.."
-. tests/needs rustc
+. tests/needs cc rustc
 . tests/built_program
 . tests/processes
 folder=$(mktemp -d)

@@ -137,8 +137,6 @@ class Bench:
         self.times = times  # in place of the works' own; None where they stay
         self.preload = str(folder / "slowsync.so") if is_slow else None
         self.is_slow = is_slow
-        if is_slow and not (folder / "slowsync.so").exists():
-            sys.exit("--slow-sync needs a C compiler (cc)")
 
     def fresh_runs(self, works, names, rounds):
         """Each round's runs, one after the other, each with a fresh store."""

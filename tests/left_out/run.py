@@ -144,21 +144,23 @@ for word in "$@"; do shift; [ "$word" != {verb} ] || break; done
 BRINGS = 'for word in "$@"; do [ ! -e {folder}/has/$word ] || ln -sf /bin/true {folder}/bin/$word; done'
 
 
-def installed(folder, does, seconds="20"):
+def installed(folder, does, seconds="20", script="install"):
     """What .ci/install says is missing in the end, of `one`, `two` and `sh`, its errors, and how long it took."""
     site, tools = folder / "site", folder / "bin"
     for path in [site / ".ci", site / "tests", tools, folder / "has"]:
         path.mkdir(parents=True, exist_ok=True)
     (folder / "has/one").touch()
-    shutil.copy(".ci/install", site / ".ci")
+    for name in ["install", "run"]:
+        shutil.copy(f".ci/{name}", site / ".ci")
     (site / "tests/packages").write_text("# a comment\none: one\ntwo: two\nsh: dash\n")
-    apt = tools / "apt-get"
-    apt.write_text(APT.format(folder=folder, verb="install", does=does.format(folder=folder)))
-    apt.chmod(0o755)
+    apt = APT.format(folder=folder, verb="install", does=does.format(folder=folder))
+    for name, text in [("apt-get", apt), ("make", '#!/bin/sh\necho "$1, CI=$CI, not installed: $NOT_INSTALLED"\n')]:
+        (tools / name).write_text(text)
+        (tools / name).chmod(0o755)
     began = time.monotonic()
     given = {"PATH": f"{tools}:{os.environ['PATH']}", "INSTALL_SECONDS": seconds, "SERVICE_POLICY": f"{folder}/policy"}
     ran = subprocess.run(
-        [site / ".ci/install"], env=os.environ | given, capture_output=True, text=True, timeout=60
+        [site / f".ci/{script}"], env=os.environ | given, capture_output=True, text=True, timeout=60
     )
     equal((ran.returncode, (folder / "policy").exists()), (0, False))
     return ran.stdout, ran.stderr, time.monotonic() - began
@@ -174,7 +176,7 @@ def what_ci_installs(folder):
         return
     for does in ["exit 100", "sleep 60"]:
         said, errors, took = installed(folder, does, "2")
-        equal((does, said, took < 15), (does, "one two\n", True))
+        equal((does, said, took < 40), (does, "one two\n", True))
         assert "not installed: one two" in errors and "ended with status" in errors, errors
     equal(installed(folder, "exit 1", "0")[0], "one two\n")
     said, errors, _ = installed(folder, BRINGS)
@@ -185,6 +187,16 @@ def what_ci_installs(folder):
     equal(installed(folder, BRINGS)[0], "\n")
     (folder / "asked").unlink()
     equal((installed(folder, BRINGS)[:2], (folder / "asked").exists()), (("\n", ""), False))
+
+
+what_ci_installs.seconds = 120
+
+
+@case
+def what_ci_runs(folder):
+    """CI runs the gate with CI=true, also where nothing can be installed, and tells it what is missing"""
+    for does, left in [("exit 100", "one two"), (BRINGS, "two" if os.geteuid() == 0 else "one two")]:
+        equal(installed(folder, does, script="run")[0], f"test, CI=true, not installed: {left}\n")
 
 
 @case

@@ -2,10 +2,12 @@
 of this folder, or with a word those that stand with the crates themselves: in must-fail, which `rt ci` tries one by
 one, or in must-fail-at-once, which the gate tries by this script. Each crate has a room of its own, with its sources
 and what its checks kept, and the crates below it by hard links. There wrong bodies of different functions are put into
-their places at once, and these functions checked. As a function isn't looked at that calls a refused one, those that no
-goal of their own functions refused are tried at once again without the others, and alone where that refuses no more;
-one that its own functions' check lets through, in the whole crate. What is said of each, and the last line, are those
-of told.py."""
+their places at once, and these functions checked. One whose function's proof names what isn't there any more is tried
+again without those answers: it is refused where a goal then asks for what none asks for of the function as it stands
+without the same answers, or is false at some values and wasn't. As a function isn't looked at that calls a refused one,
+those that no goal of their own functions refused are tried at once again without the others, and alone where that
+refuses no more; one that its own functions' check lets through, in the whole crate. What is said of each, and the last
+line, are those of told.py."""
 import concurrent.futures
 import contextlib
 import dataclasses
@@ -22,8 +24,10 @@ import time
 import apply
 import stamps
 import told
+from place import Place, places_of
 
 MOST = 20  # of wrong bodies that are tried at once
+ROUNDS = 3  # of trying without answers, each of which may show further names that are gone
 FOLDERS = {"--own": "must-fail", "--gate": "must-fail-at-once"}  # of a crate, by the word that asks for them
 
 
@@ -70,7 +74,7 @@ class Room:
         for path, text in texts.items():
             (self.crate / path).write_text(text, encoding="utf-8")
         # where a function's name fits none or several, all functions of its module
-        for name_of in (told.Place.checked_as, told.Place.module, None):
+        for name_of in (Place.checked_as, Place.module, None):
             names = set(map(name_of, places)) if name_of else ()
             if name_of and not (names and all(names)):
                 continue
@@ -83,23 +87,80 @@ class Room:
 
     def try_one(self, edit):
         """What is to be said of the wrong body: how it was met, and what more."""
-        texts = apply.texts_of(edit, self.crate)
-        met = told.met(edit, self.crate, texts, *self.said_with(texts, told.places_of(edit, self.crate)))
+        texts, places = apply.texts_of(edit, self.crate), places_of(edit, self.crate)
+        status, said = self.said_with(texts, places)
+        met = told.met(edit, self.crate, texts, status, said)
         if met[0] == told.STILL_PROVED:
-            met = told.met(edit, self.crate, texts, *self.said_with(texts))
-        return met
+            return told.met(edit, self.crate, texts, *self.said_with(texts))
+        asked = self.asked_anew([edit], said) if met[0] == told.ELSEWHERE else {}
+        return (told.REFUSED, asked[edit]) if asked else met
 
     def refused_at_once(self, batch):
-        """Those of the batch that a goal of each of their functions refuses."""
-        places = {it: told.places_of(it, self.crate) for it in batch.edits}
+        """Those of the batch that a goal of each of their functions refuses, each with what is to be said of it."""
         status, said = self.said_with(batch.texts, batch.places)
-        return [it for it in batch.edits if status and all(place.is_refused(said) for place in places[it])]
+        refused = {}
+        for edit in batch.edits if status else []:
+            places = places_of(edit, self.crate)
+            goals = [(it, told.unmet(it, said, batch.texts)) for it in sorted(places)]
+            if all(found for _, found in goals):
+                refused[edit] = told.told_goal(*goals[0])
+        return refused | self.asked_anew([it for it in batch.edits if it not in refused], said)
+
+    def asked_anew(self, edits, said):
+        """Those of these wrong bodies of different functions that have a goal ask for what none asks for of the
+        function as it stands, once the answers that name what isn't there are set aside; of each what is to be said."""
+        aside = {it: set() for it in edits}
+        for _ in range(ROUNDS):
+            gone = {it: self.names_gone(it, said) for it in aside}
+            # an invariant or a lemma can't be set aside
+            aside = {it: aside[it] | gone[it] for it in aside if all(goal for _, goal in gone[it])}
+            aside = {it: goals for it, goals in aside.items() if goals}
+            if not any(gone[it] for it in aside):
+                break
+            texts = {}
+            for it in aside:
+                texts = apply.texts_of(it, self.crate, texts)
+            places = {place for it in aside for place in places_of(it, self.crate)}
+            said = self.said_with(texts | self.answers_without(aside), places)[1]
+        aside = {it: goals for it, goals in aside.items() if not self.names_gone(it, said)}
+        if not aside:
+            return {}
+        places = {place for it in aside for place in places_of(it, self.crate)}
+        before = self.said_with(self.answers_without(aside), places)[1]
+        found = {it: self.anew(it, texts, said, before) for it in aside}
+        return {it: f"{more}, without its answer" for it, more in found.items() if more}
+
+    def names_gone(self, edit, said):
+        """The answers in the proofs of the wrong body's functions that name what isn't there."""
+        return {it for place in places_of(edit, self.crate) for it in told.names_gone(place, said)}
+
+    def answers_without(self, aside):
+        """The texts of proofs without the answers that each wrong body has set aside."""
+        texts = {}
+        for folder, goal in sorted(it for goals in aside.values() for it in goals):
+            path = f"proofs/{folder}/Answers.antt"
+            text = texts.get(path) or (self.crate / path).read_text(encoding="utf-8")
+            texts[path] = told.without(text, {goal})
+        return texts
+
+    def anew(self, edit, texts, said, before):
+        """What is to be said of a goal that asks for something that it didn't ask for before; nothing where none is."""
+        for place in sorted(places_of(edit, self.crate)):
+            goals = told.unmet(place, said, texts)
+            as_it_stands = {place.path: (self.crate / place.path).read_text(encoding="utf-8")}
+            known = told.asked(place, before, as_it_stands, {})
+            asked = told.asked(place, said, texts, told.new_names(edit))
+            new = {goal for it, goal in asked.items() if it not in known}
+            goals = [it for it in goals if it.how == told.OTHER or it.goal in new]
+            if goals:
+                return told.told_goal(place, goals)
+        return ""
 
     def batches(self, edits):
         """The wrong bodies in lists of different functions, each with the texts that they make together."""
         made = []
         for edit in edits:
-            places = told.places_of(edit, self.crate)
+            places = places_of(edit, self.crate)
             for batch in made:
                 if len(batch.edits) == MOST or places & batch.places:
                     continue
@@ -171,9 +232,9 @@ def try_crate(root, name, edits, crates, folder, said):
 
     def try_all(edits):
         for batch in room.batches(edits):
-            refused = room.refused_at_once(batch) if len(batch.edits) > 1 else []
-            for edit in refused:
-                tell(edit, told.KINDS[0], ", ".join(sorted(told.changed_by(edit, room.crate))))
+            refused = room.refused_at_once(batch) if len(batch.edits) > 1 else {}
+            for edit, more in refused.items():
+                tell(edit, told.REFUSED, more)
             left = [it for it in batch.edits if it not in refused]
             if refused:
                 try_all(left)
