@@ -11,7 +11,7 @@ import sys
 
 import told
 from cases import case, equal, run_all
-from place import places_of
+from place import Place, places_of
 
 HERE = pathlib.Path("tests/told")
 attempts = importlib.import_module("try")
@@ -113,6 +113,15 @@ def another_name_in_a_statement(folder):
     as_it_stands = told.asked(place, line.format("check_file-reading"), texts, {})
     equal(told.asked(place, line.format("check_file-found"), texts, names), as_it_stands)
     equal(told.asked(place, line.format("keep_if-found"), texts, names) == as_it_stands, False)
+
+
+@case
+def where_a_goal_is_told(folder):
+    """the place of a goal that is told of what stands before its function in `#[..]` is that function's"""
+    text = "fn one() {\n    1;\n}\n\n#[inline]\n#[tactic(\n    auto,\n    using(a),\n)]\nfn two() {\n    2;\n}\n"
+    one, two = (Place("src/lib.rt", "", name) for name in ["one", "two"])
+    equal([at for at in range(1, 13) if one.has_line(text, at)], [1, 2, 3])
+    equal([at for at in range(1, 13) if two.has_line(text, at)], [5, 6, 10, 11, 12])
 
 
 @case
