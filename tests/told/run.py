@@ -52,8 +52,8 @@ def judged_at_once(folder, name):
 
 @case
 def an_edit_that_changes_nothing(folder):
-    """an edit that changes nothing is still proved; one that says the same in another way, by which goals and steps have
-    other names, isn't refused by a goal, though the prover finds no proof then"""
+    """an edit that changes nothing is still proved; one that says the same in another way, by which goals and steps
+    have other names, isn't refused by a goal, though the prover finds no proof then"""
     equal(judged(folder, "nothing"), (told.STILL_PROVED, ""))
     equal(judged_at_once(folder, "nothing"), None)
     equal(judged(folder, "written_another_way"), (told.ELSEWHERE, "by the names in the proof of check_each"))
