@@ -30,7 +30,7 @@ serve() {
     program=$!
     until grep -q listening "$folder/said"; do sleep 0.05; done
     address=$(sed 's/^listening on //' "$folder/said")
-    until_holds 10 all_wait "$program" $((1 + lanes + boxes))
+    until_holds 10 all_wait "$program" $((2 + lanes + boxes))
     size=$(kilobytes "$program" VmSize) start=$(kilobytes "$program" VmRSS)
     "$folder/load" "$address" m "$lanes" 1 20 $((boxes < 10 ? boxes : 10)) 4096 "$boxes" > /dev/null
     first=$(kilobytes "$program" VmRSS)

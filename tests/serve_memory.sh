@@ -48,8 +48,8 @@ mapfile -t boxes < <(seq -f 'u%g' 0 $((BOXES - 1)))
 server=$!
 until_holds 10 grep -qs '^listening on ' "$folder/output"
 address=$(sed -n 's/^listening on //p' "$folder/output")
-# the main one, the lanes, and a worker for each mailbox
-until_holds 10 all_wait "$server" $((1 + LANES + BOXES))
+# the main one, the one that looks after a stop, the lanes, and a worker for each mailbox
+until_holds 10 all_wait "$server" $((2 + LANES + BOXES))
 
 if command -v strace > /dev/null; then
     calls=mmap,brk,munmap,mremap,clone,clone3

@@ -169,8 +169,8 @@ def installed(folder, does, seconds="20", script="install"):
 @case
 def what_ci_installs(folder):
     """what CI lacks is installed: a package that isn't there, an apt-get that fails and one that never ends leave
-    programs missing, which is said, and nothing stops; no service may start meanwhile; where nothing is missing, or there
-    is no time, nothing is asked for"""
+    programs missing, which is said, and nothing stops; no service may start meanwhile; where nothing is missing, or
+    there is no time, nothing is asked for"""
     if os.geteuid() != 0:
         equal(installed(folder, BRINGS)[0], "one two\n")
         return

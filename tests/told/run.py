@@ -11,7 +11,7 @@ import sys
 
 import told
 from cases import case, equal, run_all
-from place import places_of
+from place import Place, places_of
 
 HERE = pathlib.Path("tests/told")
 attempts = importlib.import_module("try")
@@ -52,8 +52,8 @@ def judged_at_once(folder, name):
 
 @case
 def an_edit_that_changes_nothing(folder):
-    """an edit that changes nothing is still proved; one that says the same in another way, by which goals and steps have
-    other names, isn't refused by a goal, though the prover finds no proof then"""
+    """an edit that changes nothing is still proved; one that says the same in another way, by which goals and steps
+    have other names, isn't refused by a goal, though the prover finds no proof then"""
     equal(judged(folder, "nothing"), (told.STILL_PROVED, ""))
     equal(judged_at_once(folder, "nothing"), None)
     equal(judged(folder, "written_another_way"), (told.ELSEWHERE, "by the names in the proof of check_each"))
@@ -113,6 +113,15 @@ def another_name_in_a_statement(folder):
     as_it_stands = told.asked(place, line.format("check_file-reading"), texts, {})
     equal(told.asked(place, line.format("check_file-found"), texts, names), as_it_stands)
     equal(told.asked(place, line.format("keep_if-found"), texts, names) == as_it_stands, False)
+
+
+@case
+def where_a_goal_is_told(folder):
+    """the place of a goal that is told of what stands before its function in `#[..]` is that function's"""
+    text = "fn one() {\n    1;\n}\n\n#[inline]\n#[tactic(\n    auto,\n    using(a),\n)]\nfn two() {\n    2;\n}\n"
+    one, two = (Place("src/lib.rt", "", name) for name in ["one", "two"])
+    equal([at for at in range(1, 13) if one.has_line(text, at)], [1, 2, 3])
+    equal([at for at in range(1, 13) if two.has_line(text, at)], [5, 6, 10, 11, 12])
 
 
 @case

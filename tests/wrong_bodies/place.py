@@ -27,8 +27,8 @@ class Place(typing.NamedTuple):
         return bool(self.name) and folder == "/".join(filter(None, [*self.module().split("::"), self.name]))
 
     def has_line(self, text, line):
-        """Whether it has this line of its file's text, counted from 1."""
-        return bool(self.name) and function_at(text, line) == (self.owner, self.name)
+        """Whether it, or what stands before it in `#[..]`, has this line of its file's text, counted from 1."""
+        return bool(self.name) and function_at(text, after_attributes(text, line)) == (self.owner, self.name)
 
     def named_in_a_check(self):
         """What a check's line on this function begins with, and on no other: the type's name may be followed by its
@@ -36,6 +36,14 @@ class Place(typing.NamedTuple):
         if self.owner:
             return rf"fn \w+::(\S+::)?{self.owner}([^\w\s:][^\s:]*)?::{self.name}"
         return "::".join(filter(None, [r"fn \w+", self.module(), self.name]))
+
+
+def after_attributes(text, line):
+    """The line itself, and the one after all that stands in `#[..]` where it begins with that."""
+    lines = text.splitlines()
+    while line < len(lines) and lines[line - 1].lstrip().startswith("#["):
+        line = next((at + 1 for at in range(line, len(lines)) if lines[at - 1].endswith("]")), len(lines))
+    return line
 
 
 def function_at(text, line):
