@@ -1,5 +1,5 @@
-"""The service as it is installed, where a machine treats it as it treats others: signals, names in the journal, reloads
-that meet, its package removed and installed again."""
+"""The service as it is installed, where a machine treats it as it treats others: signals, names and priorities in the
+journal, reloads that meet, a container, its package removed and installed again."""
 
 import os
 import pathlib
@@ -9,9 +9,10 @@ import subprocess
 import time
 
 from cases import case, equal
-from clients import deliver_one
+from clients import Client, deliver_one
 from in_a_machine import in_a_machine
-from replies import stored
+from pages import lines_of, type_lines
+from replies import STOPPING, not_stored, stored
 from service import CONF, Service, systemctl
 
 SIGNALS = [signal.SIGHUP, signal.SIGINT, signal.SIGQUIT, signal.SIGUSR1, signal.SIGUSR2, signal.SIGALRM]
@@ -59,6 +60,43 @@ def reloads_that_meet(_folder):
         systemctl("reload", service.unit)
         equal(service.told("ActiveState"), "active")
         equal([line for line in service.lines() if "Failed" in line or line.startswith("lmtpd: ")], [])
+
+
+@case
+@in_a_machine()
+def news_that_is_good(_folder):
+    """the installed service: the journal has a mailbox in use at err, and that it is free again at notice alone"""
+    with Service(["anna"], "--lock-wait", 0) as service:
+        service.lock_file("anna").touch()
+        equal(deliver_one(service.address, ["anna"], "hello"), [not_stored("anna")])
+        service.lock_file("anna").unlink()
+        equal(deliver_one(service.address, ["anna"], "hello"), [stored("anna")])
+        begun = [[line.partition(" mailbox=")[0] for line in service.lines(at)] for at in ["err", "notice"]]
+        in_use = "[ERROR lmtpd] mailbox in use"
+        equal(begun, [[in_use], [in_use, "[ERROR lmtpd] mailbox free again"]])
+
+
+@case
+@in_a_machine()
+def a_container(_folder):
+    """the typed line of 'In a container' in docs/operating/SETUP.md, as a first process: at TERM and at INT it ends in
+    order, its client is told so, and its status is 0; HUP and the others end nothing"""
+    type_lines("install -d /var/mail/lmtpd")
+    for last in [signal.SIGTERM, signal.SIGINT]:
+        words = ["unshare", "--pid", "--fork", "sh", "-c", f"exec {lines_of('SETUP.md', '### In a container')}"]
+        with subprocess.Popen(words, stdout=subprocess.PIPE, text=True) as begun:
+            equal(begun.stdout.readline(), "listening on 0.0.0.0:2003\n")
+            first = int(pathlib.Path(f"/proc/{begun.pid}/task/{begun.pid}/children").read_text())
+            with Client(("127.0.0.1", 2003)).greet() as client:
+                equal(client.deliver(["anna"], "hello")[1], [stored("anna")])
+                for number in [one for one in SIGNALS if one != signal.SIGINT]:
+                    os.kill(first, number)
+                equal(client.deliver(["ben"], "hello")[1], [stored("ben")])
+                since = time.monotonic()
+                os.kill(first, last)
+                equal(client.hear(), STOPPING)
+            equal(begun.stdout.read(), "anna stored 1\nben stored 1\n")
+            equal((begun.wait(), time.monotonic() - since < 10), (0, True))
 
 
 @case
@@ -134,6 +172,8 @@ def an_upgrade_beside_a_mistake(_folder):
 for each in [
     signals_that_end_nothing,
     reloads_that_meet,
+    news_that_is_good,
+    a_container,
     a_package_that_comes_again,
     a_list_of_an_earlier_package,
     an_upgrade_beside_a_mistake,

@@ -1,13 +1,16 @@
-"""A mailbox of the installed service over its quota, from which a user deletes letters."""
+"""A mailbox of the installed service over its quota: a user deletes letters from it, or its senders hear of it."""
 
 from beside import Beside
 from cases import case, equal
 from clients import Client
 from in_a_machine import in_a_machine
 from mutt import Mutt
+from pages import lines_of, type_lines
 from readers_delete import FORMAIL, MUTT, ByFormail
 from replies import over_quota, stored
 from server import run
+from service import Service
+from with_postfix import SITE, lines_in, send, subjects, wait_for
 
 QUOTA = 10_000
 LINES = ["x" * 70] * 10
@@ -47,4 +50,30 @@ def room_again(folder):
     equal(run(["check", beside.path]).status, 0)
 
 
-room_again.seconds = 180
+@case
+@in_a_machine()
+def its_senders_hear_of_it(_folder):
+    """the installed service behind Postfix, its quota by the typed lines of docs/operating/MAILBOXES.md: a letter over
+    it waits in the queue; with --over-quota reject it goes back to its sender at once, and a shorter one is stored"""
+    text = f"{'x' * 70}\n" * 200
+    with Service(["anna", "ben"]) as service:
+        type_lines(lines_of("MAILBOXES.md", "## Quota").replace("1000000000", "20000"))
+        type_lines(SITE)
+        send("anna@mx.example", subject="before", text=text)
+        equal(subjects(service, "anna", 1), ["before"])
+        send("anna@mx.example", subject="put off", text=text)
+        wait_for(r"to=<anna@mx\.example>.* status=deferred .*452 4\.2\.2 Over quota for anna")
+        type_lines("postsuper -d ALL deferred")
+        type_lines("sed -i 's/^OPTIONS=.*/& --over-quota reject/' /etc/lmtpd.conf; systemctl reload lmtpd")
+        send("anna@mx.example", subject="for good", text=text, sender="ben@mx.example")
+        wait_for(r"to=<anna@mx\.example>.* status=bounced .*552 5\.2\.2 Over quota for anna")
+        equal(subjects(service, "ben", 1)[0], "Undelivered Mail Returned to Sender")
+        assert any("552 5.2.2 Over quota for anna" in line for line in lines_in(service, "ben"))
+        send("anna@mx.example", subject="short")
+        equal(subjects(service, "anna", 2), ["before", "short"])
+        codes = [line.partition(" code=")[2][:3] for line in service.lines() if " outcome=over-quota " in line]
+        equal(codes, ["452", "552"])
+
+
+for one in [room_again, its_senders_hear_of_it]:
+    one.seconds = 180

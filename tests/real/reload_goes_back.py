@@ -21,6 +21,12 @@ SIZES = [
     ("--capacity 5000", "--capacity has=5000 least=1 most=1024"),
 ]
 
+FOLDERS = {
+    "/var/mail/none": "No such file or directory (os error 2)",
+    "/etc/lmtpd.boxes": "Not a directory (os error 20)",
+    "/var/mail/closed": "Permission denied (os error 13)",
+}
+
 
 @case
 @in_a_machine()
@@ -56,19 +62,21 @@ def a_start_that_no_check_foresees(_folder):
 @case
 @in_a_machine()
 def what_a_check_foresees(_folder):
-    """systemctl reload with a size out of its limits, or a folder that is away: it fails, the journal has the word with
-    its limits or the folder and why, and nothing is stopped"""
+    """systemctl reload with a size out of its limits, or a folder that is away, a file or closed to the server: it
+    fails, the journal has the word with its limits or the folder and why, and nothing is stopped"""
     with Service(["anna"]) as service:
         process = service.told("MainPID")
         for options, told in SIZES:
             service.set("OPTIONS", options)
             refused(service, process, [f"[ERROR lmtpd] a size is out of its limits word={told}", "lmtpd: size"])
         service.set("OPTIONS")
-        service.set("FOLDER", "/var/mail/none")
-        reason = "reason=No such file or directory (os error 2)"
-        lines = [f"[ERROR lmtpd] cannot open mailbox=anna {reason}"]
-        lines += [f"[ERROR lmtpd] cannot read the folder folder=/var/mail/none {reason}", "lmtpd: cannot open anna.mbox"]
-        refused(service, process, lines)
+        pathlib.Path("/var/mail/closed").mkdir(mode=0o700)
+        for place, why in FOLDERS.items():
+            service.set("FOLDER", place)
+            lines = [f"[ERROR lmtpd] cannot open mailbox=anna reason={why}"]
+            lines += [f"[ERROR lmtpd] cannot read the folder folder={place} reason={why}"]
+            refused(service, process, [*lines, "lmtpd: cannot open anna.mbox"])
+        equal(list(pathlib.Path("/var/mail/closed").iterdir()), [])
 
 
 for one in [a_start_that_no_check_foresees, what_a_check_foresees]:

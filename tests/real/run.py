@@ -4,6 +4,7 @@ import sys
 
 import all_through_dovecot  # noqa: F401  (each adds its cases)
 import as_other_services  # noqa: F401
+import check_says  # noqa: F401
 import debian  # noqa: F401
 import disk_full_heals  # noqa: F401
 import dovecot_under_the_unit  # noqa: F401

@@ -168,10 +168,10 @@ def largest(service):
     return int(re.search(r"^250[ -]SIZE (\d+)", said, re.MULTILINE)[1])
 
 
-def send(*addresses, subject=None, text="hello\n", more=()):
+def send(*addresses, subject=None, text="hello\n", more=(), sender="carl@mx.example"):
     """A letter to all of these, whose subject is the first one's address where none is given."""
     letter = "\n".join([f"Subject: {subject or addresses[0]}", *more, "", text])
-    subprocess.run(["sendmail", "-f", "carl@mx.example", *addresses], input=letter.encode(), check=True)
+    subprocess.run(["sendmail", "-f", sender, *addresses], input=letter.encode(), check=True)
 
 
 def subjects(service, name, count):
