@@ -18,6 +18,8 @@ import time
 TRIES = 100  # for a letter's locks, and one for the next letters while they can't be had
 PAUSE = 0.1
 INHERITED = 3  # the socket that systemd hands on
+# The words of `lmtpd serve` that have no value, of those that the unit gives.
+ALONE = ["--rename-marks", "--refuse-malformed", "--start-anyway"]
 
 
 class Mailbox:
@@ -108,17 +110,35 @@ class Conversation:
 def main(word, *words):
     if word == "check":
         return
-    given = {name: value for name, value in zip(words, words[1:], strict=False) if name.startswith("--")}
-    mailbox = Mailbox(pathlib.Path(given["--dir"]) / f"{words[-1]}.mbox")
+    given, (name,) = parted(words)
+    mailbox = Mailbox(pathlib.Path(given["--dir"]) / f"{name}.mbox")
     listener = socket.socket(fileno=INHERITED)
-    print("listening on inherited", flush=True)
     for number in range(int(given["--lanes"])):
         threading.Thread(target=serve, args=(number, listener, mailbox), daemon=True).start()
+    print("listening on inherited", flush=True)
+    tell_systemd(b"READY=1")
     while not os.path.exists(given["--stop-file"]):
         time.sleep(PAUSE)
-    print(f"{words[-1]} stored {mailbox.stored}")
+    print(f"{name} stored {mailbox.stored}")
     if mailbox.missed:
-        print(f"lmtpd: {words[-1]} in use {mailbox.missed}", file=sys.stderr)
+        print(f"lmtpd: {name} in use {mailbox.missed}", file=sys.stderr)
+
+
+def parted(words):
+    """The value of each word that has one, and the names of mailboxes, which stand among them."""
+    given, names, left = {}, [], iter(words)
+    for word in left:
+        if not word.startswith("--"):
+            names.append(word)
+        elif word not in ALONE:
+            given[word] = next(left)
+    return given, names
+
+
+def tell_systemd(text):
+    with socket.socket(socket.AF_UNIX, socket.SOCK_DGRAM) as notify:
+        notify.connect(os.environ["NOTIFY_SOCKET"].replace("@", "\0", 1))
+        notify.send(text)
 
 
 def serve(lane, listener, mailbox):
