@@ -58,7 +58,9 @@ def dates_are_utc(_folder):
         type_lines(lines_of("MAILBOXES.md", "### All through Dovecot"))
         for lines, hours in [("true", -5.5), (lines_of("MAILBOXES.md", "### Dates in Dovecot"), 0)]:
             type_lines(lines)
-            service.mailbox("anna").write_bytes(b"")
+            # the server makes it with its first letter
+            if service.mailbox("anna").exists():
+                service.mailbox("anna").write_bytes(b"")
             since = time.time()
             equal(deliver_one(service.address, ["anna"], "Subject: now", "", "hello"), [stored("anna")])
             with login("anna") as client:

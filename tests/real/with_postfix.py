@@ -49,6 +49,25 @@ def the_service_behind_postfix(_folder):
 
 @case
 @in_a_machine()
+def a_domain_that_is_not_served(_folder):
+    """Postfix hands on a domain that the installed service doesn't serve, and a name that there isn't: the letters go
+    back by the same reply, and the journal tells them apart, the domain at err too"""
+    with Service(NAMES) as service:
+        type_lines(SITE)
+        type_lines("postconf -e 'virtual_mailbox_domains=mx.example real.tld' virtual_mailbox_maps=static:x")
+        type_lines("postfix reload")
+        for address in ["anna@real.tld", "nobody@mx.example", "ben@real.tld"]:
+            send(address, sender="ben@mx.example")
+            wait_for(rf"to=<{re.escape(address)}>.* status=bounced .*550 5\.1\.1 No such mailbox")
+        refused = [line for line in service.lines() if " command refused " in line and " verb=RCPT " in line]
+        equal([line.partition(" reason=")[2] for line in refused], ["domain", "mailbox", "domain"])
+        # each lane says it once an hour
+        equal(set(service.lines("err")), {"[ERROR lmtpd] domain not served domain=real.tld"})
+        equal(subjects(service, "ben", 3).count("Undelivered Mail Returned to Sender"), 3)
+
+
+@case
+@in_a_machine()
 def aliases(_folder):
     """Postfix by the typed lines of 'Aliases': two domains in which info isn't the same user's, a catch-all and
     postmaster"""
@@ -150,6 +169,7 @@ def utf8_through_postfix(_folder):
 
 for one in [
     the_service_behind_postfix,
+    a_domain_that_is_not_served,
     aliases,
     users_of_the_system,
     recipients_of_letters,
