@@ -141,6 +141,8 @@ def locks_that_others_take(folder):
     mail.mkdir()
     with Server(mail, ["anna"], 100) as server:
         path = server.mailbox("anna")
+        # the server makes none before its first letter
+        path.touch(mode=0o600)
         for place in [mail, path]:
             os.chown(place, 8, 8)
         more = [f"virtual_mailbox_base = {mail}", "virtual_mailbox_maps = static:anna.mbox"]
