@@ -81,6 +81,8 @@ def one_mailbox_holds_up_its_own_mail_alone(folder):
     restart"""
     with machine(folder) as there:
         type_lines(there)
+        # the server makes none before its first letter
+        types(there, [f"install -o lmtpd -g lmtpd -m 600 /dev/null {FOLDER}/ben.mbox"])
         for number, (break_file, mend) in enumerate(WAYS):
             there.run(f"cd {FOLDER}; {break_file}; systemctl restart lmtpd")
             equal(there.run("printf 'Subject: two\n\nhello\n' | sendmail anna@mx.example ben@mx.example")[0], 0)
