@@ -16,6 +16,7 @@ RECIPIENTS = 4  # of each message: the mailboxes of its connection, which are th
 SIZE = 512
 LOAD = pathlib.Path(__file__).parents[2] / "bench/serve/load.rs"
 EVERY = 0.5  # seconds between two looks
+OPENED = 2  # files of a mailbox, from its first letter on: its own, and what its lock files are linked from
 SETTLED = 10  # per cent of the looks after which nothing grows with what is delivered
 ID = re.compile(rb"^Message-ID: <soak\.(\d+)\.(\d+)@load>$", re.MULTILINE)
 
@@ -100,8 +101,9 @@ def judge(before, looks, after, work):
     print(f"descriptors {before.descriptors} before, {after.descriptors} after")
     assert most - first < work.leak, f"from {first} to {most} KiB"
     # one for each client, who comes and goes
-    assert max(look.descriptors for look in looks) <= before.descriptors + work.lanes, "more than the clients'"
-    equal(after.descriptors, before.descriptors)
+    mailboxes = before.descriptors + OPENED * len(work.boxes)
+    assert max(look.descriptors for look in looks) <= mailboxes + work.lanes, "more than the clients'"
+    equal(after.descriptors, mailboxes)
 
 
 def compiled(folder):
