@@ -44,7 +44,7 @@ def its_lock_file_is_gone(folder):
     equal(left, LEFT)
 
 
-its_lock_file_is_gone.seconds = 420
+its_lock_file_is_gone.seconds = 840
 
 
 def kill_under_load(service, number, told, after):
