@@ -40,7 +40,7 @@ def killed_a_hundred_times(_folder):
     judge({name: service.mailbox(name).read_bytes() for name in BOXES}, told)
 
 
-killed_a_hundred_times.seconds = 420
+killed_a_hundred_times.seconds = 840
 
 
 @contextlib.contextmanager
