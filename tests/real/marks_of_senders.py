@@ -169,5 +169,7 @@ def is_in_mutt(folder, path, pattern):
 
 def count_by_formail(path):
     formail = program("formail", "procmail")
-    said = subprocess.run([formail, "-s", "echo"], stdin=path.open("rb"), capture_output=True, check=True)
+    # one that doesn't read its letter may be gone before formail wrote that
+    words = [formail, "-s", "sh", "-c", "cat > /dev/null; echo"]
+    said = subprocess.run(words, stdin=path.open("rb"), capture_output=True, check=True)
     return len(said.stdout.splitlines())
