@@ -9,7 +9,7 @@ import subprocess
 from cases import case, equal
 from clients import deliver_one
 from in_a_machine import PROGRAM, in_a_machine
-from pages import PAGES, lines_of, type_lines
+from pages import PAGES, type_lines
 from replies import stored
 from service import FOLDER, Service
 
