@@ -125,6 +125,15 @@ def where_a_goal_is_told(folder):
 
 
 @case
+def an_answer_that_does_not_follow(folder):
+    """a goal counts whose answer is a search for a proof by numbers that finds none"""
+    room = Recorded(folder, "another_statement")
+    line = "./proofs/files/check_each/Answers.antt:5:5: error: `returns-then-is_err`: `omega`: the goal does not follow"
+    room.left = ["1", f"{line} from what it read.\nonly=1 proved=0"]
+    equal(room.try_one(room.edit), (told.REFUSED, "check_each, returns-then-is_err (not proved)"))
+
+
+@case
 def what_tells_of_no_goal(folder):
     """what doesn't compile, can't be read, or isn't looked at is neither refused nor proved"""
     room = Recorded(folder, "another_statement")

@@ -37,7 +37,7 @@ ANSWER = r"(?:\./)?proofs/(\S+)/(Answers|Invariants)\.antt:\d+:\d+: error: (.*)"
 STATEMENT = rf"note: {GOAL} of (?:\./)?proofs/(\S+)/Answers\.antt must prove: (.*)"
 DEFINED = r"(?:abbrev )?(?:pub )?"
 DIFFERS = r"\bthe two (types|sides)\b"
-NOT_FOUND = r"\bno proof of\b"
+NOT_FOUND = r"\bno proof of\b|\bthe goal does not follow\b"
 
 
 class Unmet(typing.NamedTuple):
