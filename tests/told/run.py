@@ -154,7 +154,22 @@ def what_tells_of_no_goal(folder):
     ]:
         room.left = ["1", said]
         equal(room.try_one(room.edit)[0], kind)
-    equal(sorted(told.BAD), sorted(set(told.KINDS) - {told.REFUSED}))
+    equal(sorted(told.BAD), sorted(set(told.KINDS) - {told.REFUSED, told.FOR_NAMES}))
+
+
+@case
+def what_is_known_of_an_edit(folder):
+    """a wrong body that only names in its own function's proof refuse is let pass where tests/wrong_bodies/for_names
+    has it with a reason, and by no other refusal"""
+    place = folder / "tests/wrong_bodies"
+    place.mkdir(parents=True)
+    (place / "for_names").write_text("# a comment\na/one.edit | why\na/two.edit | \n")
+    edits = [folder / "crates/a/must-fail-at-once" / f"{name}.edit" for name in ["one", "two", "three"]]
+    names = f"{told.BY_NAMES} f"
+    found = [told.known(folder, it, told.ELSEWHERE, names) for it in edits]
+    equal(found, [told.FOR_NAMES, told.ELSEWHERE, told.ELSEWHERE])
+    equal(told.known(folder, edits[0], told.ELSEWHERE, "by g"), told.ELSEWHERE)
+    equal(told.known(folder, edits[0], told.STILL_PROVED, ""), told.STILL_PROVED)
 
 
 sys.exit(run_all(sys.argv[1:]))

@@ -10,14 +10,18 @@ import typing
 from place import function_at, places_of
 
 REFUSED = "refused by a goal of its function"
+FOR_NAMES = "refused for names alone, as is known"
 ELSEWHERE = "refused elsewhere"
 NO_COMPILE = "doesn't compile"
 STILL_PROVED = "still proved"
 NOT_TRIED = "not tried"
 NOT_LOOKED_AT = "not looked at"
-KINDS = [REFUSED, ELSEWHERE, NO_COMPILE, STILL_PROVED, NOT_TRIED, NOT_LOOKED_AT]
-BAD = KINDS[1:]
+KINDS = [REFUSED, FOR_NAMES, ELSEWHERE, NO_COMPILE, STILL_PROVED, NOT_TRIED, NOT_LOOKED_AT]
+BAD = KINDS[2:]
 NO_SUCH_PATH = 2  # the status of a check that was to look at what isn't there
+
+# what is said of one that only names refuse which stand in its own function's proof
+BY_NAMES = "by the names in the proof of"
 
 # how a goal isn't met
 OTHER = "another statement"
@@ -126,11 +130,19 @@ def met(edit, crate, texts, status, said):
             return REFUSED, told_goal(place, unmet(place, said, texts))
     for place in own:
         if names_gone(place, said):
-            return ELSEWHERE, f"by the names in the proof of {place.name}"
+            return ELSEWHERE, f"{BY_NAMES} {place.name}"
         if has_no_goals(place, said):
             return NOT_LOOKED_AT, place.name
     found = [it for it in lines if re.match(r"(note: )?\S+:\d+:\d+:", it) and (": error" in it or it[:5] == "note:")]
     return ELSEWHERE, f"by {place_of_a_line(next(iter(found), ''), crate, texts)}"
+
+
+def known(root, edit, kind, more):
+    """The kind of a wrong body that was met so, by what tests/wrong_bodies/for_names says of it."""
+    crate = edit.parent.parent.name if edit.parent.name.startswith("must-fail") else edit.parent.name
+    lines = (root / "tests/wrong_bodies/for_names").read_text(encoding="utf-8").splitlines()
+    named = {line.partition(" | ")[0] for line in lines if line.partition(" | ")[2].strip()}
+    return FOR_NAMES if kind == ELSEWHERE and more.startswith(BY_NAMES) and f"{crate}/{edit.name}" in named else kind
 
 
 def told_goal(place, goals):

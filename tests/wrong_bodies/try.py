@@ -227,6 +227,7 @@ def try_crate(root, name, edits, crates, folder, said):
     room, kinds = Room(root, name, crates, folder, not said), []
 
     def tell(edit, kind, more):
+        kind = told.known(root, edit, kind, more)
         print(f"{name}/{edit.name}: {kind}{more and ': ' + more}", flush=True)
         kinds.append(kind)
 
