@@ -21,6 +21,7 @@ import largest  # noqa: F401
 import leases  # noqa: F401
 import limits  # noqa: F401
 import lock_texts  # noqa: F401
+import logged_addresses  # noqa: F401
 import logs  # noqa: F401
 import neighbour_files  # noqa: F401
 import no_descriptors  # noqa: F401
