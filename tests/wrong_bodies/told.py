@@ -40,7 +40,7 @@ ASKED = rf"note: (?:\./)?(src/\S+?):(\d+):\d+: (?:it is not proved that|`search`
 ANSWER = r"(?:\./)?proofs/(\S+)/(Answers|Invariants)\.antt:\d+:\d+: error: (.*)"
 STATEMENT = rf"note: {GOAL} of (?:\./)?proofs/(\S+)/Answers\.antt must prove: (.*)"
 DEFINED = r"(?:abbrev )?(?:pub )?"
-DIFFERS = r"\bthe two (types|sides)\b"
+DIFFERS = r"\bthe two (types|sides)\b|\bbut this has type\b"
 NOT_FOUND = r"\bno proof of\b|\bthe goal does not follow\b"
 
 
