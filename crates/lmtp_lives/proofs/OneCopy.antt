@@ -1,6 +1,6 @@
 -- A run whose only lane is sent a copy for anna, at either site, however her mailbox's turn ends.
-use Rattle.std.proofs.Common.{◌≡◌, ℕ, zero, suc, ◌+◌, ◌<◌, ◌≤◌, List, [], ◌∷◌, ◌++◌, length, map, Bool, true, false, cond}
-use Rattle.std.proofs.Common.{Some, None, refl, sym, ◌∙◌, subst, inl, inr, lit<, lit≤, arith, take-append-drop}
+use Rattle.std.proofs.Common.{◌≡◌, ℕ, zero, suc, ◌+◌, ◌<◌, ◌≤◌, List, [], ◌∷◌, ◌++◌, length, map, Bool, true, false}
+use Rattle.std.proofs.Common.{cond, Some, None, refl, sym, ◌∙◌, subst, inl, inr, lit<, lit≤, arith, take-append-drop}
 use Rattle.std.specs.Prelude.{◌==◌, slice_get, count_by, flat_map, take, drop, ⊤}
 use Rattle.std.specs.List.{AllByRecursion}
 use Rattle.mail_world.specs.declared.Note.{Note}
@@ -394,8 +394,8 @@ module _ (outcome : Outcome) (end : TurnEnd) (lock unlock : Standing) (got : ℕ
         → slice_get (handed t).spools b ≡ Some before → slice_get (back t).spools b ≡ Some after
         → slice_get (back t).tallies b ≡ Some tells → Works t b before after tells
     box_works =
-        at_each Works before_turn idle after_turn idle tallied (tally [] []) (box_work false 0) (λ had. idle_work true 0)
-        (box_work true 1)
+        at_each Works before_turn idle after_turn idle tallied (tally [] []) (box_work false 0)
+        (λ had. idle_work true 0) (box_work true 1)
 
     abbrev TellsOf : Bool → ℕ → Mailbox → Mailbox → Mailbox → Type 0
     TellsOf t b before after again = TellsTurns (boxes t b).turns (spools.told before) (spools.told after)

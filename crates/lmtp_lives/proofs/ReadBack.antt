@@ -12,7 +12,8 @@ use Rattle.mail_world.specs.Text.{IsOneLine}
 use Rattle.mail_world.specs.Turns.{HaveTurns}
 use Rattle.mail_runs.proofs.ByTime.{all_filter}
 use Rattle.mail_lives.specs.ReadAs.{IsReadAs}
-use Rattle.mail_lives.specs.Lives.{Life, HaveLived, LivesLeave, lives_steps, taken_through, told_in, under, told_through}
+use Rattle.mail_lives.specs.Lives.{Life, HaveLived, LivesLeave, lives_steps, taken_through, told_in, told_through}
+use Rattle.mail_lives.specs.Lives.{under}
 use Rattle.mail_lives.specs.Steps.{SiteNote}
 use Rattle.mail_lives.specs.ReadBack.{IsReadBack}
 use Rattle.mail_lives.proofs.Lists.{all_front, all_back, all_both}

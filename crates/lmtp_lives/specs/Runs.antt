@@ -12,8 +12,8 @@ use Rattle.lmtp_threads.specs.Works.{VisitsView, SpoolsView}
 use Rattle.lmtp_house.specs.Handed.{HandedIn, HandedBack}
 use Rattle.lmtp_house.specs.House.{HasRun}
 
--- one run: its site, its clock, what was handed in and handed back, what it came to; and before each turn at the mailbox
--- with a number what others made of its letters, as lives have it
+-- one run: its site, its clock, what was handed in and handed back, what it came to; and before each turn at the
+-- mailbox with a number what others made of its letters, as lives have it
 pub record ServerRun {V S C : Type 0} (May : C → ℕ → Type 0) (view : VisitsView V) (spools : SpoolsView S)
     : Type 0 where
   pub site : Site

@@ -58,8 +58,8 @@ pub fn told_is_read_back<V: Visits, O: Observer, S: Spool, T: TurnObserver, C: C
 
 /// Where the system keeps what was synced, and may leave any bytes behind it: in a mailbox that others leave alone each
 /// letter that was there at first is found after any number of runs, and after them, in the order of the turns, each
-/// copy whose turn stored (`stored`), of which just its lane's clients were told so (`told_is_stored`). Each begins with
-/// all its lines; only the last one before such bytes, or before a turn that broke, gains lines.
+/// copy whose turn stored (`stored`), of which just its lane's clients were told so (`told_is_stored`). Each begins
+/// with all its lines; only the last one before such bytes, or before a turn that broke, gains lines.
 pub fn spoilt_runs_are_found<V: Visits, O: Observer, S: Spool, T: TurnObserver, C: Clock>()
     ensures found { (runs : List (SpoiltRun C.May (visits_view V.MayGive V.finished V.over O.told)
         (spools_view S.state S.MayFind S.MayRefuse T.told)))

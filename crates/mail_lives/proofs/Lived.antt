@@ -17,8 +17,8 @@ use Rattle.mail_world.specs.Site.{Site}
 use Rattle.mail_lives.specs.ReadAs.{IsReadAs}
 use Rattle.mail_lives.specs.Steps.{SiteNote, Step, StepsLeave, StepsComeTo, IsMailedStep}
 use Rattle.mail_lives.specs.Lives.{Gap, Life, TurnLeaves, TurnsLeave, HaveLived, turn_steps, turns_steps, steps_of}
-use Rattle.mail_lives.specs.Lives.{lives_steps, taken_through, if_stored, stored_of, told_in, under, told_through, broken_in}
-use Rattle.mail_lives.specs.Lives.{broken_through}
+use Rattle.mail_lives.specs.Lives.{lives_steps, taken_through, if_stored, stored_of, told_in, told_through, broken_in}
+use Rattle.mail_lives.specs.Lives.{under, broken_through}
 use Rattle.mail_lives.specs.ReadBack.{stored_in, if_stores, tears, torn_in}
 use Rattle.mail_lives.proofs.Lists.{all_front, all_back, all_both}
 use Rattle.mail_lives.proofs.Stepping.{steps_read}

@@ -118,7 +118,12 @@ module _ (calendar : Calendar) where
         let goes : new ≡ old ++ (mended old ++ text) =
         h.1.2 ∙ ap (λ (l : List ℕ). old ++ l) (is_added ∙ ap (λ (l : List ℕ). l ++ text) (sym h.0)) in
         let adds = stored_adds calendar site note old new one mailed goes in
-        record { real = Adds (letter_of calendar site note) ∷ []; leave = (new, adds.1, refl); whole = (adds.0, tt); alike = (refl, tt) }
+        record {
+          real = Adds (letter_of calendar site note) ∷ [];
+          leave = (new, adds.1, refl);
+          whole = (adds.0, tt);
+          alike = (refl, tt);
+        }
     turn_goes note Failed (Had lock unlock) quota old new mailed is h = spoil h.1.prefix [] old new h.1.left
     turn_goes note OverQuota (Had lock unlock) quota old new mailed is h =
         let none : h.1.0 ≡ [] =
@@ -128,15 +133,16 @@ module _ (calendar : Calendar) where
     turn_goes note TooLarge (Had lock unlock) quota old new mailed is h = absurd is
     turn_goes note Malformed (Had lock unlock) quota old new mailed is h = absurd is
 
-    turns_go : (notes : List Note) (turns : List Told) (quota : Option ℕ) (old new : List ℕ) → AllByRecursion IsMailed notes
-        → HaveTurns calendar site quota notes turns → TurnsKeep calendar site notes turns old new
-        → Goes (turns_moves calendar site notes turns) old new
+    turns_go : (notes : List Note) (turns : List Told) (quota : Option ℕ) (old new : List ℕ)
+        → AllByRecursion IsMailed notes → HaveTurns calendar site quota notes turns
+        → TurnsKeep calendar site notes turns old new → Goes (turns_moves calendar site notes turns) old new
     turns_go [] [] quota old new mailed are h = stay old new h
     turns_go [] (t ∷ turns) quota old new mailed are h = absurd are
     turns_go (n ∷ notes) [] quota old new mailed are h = absurd are
     turns_go (n ∷ notes) (t ∷ turns) quota old new mailed are h =
         go_both (turn_moves calendar site n t.outcome t.turn) (turns_moves calendar site notes turns) old h.0 new
-        (turn_goes n t.outcome t.turn quota old h.0 mailed.0 are.0 h.1) (turns_go notes turns quota h.0 new mailed.1 are.1 h.2)
+        (turn_goes n t.outcome t.turn quota old h.0 mailed.0 are.0 h.1)
+        (turns_go notes turns quota h.0 new mailed.1 are.1 h.2)
 
   lives_go : (lives : List SpoiltLife) (old new : List ℕ)
       → AllByRecursion (λ (life : SpoiltLife). IsOneLine life.site.host) lives
