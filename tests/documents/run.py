@@ -32,7 +32,7 @@ FUNCTIONS = re.compile(r"`(?:(\w+)::)?(?:\{([a-z0-9_, ]+)\}|([a-z]\w*))`")
 QUOTED = re.compile(r"`(\w+)`")
 # What was tried over the sources of a commit, and any other words for that.
 TRIED = re.compile(r"\btried over `?([0-9a-f]{8})\b(?!`?'s)")
-OVER = re.compile(r"\bover (?:the )?`?(?=[0-9a-f]*\d)[0-9a-f]{7,40}\b")
+OVER = re.compile(r"\bover\b[^.|]{0,40}?\b(?=[0-9a-f]*\d)(?=[0-9a-f]*[a-f])[0-9a-f]{7,40}\b")
 
 
 def tracked():
