@@ -1,10 +1,8 @@
 """Which functions the crates hand on, by their sources: public ones of modules and types that a crate's lib.rt names,
-and the methods of such traits. Laws are those whose body is empty."""
+and the methods of such traits; laws too, whose bodies are empty."""
 
 import re
 
-# Clauses stand in braces before a body, each after one of these words.
-CLAUSE = re.compile(r"\b(requires|ensures|decreases)\b[^{}]*$")
 BLOCK = re.compile(r"^[ \t]*(pub )?(?:unsafe )?(impl|trait)\b([^{;]*)", re.M)
 FUNCTION = re.compile(r"(\bpub(?:\([^)]*\))? )?((?:const |unsafe |ghost )*)\bfn (\w+)")
 
@@ -26,23 +24,6 @@ def end_of_braces(text, at):
     return len(text)
 
 
-def body_after(text, at):
-    """What stands in the body of the function whose name ends there; None where it has none."""
-    depth, began, place = 0, at, at
-    while place < len(text):
-        letter = text[place]
-        depth += {"(": 1, "[": 1, ")": -1, "]": -1}.get(letter, 0)
-        if depth == 0 and letter == ";":
-            return None
-        if depth == 0 and letter == "{":
-            end = end_of_braces(text, place)
-            if not CLAUSE.search(text[began:place]):
-                return text[place + 1 : end].strip()
-            began = place = end
-        place += 1
-    return None
-
-
 def type_in(head):
     """The type of an impl or a trait by what stands after that word, and whether it is an impl of a trait."""
     head = re.sub(r"\bwhere\b.*", "", head, flags=re.S).replace("->", "").strip()
@@ -58,8 +39,8 @@ def type_in(head):
 
 
 def functions_in(source):
-    """Of each function of the source: its type or trait, None where it has none; its name; 'pub' of it or of its
-    trait; whether it is a law; and whether it is what a trait asks for."""
+    """Of each function of the source: its type or trait, None where it has none; its name; and whether it, or the
+    trait that asks for it, is public."""
     text = without_texts(source)
     blocks = []
     for found in BLOCK.finditer(text):
@@ -72,7 +53,7 @@ def functions_in(source):
         owner, of_trait, asked = within[-1][2:] if within else (None, False, False)
         is_public = asked or found[1] == "pub " and not of_trait
         if "ghost" not in found[2]:
-            yield owner, found[3], is_public, body_after(text, found.end()) == "", asked
+            yield owner, found[3], is_public
 
 
 def sources_of(crate):
@@ -89,15 +70,15 @@ def handed_on(crate):
 
 
 def exported_by(crate):
-    """The functions with code that the crate hands on, as `Type::name` or `name`."""
+    """The functions that the crate hands on, as `Type::name` or `name`."""
     names, modules = handed_on(crate)
     found = set()
     for file in sources_of(crate):
         source = file.read_text()
         is_open = str(file.relative_to(crate / "src").with_suffix("")) in modules
         types = set(re.findall(r"\bpub (?:struct|enum|trait) (\w+)", source)) if is_open else set()
-        for owner, name, is_public, is_law, _ in functions_in(source):
-            if is_public and not is_law and (owner or name) in (names | types | ({name} if is_open else set())):
+        for owner, name, is_public in functions_in(source):
+            if is_public and (owner or name) in (names | types | ({name} if is_open and not owner else set())):
                 found.add(f"{owner}::{name}" if owner else name)
     return found
 

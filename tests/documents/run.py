@@ -1,6 +1,6 @@
 """What documents cite is there: each name of a function, a test or a definition, each file, and each text by which a
-case of tests/serve.sh or tests/real/run.sh is named. And docs/RULES.md has each function with code that a crate hands
-on, and what it says was tried over a commit was tried over the sources that stand."""
+case of tests/serve.sh or tests/real/run.sh is named. And docs/RULES.md has each function that a crate hands on, and
+what it says was tried over a commit was tried over the sources that stand."""
 
 import pathlib
 import re
@@ -144,7 +144,7 @@ def methods_are_there(_):
 
 @case
 def each_exported_function_has_its_row(_):
-    """each function with code that a crate hands on is named in a row of docs/RULES.md"""
+    """each function that a crate hands on, laws too, is named in a row of docs/RULES.md"""
     rows = "\n".join(cell for row in rows_of(RULES) for cell in row.values())
     exported = {(it.name, name) for it in crates() if (it / "src/lib.rt").exists() for name in exported_by(it)}
     equal(sorted(it for it in exported if it[1] not in set(functions_in_text(rows))), [])
