@@ -2,9 +2,9 @@
 """Proves side by side each library that isn't proved as it stands, for `make build`.
 
 `rt all check` gives each crate one process, and our crates are one long chain: most of the time it goes on with one or
-two of them. Here the crate with the longest chain above it, by the seconds of building/seconds, is proved by as many
-processes as there are cores, up to four, and the others fill what it leaves, by one or two processes each and at a
-lower priority. As rt holds the folders of all crates below the one that it works in, each works in a room of its own,
+two of them. Here the crate with the longest chain above it, by the processor time that each took here last (out/seconds)
+or elsewhere (building/seconds), is proved by as many processes as there are cores, up to four, and the others fill what
+it leaves, by one or two processes each and at a lower priority. As rt holds the folders of all crates below the one that it works in, each works in a room of its own,
 which has the crates below by hard links; what it kept is moved to the crate's own folder then, where `rt run` takes it,
 which proves the program itself. A crate that isn't proved ends this with status 1, and what it said is printed.
 usage: building/prove.py, at the top of the repository
@@ -40,6 +40,11 @@ class Crate:
         self.below = []
         self.chain = 0  # the cost of the longest chain from this one upwards
 
+    def seconds(self):
+        """The seconds of processor time that its last check here took; None where it had none."""
+        measured = self.folder / "out/seconds"
+        return int(measured.read_text()) if measured.exists() else None
+
     def kept(self):
         """When its last check ended well; 0 where none did."""
         stamp = self.folder / "out/rlib/stamp"
@@ -60,6 +65,7 @@ def read_crates():
     crates = {name: it for name, it in crates.items() if not (it.folder / "src/main.rt").exists()}
     seconds = {name: int(count) for name, count in map(str.split, rows_of(SECONDS))}
     usual = sum(seconds.values()) // len(seconds)  # of a crate that has no row
+    seconds |= {name: it.seconds() for name, it in crates.items() if it.seconds() is not None}
 
     def below(crate):
         found = {it.name: it for name in crate.libraries for it in [crates[name], *below(crates[name])]}
@@ -99,6 +105,16 @@ class Check:
         begin = lambda: (os.setpgrp(), os.nice(niceness))  # noqa: E731
         ends = {"stdin": subprocess.DEVNULL, "stdout": self.said, "stderr": subprocess.STDOUT}
         self.process = subprocess.Popen(words, cwd=self.folder, preexec_fn=begin, **ends)
+        self.seconds = 0  # of processor time, once it has ended
+
+    def has_ended(self):
+        """Whether it has, and then how much processor time it took, which the system knows until it is waited for."""
+        if not os.waitid(os.P_PID, self.process.pid, os.WEXITED | os.WNOHANG | os.WNOWAIT):
+            return False
+        fields = pathlib.Path(f"/proc/{self.process.pid}/stat").read_text().rpartition(")")[2].split()
+        # utime, stime, cutime and cstime, of which the latter two are its children's
+        self.seconds = round(sum(map(int, fields[11:15])) / os.sysconf("SC_CLK_TCK"))
+        return True
 
     def lead(self):
         """Takes the priority of the first, where this user may raise it."""
@@ -115,7 +131,9 @@ class Check:
         if (self.folder / "out").exists():
             os.rename(self.folder / "out", self.crate.folder / "out")
         if self.process.returncode == 0:
-            print(f"{self.crate.name} proved in {time.monotonic() - self.since:.0f} s", flush=True)
+            (self.crate.folder / "out/seconds").write_text(f"{self.seconds}\n")
+            told = f"{time.monotonic() - self.since:.0f} s, {self.seconds} s of processor time"
+            print(f"{self.crate.name} proved in {told}", flush=True)
         else:
             self.said.seek(0)
             sys.stdout.flush()
@@ -171,7 +189,7 @@ def prove(crates, room):
             if not running:
                 return False
             time.sleep(0.2)
-            for check in [it for it in running if it.process.poll() is not None]:
+            for check in [it for it in running if it.has_ended()]:
                 running.remove(check)
                 if not check.finish():
                     return False

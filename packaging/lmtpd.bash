@@ -1,14 +1,16 @@
 # What bash completes of the words of lmtpd.
 _lmtpd() {
     local serve rehearse check copy word=${COMP_WORDS[COMP_CWORD]} before=${COMP_WORDS[COMP_CWORD - 1]}
-    serve='--host --listen --dir --domains --recipient-delimiter --message-limit --lanes --blocks --capacity --reads'
-    serve+=' --rename-marks --refuse-malformed --smtputf8 --timeout --session-time --bad-commands --log'
-    serve+=' --log-addresses --quota --over-quota --lock-wait --mailbox-suffix --mailbox-mode'
-    serve+=' --socket-mode --connections --stop-file --start-anyway --check-words --boxes --help'
-    rehearse='--host --time --domains --recipient-delimiter --message-limit --rename-marks --refuse-malformed --smtputf8'
-    rehearse+=' --blocks --quota --over-quota --boxes --help'
+    # words from building/words.py
+    serve='--host --listen --dir --domains --recipient-delimiter --message-limit --rename-marks'
+    serve+=' --refuse-malformed --smtputf8 --lanes --blocks --capacity --reads --timeout --session-time'
+    serve+=' --bad-commands --log --log-addresses --quota --over-quota --lock-wait --mailbox-suffix'
+    serve+=' --mailbox-mode --socket-mode --connections --stop-file --start-anyway --check-words --boxes --help'
+    rehearse='--host --time --domains --recipient-delimiter --message-limit --rename-marks --refuse-malformed'
+    rehearse+=' --smtputf8 --blocks --quota --over-quota --boxes --help'
     check='--help'
     copy='--help'
+    # words to here by building/words.py
     COMPREPLY=()
     if [ "$before" = --dir ]; then
         compopt -o dirnames

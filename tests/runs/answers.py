@@ -32,8 +32,22 @@ def mended(folder, program):
     path = pathlib.Path(folder, "carla.mbox")
     path.write_bytes(BROKEN + b"From c\n\n")
     place = len(BROKEN)
-    lines = section().split("```\n")[1].replace("lmtpd", program)
-    assert "20476" in lines and "20477" in lines, lines
-    typed = lines.replace("20476", str(place)).replace("20477", str(place + 1))
-    said = subprocess.run(["sh", "-euc", typed], cwd=folder, capture_output=True, text=True, timeout=20)
+    return typed(folder, program, 1, path, {"20476": place, "20477": place + 1})
+
+
+def cut_out(folder, program, before, spoilt, after):
+    """A mailbox of these bytes, once what the page has to type took out those that a power cut left."""
+    path = pathlib.Path(folder, "emil.mbox")
+    path.write_bytes(before + spoilt + after)
+    place, following = len(before), len(before + spoilt)
+    return typed(folder, program, 3, path, {"12288": place, "16387": following + 1})
+
+
+def typed(folder, program, number, path, places):
+    """What comes of those lines of the page, with these numbers in the place of its own, and the mailbox then."""
+    lines = section().split("```\n")[number].replace("lmtpd", program)
+    for shown, place in places.items():
+        assert shown in lines, lines
+        lines = lines.replace(shown, str(place))
+    said = subprocess.run(["sh", "-euc", lines], cwd=folder, capture_output=True, text=True, timeout=20)
     return said.returncode, said.stdout, said.stderr, path.read_bytes()

@@ -494,13 +494,14 @@ def smuggled():
 
 @dataclass
 class Check:
-    """Files that are checked: the name of each, its bytes (none where it is missing) and what is said of it."""
+    """Files that are checked: the name of each, its bytes (none where it is missing) and what is said of it, line by
+    line."""
 
     name: str
     files: list
 
     def output(self):
-        return "".join(f"{name} {said}\n" for name, _, said in self.files).encode()
+        return "".join(f"{name} {line}\n" for name, _, said in self.files for line in said.split("\n")).encode()
 
     def status(self):
         return 0 if all(said.startswith("letters ") for _, _, said in self.files) else 1
@@ -509,6 +510,33 @@ class Check:
 def broken(place, letter, start):
     """What is said where that letter has no empty line at its end."""
     return f"no empty line at {place} in letter {letter} at {start}"
+
+
+def with_nul(said, place, letter, start):
+    """What is said of a file with a NUL there, in that letter."""
+    return f"{said}\nNUL at {place} in letter {letter} at {start}"
+
+
+def spoilt():
+    """The first NUL of a file is told, after the line that the file would have without it: before the place that breaks
+    the form, and no further, since nothing is read there."""
+    letter = record(HELLO_STORED)
+    nuls = b"\0" * 3_907
+    whole = with_nul("letters 2", 189, 1, 0)
+    kept = b"From a\nx\n"
+    yield "a NUL in the first letter", b"From a\nx\0y\n\n" + letter, with_nul("letters 2", 8, 1, 0)
+    yield "a NUL in the second letter", letter + b"From a\nx\0\n\n" + letter, with_nul("letters 3", 197, 2, 189)
+    yield "a NUL in each letter", b"From a\0\n\n" * 3, with_nul("letters 3", 6, 1, 0)
+    yield "a NUL in place of a From line's last byte", letter + b"From\0\n\n", with_nul("letters 1", 193, 1, 0)
+    yield "NULs behind a letter", letter + nuls, with_nul(broken(4_096, 1, 0), 189, 1, 0)
+    yield "NULs behind a letter, and the next one", letter + nuls + b"\n\n" + letter, whole
+    yield "NULs and a part of a record, and the next letter", letter + nuls + b"x\n\n" + letter, whole
+    after = with_nul("letters 3", 198, 2, 189)
+    yield "NULs behind a From line, and the next letter", letter + kept + nuls + b"\n\n" + letter, after
+    yield "a NUL before a letter without its end", b"From a\0\nFrom b\n\n", with_nul(broken(12, 1, 0), 6, 1, 0)
+    yield "a NUL after one without it", b"From a\nFrom b\n\0\n\n", broken(11, 1, 0)
+    yield "NULs at the start", nuls + letter, "no From line at 0"
+    yield "NULs within the first five bytes", b"Fro\0\0" + letter, "no From line at 3"
 
 
 def tail_letter(text):
@@ -552,9 +580,9 @@ def checks():
         ("a From line after a From line", b"From a\nFrom b\n\n", broken(11, 1, 0)),
         ("a third letter without one, and a fourth", letter * 3 + b"From b\nx\nFrom c\n\n", broken(580, 4, 567)),
         ("a thousandth letter without its end", letter * 1_000 + letter[:-1], broken(189_188, 1001, 189_000)),
-        ("bytes above 127, NUL and CR", b"From \xff\n\0\r\n\r\n\n", "letters 1"),
+        ("bytes above 127, NUL and CR", b"From \xff\n\0\r\n\r\n\n", with_nul("letters 1", 7, 1, 0)),
     ]
-    for name, text, said in rows + tails():
+    for name, text, said in [*rows, *tails(), *spoilt()]:
         yield Check(name, [("anna.mbox", text, said)])
     # a second From line around the end of what is read at once
     for place in range(65_529, 65_539):
@@ -562,6 +590,8 @@ def checks():
         yield Check(f"an empty line, and a From line at {place}", [("a", front + b"\n\nFrom b\n\n", "letters 2")])
         late = front + b"x\nFrom b\n\n"
         yield Check(f"a line, and a From line at {place}", [("a", late, broken(place + 4, 1, 0))])
+        told = with_nul("letters 2", place, 1, 0)
+        yield Check(f"a NUL at {place}", [("a", front + b"xx\0\0\n\nFrom b\0\n\n", told)])
     yield Check("a missing file", [("nobody.mbox", None, "cannot read")])
     yield Check(
         "several files, in the order of the words",
@@ -570,6 +600,7 @@ def checks():
             ("./anna.mbox", b"hello\n", "no From line at 0"),
             ("carla mbox", letter[:-1], broken(188, 1, 0)),
             ("nobody.mbox", None, "cannot read"),
+            ("emil", b"From a\n\0\n\n", with_nul("letters 1", 7, 1, 0)),
             ("ben.mbox", letter, "letters 1"),
             ("dora", b"", "letters 0"),
         ],

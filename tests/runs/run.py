@@ -207,6 +207,17 @@ def compare_answers():
     with tempfile.TemporaryDirectory() as folder:
         text = answers.BROKEN + b"\nFrom c\n\n"
         compare("what is typed mends it", answers.mended(folder, LMTPD), (0, "carla.new letters 4\n", "", text))
+        whole, following = b"From a\n\n" * 3, b"From b\n\n"
+        once = "emil.new letters 3\n"
+        for spoilt in [b"\0" * 9 + b"\n\n", b"\0" * 9 + b"x\n\n"]:
+            found = answers.cut_out(folder, LMTPD, whole, spoilt, following)
+            compare(f"what is typed takes {spoilt!r} out", found, (0, f"{once}emil.new letters 4\n", "", whole + following))
+        found = answers.cut_out(folder, LMTPD, whole, b"\0", b"")
+        compare("what is typed takes a NUL at the end out", found, (0, once * 2, "", whole))
+        torn = (whole + b"From c\nx", b"\0\n\n", following)
+        said = "emil.new no empty line at 32 in letter 4 at 24\n"
+        found = answers.cut_out(folder, LMTPD, *torn)
+        compare("what is typed leaves a torn record", found, (1, said * 2, "", b"".join(torn)))
 
 
 compare_all()

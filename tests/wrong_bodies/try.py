@@ -1,6 +1,7 @@
-"""Has the prover try wrong bodies: try.py ROOT JOBS [--own | --gate] [CRATE..], over what stands proved in ROOT: those
-of this folder, or with a word those that stand with the crates themselves: in must-fail, which `rt ci` tries one by
-one, or in must-fail-at-once, which the gate tries by this script. Each crate has a room of its own, with its sources
+"""Has the prover try wrong bodies: try.py ROOT JOBS [--own | --gate] [--anew] [CRATE..], over what stands proved in
+ROOT: those of this folder, or with a word those that stand with the crates themselves: in must-fail, which `rt ci`
+tries one by one, or in must-fail-at-once, which the gate tries by this script. What was refused before and stands as
+it did isn't tried again (kept.py), but with --anew. Each crate has a room of its own, with its sources
 and what its checks kept, and the crates below it by hard links. There wrong bodies of different functions are put into
 their places at once, and these functions checked. One whose function's proof names what isn't there any more is tried
 again without those answers: it is refused where a goal then asks for what none asks for of the function as it stands
@@ -22,6 +23,7 @@ import threading
 import time
 
 import apply
+import kept
 import stamps
 import told
 from place import Place, places_of
@@ -218,18 +220,30 @@ def try_in_turn(turns, *crate):
         return try_crate(*crate)
 
 
-def try_crate(root, name, edits, crates, folder, said):
+def try_crate(verdicts, name, edits, folder, said):
     """Tries these wrong bodies of the crate, and gives how each was met. Where a file is given to which `rt ci` writes
     what it says, they are tried once it has proved the crates below; else the crate is checked as it stands too."""
+    root, crates, kinds = verdicts.root, verdicts.crates, []
     if said and not are_proved(crates[name][1], said):
         print(f"{name}: a crate below it isn't proved", flush=True)
         return [told.NOT_TRIED]
-    room, kinds = Room(root, name, crates, folder, not said), []
 
-    def tell(edit, kind, more):
-        kind = told.known(root, edit, kind, more)
+    def say(edit, kind, more):
         print(f"{name}/{edit.name}: {kind}{more and ': ' + more}", flush=True)
         kinds.append(kind)
+
+    known = {it: more for it in edits for more in [verdicts.of(name, it)] if more}
+    for edit, more in known.items():
+        say(edit, told.REFUSED, f"{more}, as before")
+    left = [it for it in edits if it not in known]
+    if not left:
+        return kinds
+    room = Room(root, name, crates, folder, not said)
+
+    def tell(edit, kind, more):
+        if kind == told.REFUSED:
+            verdicts.keep(name, edit, more)
+        say(edit, told.known(root, edit, kind, more), more)
 
     def try_all(edits):
         for batch in room.batches(edits):
@@ -243,7 +257,7 @@ def try_crate(root, name, edits, crates, folder, said):
                 for edit in left:
                     tell(edit, *room.try_one(edit))
 
-    try_all(edits)
+    try_all(left)
     status, words = (0, "") if said else room.check()
     if status:
         print(f"{name} is not proved as it stands:", *words.splitlines()[-6:], sep="\n", flush=True)
@@ -254,7 +268,7 @@ def try_crate(root, name, edits, crates, folder, said):
 
 def main(root, jobs, words):
     crates = crates_of(root)
-    kind, names = next((it for it in words if it in FOLDERS), None), [it for it in words if it not in FOLDERS]
+    kind, names = next((it for it in words if it in FOLDERS), None), [it for it in words if not it.startswith("--")]
     folders = {it: root / "crates" / it / FOLDERS[kind] if kind else root / "tests/wrong_bodies" / it for it in crates}
     edits = {it: sorted(folders[it].glob("*.edit")) for it in names or crates}
     said = pathlib.Path(os.environ["RT_SAID"]) if "RT_SAID" in os.environ else None
@@ -267,9 +281,11 @@ def main(root, jobs, words):
     if said:
         wait_for_a_crate(said)
     with tempfile.TemporaryDirectory(prefix=".trying-", dir=root) as folder:
+        room = pathlib.Path(folder)
+        # what is kept in a folder of this run's own alone is tried anew
+        verdicts = kept.Verdicts(root, crates, room / "verdicts" if "--anew" in words else kept.usual_folder())
         with concurrent.futures.ThreadPoolExecutor(jobs + more) as pool:
-            room = pathlib.Path(folder)
-            tried = [pool.submit(try_in_turn, turns, root, it, edits[it], crates, room, said) for it in order]
+            tried = [pool.submit(try_in_turn, turns, verdicts, it, edits[it], room, said) for it in order]
             kinds = [kind for it in tried for kind in it.result()]
     print(", ".join(f"{kinds.count(kind)} {kind}" for kind in told.KINDS))
     return 1 if any(kind in told.BAD for kind in kinds) else 0

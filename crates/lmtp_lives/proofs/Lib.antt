@@ -1,4 +1,7 @@
+mod Names
 pub mod Told
 pub mod ReadBack
+mod TwoSites
+mod OneCopy
 pub mod KilledRuns
 mod Spoilt

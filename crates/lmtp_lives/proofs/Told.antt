@@ -4,6 +4,8 @@ use Rattle.std.proofs.Common.{length, Option, Some, None, refl, sym, ap, ◌∙�
 use Rattle.std.specs.Prelude.{flat_map}
 use Rattle.std.specs.List.{AllByRecursion}
 use Rattle.std.proofs.lemmas.List.Elements.{filter-append}
+use Rattle.std.proofs.lemmas.List.Quantifiers.{position-Some}
+use Rattle.std.specs.Str.{bytes_eq}
 use Rattle.mail_world.specs.declared.Note.{Note}
 use Rattle.mail_world.specs.declared.Slip.{Slip}
 use Rattle.mail_world.specs.declared.Outcome.{Outcome}
@@ -27,7 +29,7 @@ use Rattle.mail_runs.proofs.ByTime.{all_filter}
 use Rattle.mail_runs.proofs.OneLane.{many}
 use Rattle.lmtp_house.proofs.Answers.{IsAnswer, each_answers, answer_of, AreAnswers, by_transactions}
 use Rattle.lmtp_house.proofs.NamedOnce.{named_once}
-use Rattle.lmtp_lives.specs.Runs.{ServerRun, life_at, told_in_run}
+use Rattle.lmtp_lives.specs.Runs.{ServerRun, number_of, of_box, life_at, lives_in, told_at, told_in_run}
 
 module _ (k : ℕ) (heard : List Slip) where
   -- the copy where what was heard of it is Stored
@@ -94,21 +96,27 @@ module _ (k : ℕ) (heard : List Slip) where
 
 -- ---- a run
 
-module _ {V S C : Type 0} {site : Site} {May : C → ℕ → Type 0} {view : VisitsView V} {spools : SpoolsView S}
-    (run : ServerRun site May view spools) (b : ℕ) (box : b < length site.boxes) where
-  pub within : b < length run.old.spools
-  within = omega (arith, run.each_box, box)
+-- what a number stands for is within the site
+pub of_site : (name : List ℕ) (site : Site) (b : ℕ) → number_of name site ≡ Some b → b < length site.boxes
+of_site name site b is = (position-Some (λ box. bytes_eq box name) site.boxes b [] is).0
 
-  pub have_turns : HaveTurns civil_at site run.old.quota (run.ran.boxes b).taken (run.ran.boxes b).turns
-  have_turns =
+module _ {V S C : Type 0} {May : C → ℕ → Type 0} {view : VisitsView V} {spools : SpoolsView S}
+    (run : ServerRun May view spools) where
+  pub within : (b : ℕ) → b < length run.site.boxes → b < length run.old.spools
+  within b box = omega (arith, run.each_box, box)
+
+  pub have_turns : (b : ℕ) → b < length run.site.boxes
+      → HaveTurns civil_at run.site run.old.quota (run.ran.boxes b).taken (run.ran.boxes b).turns
+  have_turns b box =
       let ran = run.ran in
-      let before = at run.old.spools b within in
-      let after = at run.new.spools b (omega (arith, ran.as_many_boxes.0, within)) in
-      let tally = at run.new.tallies b (omega (arith, ran.as_many_boxes.1, within)) in
+      let low = within b box in
+      let before = at run.old.spools b low in
+      let after = at run.new.spools b (omega (arith, ran.as_many_boxes.0, low)) in
+      let tally = at run.new.tallies b (omega (arith, ran.as_many_boxes.1, low)) in
       (ran.stored b before.value after.value tally.value before.is after.is tally.is).turned.are
 
   answered : (k : ℕ) → k < length run.old.visits
-      → OutcomesAreAnswers site k (run.ran.lanes k).heard (conversations_of (run.ran.lanes k).visits)
+      → OutcomesAreAnswers run.site k (run.ran.lanes k).heard (conversations_of (run.ran.lanes k).visits)
   answered k lane =
       let ran = run.ran in
       let before = at run.old.visits k lane in
@@ -116,18 +124,31 @@ module _ {V S C : Type 0} {site : Site} {May : C → ℕ → Type 0} {view : Vis
       let count = at run.new.conversations k (omega (arith, ran.as_many_lanes.1, lane)) in
       (ran.served k count.value before.value after.value before.is after.is count.is).answered
 
-  pub told_stored : (k : ℕ) → k < length run.old.visits → of_lane k (told_in (life_at b run)) ≡ told_in_run b k run
-  told_stored k lane =
+  pub told_stored : (b k : ℕ) → b < length run.site.boxes → k < length run.old.visits
+      → of_lane k (told_in (life_at b run)) ≡ told_at b k run
+  told_stored b k box lane =
       let ran = run.ran in
+      let low = within b box in
       let cs = conversations_of (ran.lanes k).visits in
       let heard = (ran.lanes k).heard in
       let outcomes = outcomes_in (ran.boxes b).turns in
-      let once = named_once site k (length run.old.spools) cs heard ran.boxes (ran.told_only k lane)
+      let once = named_once run.site k (length run.old.spools) cs heard ran.boxes (ran.told_only k lane)
       (λ c low. record { rest = []; whole = sym (ran.told k c lane low) ∙ sym (append-nil (of_worker c heard)) })
       (λ c low. ran.owed k c lane low) in
       let slips : AllByRecursion (IsAnswer heard) (owed_to b outcomes k (ran.boxes b).taken) =
-      subst (AllByRecursion (IsAnswer heard)) (ran.told k b lane within)
+      subst (AllByRecursion (IsAnswer heard)) (ran.told k b lane low)
       (all_filter (IsAnswer heard) (λ slip. slip.worker == b) heard (each_answers heard once)) in
-      by_turns k heard b (ran.boxes b).taken outcomes (many (server_of site run.old) _ _ have_turns) slips
-      ∙ ap (flat_map (told_one k heard)) (ran.owed k b lane within)
-      ∙ sym (by_conversations k heard site b cs (answered k lane))
+      by_turns k heard b (ran.boxes b).taken outcomes (many (server_of run.site run.old) _ _ (have_turns b box)) slips
+      ∙ ap (flat_map (told_one k heard)) (ran.owed k b lane low)
+      ∙ sym (by_conversations k heard run.site b cs (answered k lane))
+
+  -- of the mailbox with the number that a name stands for
+  told_by : (k : ℕ) (o : Option ℕ) → ((b : ℕ) → o ≡ Some b → b < length run.site.boxes) → k < length run.old.visits
+      → of_lane k (flat_map told_in (of_box (λ b. life_at b run ∷ []) o)) ≡ of_box (λ b. told_at b k run) o
+  told_by k None boxes lane = refl
+  told_by k (Some b) boxes lane =
+      ap (of_lane k) (append-nil (told_in (life_at b run))) ∙ told_stored b k (boxes b refl) lane
+
+  pub named_stored : (name : List ℕ) (k : ℕ) → k < length run.old.visits
+      → of_lane k (flat_map told_in (lives_in name run)) ≡ told_in_run name k run
+  named_stored name k lane = told_by k (number_of name run.site) (of_site name run.site) lane

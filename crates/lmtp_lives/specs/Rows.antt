@@ -1,4 +1,5 @@
--- The worked example: clients, spools and observers of which all is told, a message, and a run that is killed.
+-- The worked example: clients, spools and observers of which all is told, two sites, a message, and a run that is
+-- killed.
 use Rattle.std.specs.Prelude.{◌≡◌, ℕ, true, false, List, [], ◌∷◌, ◌++◌, take, codes, ⊤, Option}
 use Rattle.mail_world.specs.declared.Note.{Note}
 use Rattle.mail_world.specs.declared.Outcome.{Outcome}
@@ -14,10 +15,14 @@ use Rattle.lmtp_talk.specs.Entries.{Entry}
 use Rattle.lmtp_lane.specs.Visits.{VisitsTold}
 use Rattle.lmtp_threads.specs.Works.{VisitsView, SpoolsView, visits_view, spools_view}
 use Rattle.lmtp_threads.specs.declared.watched.Watched.{Watched}
-use Rattle.lmtp_lives.specs.Runs.{ServerRun}
+use Rattle.lmtp_lives.specs.Runs.{ServerRun, told_in_run}
 
-abbrev pub site : Site
-site = site_with (codes "mx.example") [] (codes "anna" ∷ [])
+-- the site of the first run; and that of the second: its host has another name, and a mailbox stands before anna's
+abbrev pub earlier_site : Site
+earlier_site = site_with (codes "mx.example") [] (codes "anna" ∷ [])
+
+abbrev pub later_site : Site
+later_site = site_with (codes "mail.example") (codes "mx.example" ∷ []) (codes "aaron" ∷ codes "anna" ∷ [])
 
 abbrev pub Clients : Type 0
 Clients = Watched VisitsTold (Option (List Entry))
@@ -32,17 +37,17 @@ abbrev pub spools : SpoolsView Mailbox
 spools = spools_view (λ state. state) (λ last now. ⊤) (λ broke refused. ⊤) (λ told. told)
 
 abbrev pub Run : Type 0
-Run = ServerRun {C = ℕ} site (λ clock moment. ⊤) view spools
+Run = ServerRun {C = ℕ} (λ clock moment. ⊤) view spools
 
--- the relay sends anna a message, and that is said of it; and its copy
+-- the relay sends anna a message, and that is said of it; and its copy, where her mailbox has that number
 abbrev pub sent : Outcome → Conversation
 sent outcome = conversation (delivery hello) (whole (outcome ∷ []) ∷ [])
 
-abbrev pub note : Note
-note = record {
+abbrev pub note : ℕ → Note
+note b = record {
   txn = record { lane = 0; number = 1 };
   place = 0;
-  mailbox = 0;
+  mailbox = b;
   sender = codes "carl@a.example";
   client = codes "relay.example";
   utf8 = false;
@@ -50,10 +55,16 @@ note = record {
   message = codes "Subject: hi\r\n\r\nhello\r\n";
 }
 
--- The run is killed in the turn of that copy: n bytes of what it appends stand there after these.
+-- The run at the first site is killed in the turn of that copy: n bytes of what it appends stand there after these.
 pub record IsKilledAt (n : ℕ) (old : List ℕ) (run : Run) : Type 0 where
+  pub site : run.site ≡ earlier_site
   pub lock : Standing
   pub unlock : Standing
   pub turns : (run.ran.boxes 0).turns ≡ record { outcome = Failed; turn = Had lock unlock } ∷ []
   pub found : lock.bytes ≡ old
-  pub left : unlock.bytes ≡ old ++ take n (addition civil_at site note old)
+  pub left : unlock.bytes ≡ old ++ take n (addition civil_at earlier_site (note 0) old)
+
+-- The run at the second site tells the relay that the copy is stored.
+pub record TellsStored (run : Run) : Type 0 where
+  pub site : run.site ≡ later_site
+  pub told : told_in_run (codes "anna") 0 run ≡ note 1 ∷ []

@@ -9,7 +9,7 @@ use Rattle.lmtp_text.specs.Sites.{texts}
 use Rattle.lmtpd_output.specs.Output.{IsCutOff, pair_texts}
 use Rattle.std.proofs.KnownBytes.{Appends-trans}
 use Rattle.lmtpd_output.proofs.Written.{Appends-nil, breaks_next}
-use Rattle.lmtpd_check.specs.Checked.{AreAmong, finding_line, finding_lines, IsFindingOf, IsChecked}
+use Rattle.lmtpd_check.specs.Checked.{AreAmong, finding_text, finding_lines, IsFindingOf, IsChecked}
 use Rattle.lmtpd_check.specs.declared.checked.Finding.{Finding}
 
 module _ {X : Type 0} (f : List ℕ → X → List ℕ) where
@@ -41,38 +41,38 @@ written_none remaining names u findings none =
     subst P (sym none) (record {
       count = refl;
       each = All-nil (IsFindingOf remaining);
-      written = subst (λ (text : List ℕ). Appends u u text) (sym (no_pairs finding_line (texts names))) (Appends-nil u);
+      written = subst (λ (text : List ℕ). Appends u u text) (sym (no_pairs finding_text (texts names))) (Appends-nil u);
     })
 
 line_more : (names : List (Bor (List ℕ))) (i : ℕ) (findings : List Finding) (finding : Finding) (d : Bor (List ℕ)) → length findings ≡ i → i < length names
-    → finding_lines (texts names) (findings ++ finding ∷ []) ≡ finding_lines (texts names) findings ++ finding_line (get_or names i d).now finding
+    → finding_lines (texts names) (findings ++ finding ∷ []) ≡ finding_lines (texts names) findings ++ finding_text (get_or names i d).now finding
 line_more names i findings finding d count within =
     let long = length-map names (λ (name : Bor (List ℕ)). name.now) in
     let below : length findings < length (texts names) = omega (arith, long, count, within) in
-    pairs_more finding_line (texts names) findings finding d.now below
-    ∙ ap (λ (k : ℕ). finding_lines (texts names) findings ++ finding_line (get_or (texts names) k d.now) finding) count
-    ∙ ap (λ (name : List ℕ). finding_lines (texts names) findings ++ finding_line name finding)
+    pairs_more finding_text (texts names) findings finding d.now below
+    ∙ ap (λ (k : ℕ). finding_lines (texts names) findings ++ finding_text (get_or (texts names) k d.now) finding) count
+    ∙ ap (λ (name : List ℕ). finding_lines (texts names) findings ++ finding_text name finding)
     (get_or-map (λ (name : Bor (List ℕ)). name.now) names i d d.now within)
 
 module _ {F : Type 0} (remaining : F → Option (List ℕ)) (names : List (Bor (List ℕ))) (i : ℕ) (u v w : Option (List ℕ)) (findings : List Finding)
     (finding : Finding) (d : Bor (List ℕ)) where
   -- one more file
   pub written_more : WroteFindings remaining names i u v findings → i < length names → IsFindingOf remaining finding
-      → Appends v w (finding_line (get_or names i d).now finding) → WroteFindings remaining names (i + 1) u w (findings ++ finding ∷ [])
+      → Appends v w (finding_text (get_or names i d).now finding) → WroteFindings remaining names (i + 1) u w (findings ++ finding ∷ [])
   written_more h within found taken = record {
     count = length-append findings (finding ∷ []) ∙ ap (λ (k : ℕ). k + 1) h.count;
     each = All-push (IsFindingOf remaining) findings finding h.each found;
     written = subst (λ (text : List ℕ). Appends u w text) (sym (line_more names i findings finding d h.count within))
-        (Appends-trans u v w (finding_lines (texts names) findings) (finding_line (get_or names i d).now finding) h.written taken);
+        (Appends-trans u v w (finding_lines (texts names) findings) (finding_text (get_or names i d).now finding) h.written taken);
   }
 
   -- a file whose line was cut off
   pub checked_cut : (unlocked : List (List ℕ)) → WroteFindings remaining names i u v findings → i < length names → IsFindingOf remaining finding
       → AreAmong (take (i + 1) (texts names)) unlocked
-      → IsCutOff v w (finding_line (get_or names i d).now finding) → IsChecked remaining (texts names) u w (findings ++ finding ∷ []) unlocked true
+      → IsCutOff v w (finding_text (get_or names i d).now finding) → IsChecked remaining (texts names) u w (findings ++ finding ∷ []) unlocked true
   checked_cut unlocked h within found among broken =
       let long = length-map names (λ (name : Bor (List ℕ)). name.now) in
-      let line = finding_line (get_or names i d).now finding in
+      let line = finding_text (get_or names i d).now finding in
       let before = finding_lines (texts names) findings in record {
         within = omega (arith, long, length-append findings (finding ∷ []), h.count, within);
         complete = λ e. cc;

@@ -12,4 +12,4 @@ mod reader;
 pub use checked::{Checked, Finding};
 pub use files::check_files;
 pub use lines::write_unlocked_lines;
-pub use mbox_check::BadForm;
+pub use mbox_check::{BadForm, NulAt};

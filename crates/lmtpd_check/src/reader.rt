@@ -4,7 +4,7 @@ ghost use Rattle.std.specs.Prelude.{◌<◌, length};
 ghost use Rattle.lmtpd_check.specs.Checked.{IsFindingOf};
 
 use crate::checked::Finding;
-use mbox_check::{CheckFault, check_mailbox};
+use mbox_check::check_mailbox;
 use mbox_locks::{LockKind, RangeLock};
 use std::fs;
 use std::fs::{File, Files, Metadata, OpenFile};
@@ -42,9 +42,11 @@ where
     };
     let is_locked = lock_shared(&file, clock);
     let finding = match check_mailbox(&mut file, buffer) {
-        Ok(count) => Finding::Letters(count),
-        Err(CheckFault::Form(bad)) => Finding::Form(bad),
-        Err(CheckFault::Unread) => Finding::Unread,
+        Ok(found) => match found.letters {
+            Ok(count) => Finding::Letters(count, found.nul),
+            Err(bad) => Finding::Form(bad, found.nul),
+        },
+        Err(_) => Finding::Unread,
     };
     Reading {
         finding,

@@ -186,13 +186,13 @@ kept_found letters last bytes are is =
 -- ---- turns
 
 module _ (calendar : Calendar) (site : Site) (note : Note) where
-  pub stored_adds : (old new : List ℕ) → IsOneLine site.host → IsMailed note → StepLeaves calendar site (Stores note) old new
+  pub stored_adds : (old new : List ℕ) → IsOneLine site.host → IsMailed note → StepLeaves calendar (Stores site note) old new
       → IsLetter (letter_of calendar site note) × MoveLeaves (Adds (letter_of calendar site note)) old new
   stored_adds old new one mailed goes = (
     letter_of-is calendar site note mailed,
     goes ∙ ap (λ (t : List ℕ). old ++ (mended old ++ t)) (record_of-letter calendar site note one mailed),
   )
 
-  pub torn_spoils : (old new : List ℕ) → StepLeaves calendar site (Tears note) old new
+  pub torn_spoils : (old new : List ℕ) → StepLeaves calendar (Tears site note) old new
       → (bytes : List ℕ) × MoveLeaves (Spoils bytes) old new
   torn_spoils old new left = (left.prefix, left.left)

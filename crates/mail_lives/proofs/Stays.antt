@@ -1,14 +1,12 @@
 -- Letters that stay where they are.
 use Rattle.std.proofs.Common.{◌≡◌, List, [], ◌∷◌, ◌++◌, refl, sym, ap, ◌∙◌, subst, append_assoc, append-nil}
 use Rattle.std.specs.List.{AllByRecursion}
-use Rattle.mail_world.specs.declared.Note.{Note}
 use Rattle.mail_world.proofs.Heard.{weaken}
 use Rattle.mail_world.specs.Prefixes.{IsPrefix}
 use Rattle.mail_world.specs.Records.{Calendar}
 use Rattle.mail_world.specs.Reading.{Letter, letter_of}
-use Rattle.mail_world.specs.Site.{Site}
 use Rattle.mail_lives.specs.Fates.{Fate, Untouched, Changed, Removed, left_of}
-use Rattle.mail_lives.specs.Steps.{Step, Others, Stores, Rests, Tears, StepComesTo, StepsComeTo}
+use Rattle.mail_lives.specs.Steps.{SiteNote, Step, Others, Stores, Rests, Tears, StepComesTo, StepsComeTo}
 use Rattle.mail_lives.specs.ReadBack.{stored_in, left_through, IsReadBack}
 
 -- what becomes of letters is told of the first of them first
@@ -29,35 +27,35 @@ grown : (front rest old more new : List Letter) → old ≡ front ++ rest → ne
     → new ≡ front ++ (rest ++ more)
 grown front rest old more new is e = e ∙ ap (λ (l : List Letter). l ++ more) is ∙ append_assoc front rest more
 
-module _ (calendar : Calendar) (site : Site) where
+module _ (calendar : Calendar) where
   stay : (steps : List Step) (front rest old new : List Letter) → old ≡ front ++ rest
-      → StepsComeTo calendar site steps old new → IsPrefix (left_through steps front) new
+      → StepsComeTo calendar steps old new → IsPrefix (left_through steps front) new
   stay [] front rest old new is come = record { rest = rest; whole = come ∙ is }
   stay (Others fates added ∷ steps) front rest old new is come =
       let left = front_left fates front rest in
       stay steps (left_of fates front) (left.0 ++ added) come.0 new
       (grown (left_of fates front) left.0 (left_of fates old) added come.0
       (ap (λ (l : List Letter). left_of fates l) is ∙ left.1) come.1.1) come.2
-  stay (Stores note ∷ steps) front rest old new is come =
+  stay (Stores site note ∷ steps) front rest old new is come =
       let more : List Letter = letter_of calendar site note ∷ [] in
       stay steps front (rest ++ more) come.0 new (grown front rest old more come.0 is come.1) come.2
   stay (Rests ∷ steps) front rest old new is come = stay steps front rest come.0 new (come.1 ∙ is) come.2
-  stay (Tears note ∷ steps) front rest old new is come =
+  stay (Tears site note ∷ steps) front rest old new is come =
       stay steps front (rest ++ come.1.0) come.0 new (grown front rest old come.1.0 come.0 is come.1.2) come.2
 
-  pub old_stay : (steps : List Step) (old new : List Letter) → StepsComeTo calendar site steps old new
+  pub old_stay : (steps : List Step) (old new : List Letter) → StepsComeTo calendar steps old new
       → IsPrefix (left_through steps old) new
   old_stay steps old new come = stay steps old [] old new (sym (append-nil old)) come
 
-  abbrev Back : List Step → List Letter → List Letter → Note → Type 0
-  Back steps old new note = IsReadBack calendar site steps old new note
+  abbrev Back : List Step → List Letter → List Letter → SiteNote → Type 0
+  Back steps old new it = IsReadBack calendar steps old new it.site it.note
 
   -- one step more before
-  later : (step : Step) (steps : List Step) (old between new : List Letter) → StepComesTo calendar site step old between
+  later : (step : Step) (steps : List Step) (old between new : List Letter) → StepComesTo calendar step old between
       → AllByRecursion (Back steps between new) (stored_in steps)
       → AllByRecursion (Back (step ∷ steps) old new) (stored_in steps)
   later step steps old between new come back = weaken (Back steps between new) (Back (step ∷ steps) old new)
-      (λ note is. record {
+      (λ it is. record {
         earlier = step ∷ is.earlier;
         later = is.later;
         whole = ap (λ (l : List Step). step ∷ l) is.whole;
@@ -66,16 +64,16 @@ module _ (calendar : Calendar) (site : Site) where
         stands = is.stands;
       }) (stored_in steps) back
 
-  pub stored_stay : (steps : List Step) (old new : List Letter) → StepsComeTo calendar site steps old new
+  pub stored_stay : (steps : List Step) (old new : List Letter) → StepsComeTo calendar steps old new
       → AllByRecursion (Back steps old new) (stored_in steps)
   stored_stay [] old new come = tt
   stored_stay (Others fates added ∷ steps) old new come =
       later (Others fates added) steps old come.0 new come.1 (stored_stay steps come.0 new come.2)
   stored_stay (Rests ∷ steps) old new come =
       later Rests steps old come.0 new come.1 (stored_stay steps come.0 new come.2)
-  stored_stay (Tears note ∷ steps) old new come =
-      later (Tears note) steps old come.0 new come.1 (stored_stay steps come.0 new come.2)
-  stored_stay (Stores note ∷ steps) old new come = (
+  stored_stay (Tears site note ∷ steps) old new come =
+      later (Tears site note) steps old come.0 new come.1 (stored_stay steps come.0 new come.2)
+  stored_stay (Stores site note ∷ steps) old new come = (
     record {
       earlier = [];
       later = steps;
@@ -85,5 +83,5 @@ module _ (calendar : Calendar) (site : Site) where
       stands = subst (λ (l : List Letter). IsPrefix (left_through steps l) new) come.1
           (old_stay steps come.0 new come.2);
     },
-    later (Stores note) steps old come.0 new come.1 (stored_stay steps come.0 new come.2),
+    later (Stores site note) steps old come.0 new come.1 (stored_stay steps come.0 new come.2),
   )

@@ -36,13 +36,13 @@ goes_after old text more b same is =
     subst (λ (t : List ℕ). with_mended (with_mended old ++ t) ≡ with_mended old ++ with_mended t) (sym first)
     (mended_after (with_mended old) more (mended_ends old))
 
-module _ (calendar : Calendar) (site : Site) (one : IsOneLine site.host) where
+module _ (calendar : Calendar) where
   -- what is left of a torn record
-  abbrev TornAfter : Note → List Letter → List ℕ → Type 0
-  TornAfter note letters new =
-      (after : List Letter) × IsReadAs new after × StepComesTo calendar site (Tears note) letters after
+  abbrev TornAfter : Site → Note → List Letter → List ℕ → Type 0
+  TornAfter site note letters new =
+      (after : List Letter) × IsReadAs new after × StepComesTo calendar (Tears site note) letters after
 
-  module _ (note : Note) (mailed : IsMailed note) where
+  module _ (site : Site) (one : IsOneLine site.host) (note : Note) (mailed : IsMailed note) where
     abbrev letter : Letter
     letter = letter_of calendar site note
 
@@ -66,7 +66,7 @@ module _ (calendar : Calendar) (site : Site) (one : IsOneLine site.host) where
         ∙ ap (λ t. with_mended old ++ t) (append-nil (letter_text letter)))
 
     nothing_torn : (old new : List ℕ) (letters : List Letter) → IsReadAs old letters → with_mended new ≡ with_mended old
-        → TornAfter note letters new
+        → TornAfter site note letters new
     nothing_torn old new letters was same = (
       letters,
       record { are = was.are; whole = was.whole ∙ sym same },
@@ -83,7 +83,7 @@ module _ (calendar : Calendar) (site : Site) (one : IsOneLine site.host) where
     )
 
     by_text : (old new prefix rest m : List ℕ) (letters : List Letter) → IsReadAs old letters → new ≡ old ++ prefix
-        → prefix ≡ mended old ++ m → text ≡ m ++ rest → TornAfter note letters new
+        → prefix ≡ mended old ++ m → text ≡ m ++ rest → TornAfter site note letters new
     by_text old new prefix rest [] letters was left at goes =
         nothing_torn old new letters was
         (ap with_mended left ∙ mended_in_part old prefix [] (sym (append-nil (mended old)) ∙ sym at ∙ sym (append-nil prefix)))
@@ -101,29 +101,29 @@ module _ (calendar : Calendar) (site : Site) (one : IsOneLine site.host) where
 
     torn_by : (old new prefix rest : List ℕ) (letters : List Letter) → IsReadAs old letters → new ≡ old ++ prefix
         → ((r : List ℕ) × (mended old ≡ prefix ++ r)) ⊎ ((m : List ℕ) × (prefix ≡ mended old ++ m) × (text ≡ m ++ rest))
-        → TornAfter note letters new
+        → TornAfter site note letters new
     torn_by old new prefix rest letters was left (inl found) =
         nothing_torn old new letters was (ap with_mended left ∙ mended_in_part old prefix found.0 found.1)
     torn_by old new prefix rest letters was left (inr found) = by_text old new prefix rest found.0 letters was left found.1 found.2
 
   step_read : (step : Step) (old new : List ℕ) (letters : List Letter) → IsMailedStep step → IsReadAs old letters
-      → StepLeaves calendar site step old new → (after : List Letter) × IsReadAs new after × StepComesTo calendar site step letters after
+      → StepLeaves calendar step old new → (after : List Letter) × IsReadAs new after × StepComesTo calendar step letters after
   step_read (Others fates added) old new letters mailed was did =
       let same : did.letters ≡ letters = one_reading did.letters letters did.was.are was.are (did.was.whole ∙ sym was.whole) in (
         left_of fates letters ++ added,
         subst (λ (l : List Letter). IsReadAs new (left_of fates l ++ added)) same did.is,
         (did.each ∙ ap length same, refl),
       )
-  step_read (Stores note) old new letters mailed was did =
-      (letters ++ letter_of calendar site note ∷ [], stored note mailed old new letters was did, refl)
+  step_read (Stores site note) old new letters mailed was did =
+      (letters ++ letter_of calendar site note ∷ [], stored site mailed.0 note mailed.1 old new letters was did, refl)
   step_read Rests old new letters mailed was did = (letters, subst (λ (b : List ℕ). IsReadAs b letters) (sym did) was, refl)
-  step_read (Tears note) old new letters mailed was did =
-      torn_by note mailed old new did.prefix did.part.rest letters was did.left
+  step_read (Tears site note) old new letters mailed was did =
+      torn_by site mailed.0 note mailed.1 old new did.prefix did.part.rest letters was did.left
       (two_cuts (mended old) (record_of calendar site note) did.prefix did.part.rest did.part.whole)
 
   pub steps_read : (steps : List Step) (old new : List ℕ) (letters : List Letter) → AllByRecursion IsMailedStep steps
-      → IsReadAs old letters → StepsLeave calendar site steps old new
-      → (after : List Letter) × IsReadAs new after × StepsComeTo calendar site steps letters after
+      → IsReadAs old letters → StepsLeave calendar steps old new
+      → (after : List Letter) × IsReadAs new after × StepsComeTo calendar steps letters after
   steps_read [] old new letters mailed was did = (letters, subst (λ (b : List ℕ). IsReadAs b letters) (sym did) was, refl)
   steps_read (step ∷ steps) old new letters mailed was did =
       let first = step_read step old did.0 letters mailed.0 was did.1 in

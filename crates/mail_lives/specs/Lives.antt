@@ -10,7 +10,7 @@ use Rattle.mail_world.specs.Endings.{mended}
 use Rattle.mail_world.specs.Reading.{Letter}
 use Rattle.mail_world.specs.Turns.{Standing, Turn, NotHad, Had, Told, HaveTurns, breaks_last}
 use Rattle.mail_lives.specs.Fates.{Fate}
-use Rattle.mail_lives.specs.Steps.{Step, Others, Stores, Rests, Tears, HasLeft, HasTorn}
+use Rattle.mail_lives.specs.Steps.{SiteNote, Step, Others, Stores, Rests, Tears, HasLeft, HasTorn}
 use Rattle.mail_world.specs.Site.{Site}
 
 -- what others made of the letters before a turn: what became of each, and which they added
@@ -18,9 +18,11 @@ pub record Gap : Type 0 where
   pub fates : List Fate
   pub added : List Letter
 
--- The copies that a worker took, and their turns; before each turn what others made of the letters, or None where
--- nothing of the turn is left: it was missed, or it stored nothing and the power went before anything of it was kept.
+-- The site, the copies that a worker took, and their turns; before each turn what others made of the letters, or None
+-- where nothing of the turn is left: it was missed, or it stored nothing and the power went before anything of it was
+-- kept.
 pub record Life : Type 0 where
+  pub site : Site
   pub quota : Option ℕ
   pub taken : List Note
   pub turns : List Told
@@ -53,36 +55,37 @@ TurnsLeave calendar site (note ∷ notes) (told ∷ turns) (gap ∷ gaps) old ne
 TurnsLeave calendar site _ _ _ old new = ⊥
 
 -- from the bytes that the first of these lives found to those that the last of them left
-abbrev pub LivesLeave : Calendar → Site → List Life → List ℕ → List ℕ → Type 0
-LivesLeave calendar site [] old new = new ≡ old
-LivesLeave calendar site (life ∷ lives) old new =
-    (between : List ℕ) × TurnsLeave calendar site life.taken life.turns life.gaps old between
-    × LivesLeave calendar site lives between new
+abbrev pub LivesLeave : Calendar → List Life → List ℕ → List ℕ → Type 0
+LivesLeave calendar [] old new = new ≡ old
+LivesLeave calendar (life ∷ lives) old new =
+    (between : List ℕ) × TurnsLeave calendar life.site life.taken life.turns life.gaps old between
+    × LivesLeave calendar lives between new
 
--- lives one after another: each copy has its turn, and each turn begins with what is left of the one before it
-pub record HaveLived (calendar : Calendar) (site : Site) (lives : List Life) (old new : List ℕ) : Type 0 where
-  pub are : AllByRecursion (λ life. HaveTurns calendar site life.quota life.taken life.turns) lives
-  pub leave : LivesLeave calendar site lives old new
+-- Lives one after another, each with a site of its own: each copy has its turn, and each turn begins with what is left
+-- of the one before it.
+pub record HaveLived (calendar : Calendar) (lives : List Life) (old new : List ℕ) : Type 0 where
+  pub are : AllByRecursion (λ life. HaveTurns calendar life.site life.quota life.taken life.turns) lives
+  pub leave : LivesLeave calendar lives old new
 
 -- ---- its steps
 
 -- what a turn does that is left
-abbrev pub turn_step : Note → Outcome → Step
-turn_step note Stored = Stores note
-turn_step note Failed = Tears note
-turn_step note _ = Rests
+abbrev pub turn_step : Site → Note → Outcome → Step
+turn_step site note Stored = Stores site note
+turn_step site note Failed = Tears site note
+turn_step site note _ = Rests
 
-abbrev pub turn_steps : Note → Outcome → Option Gap → List Step
-turn_steps note outcome None = []
-turn_steps note outcome (Some gap) = Others gap.fates gap.added ∷ turn_step note outcome ∷ []
+abbrev pub turn_steps : Site → Note → Outcome → Option Gap → List Step
+turn_steps site note outcome None = []
+turn_steps site note outcome (Some gap) = Others gap.fates gap.added ∷ turn_step site note outcome ∷ []
 
-abbrev pub turns_steps : List Note → List Told → List (Option Gap) → List Step
-turns_steps (note ∷ notes) (told ∷ turns) (gap ∷ gaps) =
-    turn_steps note told.outcome gap ++ turns_steps notes turns gaps
-turns_steps _ _ _ = []
+abbrev pub turns_steps : Site → List Note → List Told → List (Option Gap) → List Step
+turns_steps site (note ∷ notes) (told ∷ turns) (gap ∷ gaps) =
+    turn_steps site note told.outcome gap ++ turns_steps site notes turns gaps
+turns_steps site _ _ _ = []
 
 abbrev pub steps_of : Life → List Step
-steps_of life = turns_steps life.taken life.turns life.gaps
+steps_of life = turns_steps life.site life.taken life.turns life.gaps
 
 abbrev pub lives_steps : List Life → List Step
 lives_steps lives = flat_map steps_of lives
@@ -104,8 +107,12 @@ stored_of _ _ = []
 abbrev pub told_in : Life → List Note
 told_in life = stored_of life.taken (map (λ told. told.outcome) life.turns)
 
-abbrev pub told_through : List Life → List Note
-told_through lives = flat_map told_in lives
+-- each under its life's site
+abbrev pub under : Site → List Note → List SiteNote
+under site notes = map (λ note. record { site = site; note = note }) notes
+
+abbrev pub told_through : List Life → List SiteNote
+told_through lives = flat_map (λ life. under life.site (told_in life)) lives
 
 -- how many turns broke
 abbrev pub broken_in : List Told → ℕ

@@ -7,20 +7,20 @@ use Rattle.mail_world.specs.Quotas.{marked}
 use Rattle.mail_world.specs.Records.{Calendar}
 use Rattle.mail_world.specs.Reading.{Letter, letter_of}
 use Rattle.mail_lives.specs.Fates.{Untouched, left_of}
-use Rattle.mail_lives.specs.Steps.{Step, Others, Stores, Tears, StepsComeTo}
+use Rattle.mail_lives.specs.Steps.{SiteNote, Step, Others, Stores, Tears, StepsComeTo}
 use Rattle.mail_world.specs.Site.{Site}
 
 -- the copies that are stored, in the order of their turns
-abbrev pub if_stores : Step → List Note
-if_stores (Stores note) = note ∷ []
+abbrev pub if_stores : Step → List SiteNote
+if_stores (Stores site note) = record { site = site; note = note } ∷ []
 if_stores _ = []
 
-abbrev pub stored_in : List Step → List Note
+abbrev pub stored_in : List Step → List SiteNote
 stored_in steps = flat_map if_stores steps
 
 -- how many turns are cut off
 abbrev pub tears : Step → Bool
-tears (Tears note) = true
+tears (Tears site note) = true
 tears _ = false
 
 abbrev pub torn_in : List Step → ℕ
@@ -44,13 +44,13 @@ left_through [] letters = letters
 left_through (Others fates added ∷ steps) letters = left_through steps (left_of fates letters)
 left_through (_ ∷ steps) letters = left_through steps letters
 
--- The copy is stored in one of these steps: its letter is added after all that stand there then, and what others make
--- later of these and of it stands first at the end.
-pub record IsReadBack (calendar : Calendar) (site : Site) (steps : List Step) (old new : List Letter) (note : Note)
+-- The copy is stored under this site in one of these steps: its letter is added after all that stand there then, and
+-- what others make later of these and of it stands first at the end.
+pub record IsReadBack (calendar : Calendar) (steps : List Step) (old new : List Letter) (site : Site) (note : Note)
     : Type 0 where
   pub earlier : List Step
   pub later : List Step
-  pub whole : steps ≡ earlier ++ Stores note ∷ later
+  pub whole : steps ≡ earlier ++ Stores site note ∷ later
   pub before : List Letter
-  pub come : StepsComeTo calendar site earlier old before
+  pub come : StepsComeTo calendar earlier old before
   pub stands : IsPrefix (left_through later (before ++ letter_of calendar site note ∷ [])) new

@@ -9,11 +9,13 @@ use Rattle.mail_world.specs.Reading.{Letter, letter_of}
 use Rattle.mail_world.specs.Records.{Calendar}
 use Rattle.mail_world.specs.Site.{Site}
 use Rattle.mail_world.specs.Turns.{Turn, NotHad, Had, Told, HaveTurns}
-use Rattle.mail_lives.specs.Lives.{IsLeft, stored_of}
+use Rattle.mail_lives.specs.Lives.{IsLeft, stored_of, under}
 use Rattle.mail_lives.specs.Spoils.{Move, Adds, Spoils}
+use Rattle.mail_lives.specs.Steps.{SiteNote}
 
--- the copies that a worker took, their turns, and the bytes behind those that were kept as the life ended
+-- the site, the copies that a worker took, their turns, and the bytes behind those that were kept as the life ended
 pub record SpoiltLife : Type 0 where
+  pub site : Site
   pub quota : Option ℕ
   pub taken : List Note
   pub turns : List Told
@@ -34,17 +36,17 @@ TurnsKeep calendar site (note ∷ notes) (told ∷ turns) old new =
     × TurnsKeep calendar site notes turns between new
 TurnsKeep calendar site _ _ old new = ⊥
 
-abbrev pub LivesKeep : Calendar → Site → List SpoiltLife → List ℕ → List ℕ → Type 0
-LivesKeep calendar site [] old new = new ≡ old
-LivesKeep calendar site (life ∷ lives) old new =
-    (kept : List ℕ) × TurnsKeep calendar site life.taken life.turns old kept
-    × LivesKeep calendar site lives (kept ++ life.spoilt) new
+abbrev pub LivesKeep : Calendar → List SpoiltLife → List ℕ → List ℕ → Type 0
+LivesKeep calendar [] old new = new ≡ old
+LivesKeep calendar (life ∷ lives) old new =
+    (kept : List ℕ) × TurnsKeep calendar life.site life.taken life.turns old kept
+    × LivesKeep calendar lives (kept ++ life.spoilt) new
 
--- lives one after another: each copy has its turn, and each turn begins with what is left of the one before it
-pub record HaveLivedSpoilt (calendar : Calendar) (site : Site) (lives : List SpoiltLife) (old new : List ℕ)
-    : Type 0 where
-  pub are : AllByRecursion (λ life. HaveTurns calendar site life.quota life.taken life.turns) lives
-  pub keep : LivesKeep calendar site lives old new
+-- Lives one after another, each with a site of its own: each copy has its turn, and each turn begins with what is left
+-- of the one before it.
+pub record HaveLivedSpoilt (calendar : Calendar) (lives : List SpoiltLife) (old new : List ℕ) : Type 0 where
+  pub are : AllByRecursion (λ life. HaveTurns calendar life.site life.quota life.taken life.turns) lives
+  pub keep : LivesKeep calendar lives old new
 
 -- ---- its moves
 
@@ -60,19 +62,20 @@ turns_moves calendar site (note ∷ notes) (told ∷ turns) =
     turn_moves calendar site note told.outcome told.turn ++ turns_moves calendar site notes turns
 turns_moves calendar site _ _ = []
 
-abbrev pub moves_of : Calendar → Site → SpoiltLife → List Move
-moves_of calendar site life = turns_moves calendar site life.taken life.turns ++ Spoils life.spoilt ∷ []
+abbrev pub moves_of : Calendar → SpoiltLife → List Move
+moves_of calendar life = turns_moves calendar life.site life.taken life.turns ++ Spoils life.spoilt ∷ []
 
-abbrev pub lives_moves : Calendar → Site → List SpoiltLife → List Move
-lives_moves calendar site lives = flat_map (moves_of calendar site) lives
+abbrev pub lives_moves : Calendar → List SpoiltLife → List Move
+lives_moves calendar lives = flat_map (moves_of calendar) lives
 
 -- ---- what was told
 
 abbrev pub all_taken : List SpoiltLife → List Note
 all_taken lives = flat_map (λ life. life.taken) lives
 
-abbrev pub all_told : List SpoiltLife → List Note
-all_told lives = flat_map (λ life. stored_of life.taken (map (λ told. told.outcome) life.turns)) lives
+abbrev pub all_told : List SpoiltLife → List SiteNote
+all_told lives =
+    flat_map (λ life. under life.site (stored_of life.taken (map (λ told. told.outcome) life.turns))) lives
 
 -- the letters that moves add
 abbrev pub if_adds : Move → List Letter

@@ -8,16 +8,27 @@ use Rattle.mail_world.specs.Reading.{Letter, IsMailed, letter_of}
 use Rattle.mail_lives.specs.ReadAs.{IsReadAs}
 use Rattle.mail_lives.specs.Fates.{Fate, left_of}
 use Rattle.mail_world.specs.Site.{Site}
+use Rattle.mail_world.specs.Text.{IsOneLine}
 
+-- a copy, and the site under which its record is written
+pub record SiteNote : Type 0 where
+  pub site : Site
+  pub note : Note
+
+-- its letter
+abbrev pub letter_at : Calendar → SiteNote → Letter
+letter_at calendar it = letter_of calendar it.site it.note
+
+-- a server's site may be another one in each of its steps
 pub data Step : Type 0 where
   -- others have it between two turns: of its letters they make that, and add these after them
   Others : List Fate → List Letter → Step
   -- a copy's turn in which its record is appended and kept
-  Stores : Note → Step
+  Stores : Site → Note → Step
   -- a copy's turn that is missed, or in which the copy doesn't fit the quota
   Rests : Step
   -- a copy's turn that is cut off: the process or the machine stops in it, or the spool fails
-  Tears : Note → Step
+  Tears : Site → Note → Step
 
 -- ---- its bytes
 
@@ -34,16 +45,16 @@ pub record HasTorn (calendar : Calendar) (site : Site) (note : Note) (old new : 
   pub part : IsPrefix prefix (addition calendar site note old)
   pub left : new ≡ old ++ prefix
 
-abbrev pub StepLeaves : Calendar → Site → Step → List ℕ → List ℕ → Type 0
-StepLeaves calendar site (Others fates added) old new = HasLeft fates added old new
-StepLeaves calendar site (Stores note) old new = new ≡ old ++ addition calendar site note old
-StepLeaves calendar site Rests old new = new ≡ old
-StepLeaves calendar site (Tears note) old new = HasTorn calendar site note old new
+abbrev pub StepLeaves : Calendar → Step → List ℕ → List ℕ → Type 0
+StepLeaves calendar (Others fates added) old new = HasLeft fates added old new
+StepLeaves calendar (Stores site note) old new = new ≡ old ++ addition calendar site note old
+StepLeaves calendar Rests old new = new ≡ old
+StepLeaves calendar (Tears site note) old new = HasTorn calendar site note old new
 
-abbrev pub StepsLeave : Calendar → Site → List Step → List ℕ → List ℕ → Type 0
-StepsLeave calendar site [] old new = new ≡ old
-StepsLeave calendar site (step ∷ steps) old new =
-    (between : List ℕ) × StepLeaves calendar site step old between × StepsLeave calendar site steps between new
+abbrev pub StepsLeave : Calendar → List Step → List ℕ → List ℕ → Type 0
+StepsLeave calendar [] old new = new ≡ old
+StepsLeave calendar (step ∷ steps) old new =
+    (between : List ℕ) × StepLeaves calendar step old between × StepsLeave calendar steps between new
 
 -- ---- its letters
 
@@ -54,23 +65,22 @@ pub record IsTornOf (calendar : Calendar) (site : Site) (note : Note) (torn : Li
   pub read : IsReadAs prefix torn
   pub few : length torn ≤ 2
 
-abbrev pub StepComesTo : Calendar → Site → Step → List Letter → List Letter → Type 0
-StepComesTo calendar site (Others fates added) old new =
+abbrev pub StepComesTo : Calendar → Step → List Letter → List Letter → Type 0
+StepComesTo calendar (Others fates added) old new =
     (length fates ≡ length old) × (new ≡ left_of fates old ++ added)
-StepComesTo calendar site (Stores note) old new = new ≡ old ++ letter_of calendar site note ∷ []
-StepComesTo calendar site Rests old new = new ≡ old
-StepComesTo calendar site (Tears note) old new =
+StepComesTo calendar (Stores site note) old new = new ≡ old ++ letter_of calendar site note ∷ []
+StepComesTo calendar Rests old new = new ≡ old
+StepComesTo calendar (Tears site note) old new =
     (torn : List Letter) × IsTornOf calendar site note torn × (new ≡ old ++ torn)
 
-abbrev pub StepsComeTo : Calendar → Site → List Step → List Letter → List Letter → Type 0
-StepsComeTo calendar site [] old new = new ≡ old
-StepsComeTo calendar site (step ∷ steps) old new =
-    (between : List Letter) × StepComesTo calendar site step old between
-    × StepsComeTo calendar site steps between new
+abbrev pub StepsComeTo : Calendar → List Step → List Letter → List Letter → Type 0
+StepsComeTo calendar [] old new = new ≡ old
+StepsComeTo calendar (step ∷ steps) old new =
+    (between : List Letter) × StepComesTo calendar step old between × StepsComeTo calendar steps between new
 
--- notes as transactions make them
+-- the host's name is of one line, and notes are as transactions make them
 abbrev pub IsMailedStep : Step → Type 0
 IsMailedStep (Others fates added) = ⊤
-IsMailedStep (Stores note) = IsMailed note
+IsMailedStep (Stores site note) = IsOneLine site.host × IsMailed note
 IsMailedStep Rests = ⊤
-IsMailedStep (Tears note) = IsMailed note
+IsMailedStep (Tears site note) = IsOneLine site.host × IsMailed note

@@ -8,7 +8,8 @@ ghost use Rattle.mail_world.specs.Prefixes.{IsPrefix};
 ghost use Rattle.mail_world.specs.Records.{Calendar};
 ghost use Rattle.mail_world.specs.Reading.{Letter, IsLetter, AreLetters, IsMailed, letter_of, letter_text, written};
 ghost use Rattle.mail_lives.specs.ReadAs.{IsReadAs};
-ghost use Rattle.mail_lives.specs.Steps.{Step, Stores, Tears, StepLeaves, StepsLeave, StepsComeTo, IsMailedStep};
+ghost use Rattle.mail_lives.specs.Steps.{letter_at, Step, Stores, Tears, StepLeaves, StepsLeave, StepsComeTo};
+ghost use Rattle.mail_lives.specs.Steps.{IsMailedStep};
 ghost use Rattle.mail_lives.specs.Lives.{Life, HaveLived, lives_steps, taken_through, told_through, broken_through};
 ghost use Rattle.mail_lives.specs.ReadBack.{stored_in, torn_in, LeavesAlone, StandAmong, left_through, IsReadBack};
 ghost use Rattle.mail_lives.specs.Spoils.{Lines, own_lines, Move, Adds, Spoils, MoveLeaves, AreWhole, MovesLeave};
@@ -16,49 +17,48 @@ ghost use Rattle.mail_lives.specs.Spoils.{AreFound, found};
 ghost use Rattle.mail_lives.specs.SpoiltLives.{SpoiltLife, HaveLivedSpoilt, lives_moves, all_taken, all_told, added_in};
 ghost use Rattle.mail_world.specs.Site.{Site};
 
-/// Whatever is stored, torn, or left by others, in whatever order: a mailbox that is read as letters is so afterwards,
-/// and its letters are those that the steps come to. Each stored one is there once, whole, and after those before it;
-/// nothing but what others remove or change is gone; nothing of a torn one is in any other.
+/// Whatever is stored, torn, or left by others, in whatever order and under whatever sites: a mailbox that is read as
+/// letters is so afterwards, and its letters are those that the steps come to. Each stored one is there once, whole,
+/// and after those before it; nothing but what others remove or change is gone; nothing of a torn one is in any other.
 pub fn steps_are_read()
-    ensures { (calendar : Calendar) (site : Site) (steps : List Step) (old new : List ℕ) (letters : List Letter)
-        → IsOneLine site.host → AllByRecursion IsMailedStep steps
-        → IsReadAs old letters → StepsLeave calendar site steps old new
-        → (after : List Letter) × IsReadAs new after × StepsComeTo calendar site steps letters after }
+    ensures { (calendar : Calendar) (steps : List Step) (old new : List ℕ) (letters : List Letter)
+        → AllByRecursion IsMailedStep steps → IsReadAs old letters → StepsLeave calendar steps old new
+        → (after : List Letter) × IsReadAs new after × StepsComeTo calendar steps letters after }
 {}
 
 /// After any number of lives a mailbox that was read as letters is so, and its letters are those that the lives' steps
-/// come to. What these steps store is just what was told Stored, in the order of the turns, and no more of them are
-/// torn than turns broke.
+/// come to. What these steps store is just what was told Stored, each under its life's site and in the order of the
+/// turns, and no more of them are torn than turns broke.
 pub fn lives_are_read()
-    ensures read { (calendar : Calendar) (site : Site) (lives : List Life) (old new : List ℕ) (letters : List Letter)
-        → IsOneLine site.host → AllByRecursion IsMailed (taken_through lives)
-        → IsReadAs old letters → HaveLived calendar site lives old new
-        → (after : List Letter) × IsReadAs new after × StepsComeTo calendar site (lives_steps lives) letters after }
-    ensures stored { (calendar : Calendar) (site : Site) (lives : List Life) (old new : List ℕ)
-        → HaveLived calendar site lives old new → stored_in (lives_steps lives) ≡ told_through lives }
-    ensures torn { (calendar : Calendar) (site : Site) (lives : List Life) (old new : List ℕ)
-        → HaveLived calendar site lives old new → torn_in (lives_steps lives) ≤ broken_through lives }
+    ensures read { (calendar : Calendar) (lives : List Life) (old new : List ℕ) (letters : List Letter)
+        → AllByRecursion (λ life. IsOneLine life.site.host) lives → AllByRecursion IsMailed (taken_through lives)
+        → IsReadAs old letters → HaveLived calendar lives old new
+        → (after : List Letter) × IsReadAs new after × StepsComeTo calendar (lives_steps lives) letters after }
+    ensures stored { (calendar : Calendar) (lives : List Life) (old new : List ℕ)
+        → HaveLived calendar lives old new → stored_in (lives_steps lives) ≡ told_through lives }
+    ensures torn { (calendar : Calendar) (lives : List Life) (old new : List ℕ)
+        → HaveLived calendar lives old new → torn_in (lives_steps lives) ≤ broken_through lives }
 {}
 
 /// Where others change nothing, the letters that were there still are, and after them each that was told Stored, once,
 /// whole and in the order of the turns; besides these two at most for each turn that broke.
 pub fn told_are_read()
-    ensures { (calendar : Calendar) (site : Site) (lives : List Life) (old new : List ℕ) (letters : List Letter)
-        → IsOneLine site.host → AllByRecursion IsMailed (taken_through lives)
+    ensures { (calendar : Calendar) (lives : List Life) (old new : List ℕ) (letters : List Letter)
+        → AllByRecursion (λ life. IsOneLine life.site.host) lives → AllByRecursion IsMailed (taken_through lives)
         → AllByRecursion LeavesAlone (lives_steps lives)
-        → IsReadAs old letters → HaveLived calendar site lives old new
+        → IsReadAs old letters → HaveLived calendar lives old new
         → (more : List Letter) × IsReadAs new (letters ++ more)
-        × StandAmong (map (letter_of calendar site) (told_through lives)) (2 * broken_through lives) more }
+        × StandAmong (map (letter_at calendar) (told_through lives)) (2 * broken_through lives) more }
 {}
 
 /// Only others take a letter away or change it. What they leave of the letters that stand there at any time stands
 /// first afterwards, in its order; so it is of each copy that is stored, from the step on that stores it.
 pub fn letters_stay()
-    ensures old { (calendar : Calendar) (site : Site) (steps : List Step) (old new : List Letter)
-        → StepsComeTo calendar site steps old new → IsPrefix (left_through steps old) new }
-    ensures stored { (calendar : Calendar) (site : Site) (steps : List Step) (old new : List Letter)
-        → StepsComeTo calendar site steps old new
-        → AllByRecursion (IsReadBack calendar site steps old new) (stored_in steps) }
+    ensures old { (calendar : Calendar) (steps : List Step) (old new : List Letter)
+        → StepsComeTo calendar steps old new → IsPrefix (left_through steps old) new }
+    ensures stored { (calendar : Calendar) (steps : List Step) (old new : List Letter)
+        → StepsComeTo calendar steps old new
+        → AllByRecursion (λ it. IsReadBack calendar steps old new it.site it.note) (stored_in steps) }
 {}
 
 /// Whatever bytes a crash leaves behind letters that were kept: each of these is found, and all but the last of them
@@ -81,10 +81,10 @@ pub fn spoilt_are_found()
 /// A copy's turn that stores adds the copy's letter, and one that is cut off leaves bytes as a crash does.
 pub fn turns_are_moves()
     ensures stored { (calendar : Calendar) (site : Site) (note : Note) (old new : List ℕ)
-        → IsOneLine site.host → IsMailed note → StepLeaves calendar site (Stores note) old new
+        → IsOneLine site.host → IsMailed note → StepLeaves calendar (Stores site note) old new
         → IsLetter (letter_of calendar site note) × MoveLeaves (Adds (letter_of calendar site note)) old new }
     ensures torn { (calendar : Calendar) (site : Site) (note : Note) (old new : List ℕ)
-        → StepLeaves calendar site (Tears note) old new → (bytes : List ℕ) × MoveLeaves (Spoils bytes) old new }
+        → StepLeaves calendar (Tears site note) old new → (bytes : List ℕ) × MoveLeaves (Spoils bytes) old new }
 {}
 
 /// After any number of lives, each of which ends with any bytes behind those that were kept: each letter that was there
@@ -92,10 +92,10 @@ pub fn turns_are_moves()
 /// all its lines. Only the last one before a turn that broke, or before a life's end, gains lines, and only there
 /// further letters are found.
 pub fn spoilt_lives_are_found()
-    ensures are { (calendar : Calendar) (site : Site) (lives : List SpoiltLife) (letters : List Letter) (new : List ℕ)
-        → IsOneLine site.host → AllByRecursion IsMailed (all_taken lives) → AreLetters letters
-        → HaveLivedSpoilt calendar site lives (written letters) new
-        → AreFound (map Adds letters ++ lives_moves calendar site lives) (found new) }
-    ensures told { (calendar : Calendar) (site : Site) (lives : List SpoiltLife)
-        → added_in (lives_moves calendar site lives) ≡ map (letter_of calendar site) (all_told lives) }
+    ensures are { (calendar : Calendar) (lives : List SpoiltLife) (letters : List Letter) (new : List ℕ)
+        → AllByRecursion (λ life. IsOneLine life.site.host) lives → AllByRecursion IsMailed (all_taken lives)
+        → AreLetters letters → HaveLivedSpoilt calendar lives (written letters) new
+        → AreFound (map Adds letters ++ lives_moves calendar lives) (found new) }
+    ensures told { (calendar : Calendar) (lives : List SpoiltLife)
+        → added_in (lives_moves calendar lives) ≡ map (letter_at calendar) (all_told lives) }
 {}

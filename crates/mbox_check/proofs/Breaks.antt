@@ -20,7 +20,7 @@ use Rattle.mbox_letters.proofs.Mailboxes.{boundary-letters}
 use Rattle.mbox_check.proofs.Bodies.{ends_not_lf, ends_not_empty, body_in_letter}
 use Rattle.mbox_check.proofs.Begins.{part_grown, boundary_else, open_started, line_started, started_begins, started_line, at_begins, at_short, start_bad, open_good, line_good, inside_good}
 
-take_prefix : (text more : List ℕ) → take (length text) (text ++ more) ≡ text
+pub take_prefix : (text more : List ℕ) → take (length text) (text ++ more) ≡ text
 take_prefix [] more = refl
 take_prefix (b ∷ text) more = ap (λ l. b ∷ l) (take_prefix text more)
 
@@ -48,11 +48,14 @@ breaks_end text begins short = record {
 
 -- ---- at the end
 
+pub end_breaks : (state : FormState) (text : List ℕ) (n : Begun) → EndsAt text n state → is_whole state ≡ false → BreaksAt text (length text)
+end_breaks state text n at e = breaks_end text (at_begins state text n at) (at_short state text n at e)
+
 pub bad_end : (state : FormState) (text : List ℕ) (n : Begun) (taken letters start : ℕ) → taken ≡ counted (length text) → letters ≡ counted n.count
     → start ≡ counted_start n.start
     → EndsAt text n state → is_whole state ≡ false → IsBad text (bad_at state taken letters start)
 bad_end (Start part) text n taken letters start t l s at e =
-    (start_bad part text at.1 e, (length text, t, breaks_end text (at_begins (Start part) text n at) (at_short (Start part) text n at e)))
+    (start_bad part text at.1 e, (length text, t, end_breaks (Start part) text n at e))
 bad_end (Open part) text n taken letters start t l s at e = (
   open_good part text n at,
   (
@@ -62,7 +65,7 @@ bad_end (Open part) text n taken letters start t l s at e = (
     t,
     l,
     s,
-    breaks_end text (at_begins (Open part) text n at) (at_short (Open part) text n at e),
+    end_breaks (Open part) text n at e,
     body_in_letter text text n (started_line text n part (open_started text n part at)) (take_all (length text) text (omega arith)),
   ),
 )
@@ -75,7 +78,7 @@ bad_end (Line part) text n taken letters start t l s at e = (
     t,
     l,
     s,
-    breaks_end text (at_begins (Line part) text n at) (at_short (Line part) text n at e),
+    end_breaks (Line part) text n at e,
     body_in_letter text text n (started_line text n part (line_started text n part at)) (take_all (length text) text (omega arith)),
   ),
 )
@@ -88,7 +91,7 @@ bad_end Inside text n taken letters start t l s at e = (
     t,
     l,
     s,
-    breaks_end text (at_begins Inside text n at) (at_short Inside text n at e),
+    end_breaks Inside text n at e,
     body_in_letter text text n (at.goes [] (literal [] refl)) (take_all (length text) text (omega arith)),
   ),
 )
@@ -102,12 +105,16 @@ no_prefix part text b e f m =
     let bad : is_boundary (text ++ b ∷ m.more) ≡ false = ap (λ (l : List ℕ). is_boundary (l ++ b ∷ m.more)) e ∙ boundary_else part b m.more f in
     true≢false (sym good ∙ ap is_boundary (m.is.whole ∙ append_assoc text (b ∷ []) m.more) ∙ bad)
 
+pub start_breaks_at : (part : Part) (text more : List ℕ) (n : Begun) (b : ℕ) → EndsAt text n (Start part) → (next_byte part == b) ≡ false
+    → BreaksAt (text ++ b ∷ more) (length text)
+start_breaks_at part text more n b at e = breaks_next text more b (at_begins (Start part) text n at) (no_prefix part text b at.1 e)
+
 pub start_breaks : (part : Part) (text more : List ℕ) (n : Begun) (b taken : ℕ) → taken ≡ counted (length text) → EndsAt text n (Start part)
     → (next_byte part == b) ≡ false
     → IsBad (text ++ b ∷ more) (NoFromLine taken)
 start_breaks part text more n b taken t at e = (
   ap (λ (l : List ℕ). is_boundary (l ++ b ∷ more)) at.1 ∙ boundary_else part b more e,
-  (length text, t, breaks_next text more b (at_begins (Start part) text n at) (no_prefix part text b at.1 e)),
+  (length text, t, start_breaks_at part text more n b at e),
 )
 
 -- nor has it a From line after a line that isn't empty
@@ -118,6 +125,10 @@ no_line part text n b l e f m =
     m.is.whole ∙ ap (λ (x : List ℕ). x ++ m.more) (part_grown part text prefix b None l.whole e f) ∙ append_assoc prefix (codes "From ") m.more
     ∙ append_assoc l.before (lf ∷ []) (codes "From " ++ m.more) in
     elim (from_after m.letters l.before m.more m.is.are whole) [ inl g ↦ ends_not_empty l.before l.ends g | inr g ↦ ends_not_lf l.before g.0 l.ends g.1 ]
+
+pub line_breaks_at : (part : Part) (text more : List ℕ) (n : Begun) (b : ℕ) → IsLine text n part → next_byte part ≡ b → longer_part part ≡ None
+    → BreaksAt (text ++ b ∷ more) (length text)
+line_breaks_at part text more n b l e f = breaks_next text more b (at_begins (Line part) text n l) (no_line part text n b l e f)
 
 pub line_breaks : (part : Part) (text more : List ℕ) (n : Begun) (b taken letters start : ℕ) → taken ≡ counted (length text) → letters ≡ counted n.count
     → start ≡ counted_start n.start
@@ -131,7 +142,7 @@ line_breaks part text more n b taken letters start t c s l e f = (
     t,
     c,
     s,
-    breaks_next text more b (at_begins (Line part) text n l) (no_line part text n b l e f),
+    line_breaks_at part text more n b l e f,
     body_in_letter text (text ++ b ∷ more) n (started_line text n part (line_started text n part l)) (take_prefix text (b ∷ more)),
   ),
 )

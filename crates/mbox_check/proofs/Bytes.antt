@@ -1,10 +1,11 @@
 -- What comes of a byte.
-use Rattle.std.proofs.Common.{◌≡◌, ℕ, suc, ◌+◌, arith, Bool, true, false, cond, ◌==◌, List, [], ◌∷◌, ◌++◌, length, Option, Some, None, sym, ap, subst, ◌∙◌, refl}
+use Rattle.std.proofs.Common.{◌≡◌, ◌⊎◌, inl, inr, ℕ, suc, ◌+◌, arith, Bool, true, false, cond, ◌==◌, List, [], ◌∷◌, ◌++◌, length, Option, Some, None, sym, ap, subst, ◌∙◌, refl}
 use Rattle.std.proofs.Common.{append_assoc, append-nil}
 use Rattle.std.specs.Prelude.{codes}
 use Rattle.std.proofs.lemmas.Bool.{eqb-true}
 use Rattle.std.proofs.lemmas.List.{length-append}
 use Rattle.mail_world.specs.Counts.{counted}
+use Rattle.mail_world.specs.Malformed.{nul}
 use Rattle.mail_world.specs.Text.{lf, IsOneLine}
 use Rattle.mail_world.specs.Reading.{Letter, AreLetters, written}
 use Rattle.mail_world.proofs.OneLine.{one_line-cons, one_line-append, literal}
@@ -15,13 +16,13 @@ use Rattle.mbox_check.specs.declared.state.FormState.{FormState}
 use Rattle.mbox_check.specs.declared.state.FormState.TheVariants.{Start, Open, Line, Inside}
 use Rattle.mbox_check.specs.declared.state.Effect.{Effect}
 use Rattle.mbox_check.specs.declared.state.Effect.TheVariants.{To, Begin, Break}
-use Rattle.mbox_check.specs.Form.{counted_start, IsBad}
+use Rattle.mbox_check.specs.Form.{counted_start, BreaksAt, IsBad}
 use Rattle.mbox_check.specs.States.{part_text, next_byte, longer_part, is_nothing, line_state, start_with, open_with, line_with, effect_at, bad_at}
 use Rattle.mbox_check.specs.SoFar.{EndsInLine, Begun, IsBody, IsOpen, IsLine, IsInsideLine, EndsAt}
 use Rattle.mbox_letters.proofs.Mailboxes.{boundary-letters}
 use Rattle.mbox_check.proofs.Bodies.{ends_after, line_ends, length-push, body_line, body_ended, body_first}
 use Rattle.mbox_check.proofs.Begins.{part_one, part_grown, part_else, ends_in_part, IsStarted, open_started, line_started, started_begins, started_line}
-use Rattle.mbox_check.proofs.Breaks.{start_breaks, line_breaks}
+use Rattle.mbox_check.proofs.Breaks.{start_breaks, start_breaks_at, line_breaks, line_breaks_at}
 
 -- the text with the byte
 abbrev pub LeadsTo : FormState → List ℕ → Begun → ℕ → Effect → Type 0
@@ -29,7 +30,7 @@ LeadsTo from text n b (To state) = EndsAt (text ++ b ∷ []) n state
 LeadsTo from text n b Begin = (s : ℕ) × (length text ≡ s + 4) × EndsAt (text ++ b ∷ []) (record { count = suc n.count; start = s }) Inside
 LeadsTo from text n b Break =
     (more : List ℕ) (taken letters start : ℕ) → taken ≡ counted (length text) → letters ≡ counted n.count → start ≡ counted_start n.start
-    → IsBad (text ++ b ∷ more) (bad_at from taken letters start)
+    → IsBad (text ++ b ∷ more) (bad_at from taken letters start) × BreaksAt (text ++ b ∷ more) (length text)
 
 -- ---- a letter begins
 
@@ -144,7 +145,7 @@ start_option part text n b at e None f = letter_leads (Start part) text [] n b [
 start_byte : (part : Part) (text : List ℕ) (n : Begun) (b : ℕ) → EndsAt text n (Start part) → (t : Bool) → (next_byte part == b) ≡ t
     → LeadsTo (Start part) text n b (cond t (start_with (longer_part part)) Break)
 start_byte part text n b at true e = start_option part text n b at (eqb-true (next_byte part) b e) (longer_part part) refl
-start_byte part text n b at false e = λ more taken letters start t c s. start_breaks part text more n b taken t at e
+start_byte part text n b at false e = λ more taken letters start t c s. (start_breaks part text more n b taken t at e, start_breaks_at part text more n b at e)
 
 open_option : (part : Part) (text : List ℕ) (n : Begun) (b : ℕ) → IsOpen text n part → next_byte part ≡ b → (o : Option Part) → longer_part part ≡ o
     → LeadsTo (Open part) text n b (open_with o)
@@ -165,7 +166,8 @@ line_option : (part : Part) (text : List ℕ) (n : Begun) (b : ℕ) → IsLine t
     → LeadsTo (Line part) text n b (line_with o)
 line_option part text n b at e (Some more) f =
     record { before = at.before; ends = at.ends; body = at.body; whole = part_grown part text (at.before ++ lf ∷ []) b (Some more) at.whole e f }
-line_option part text n b at e None f = λ more taken letters start t c s. line_breaks part text more n b taken letters start t c s at e f
+line_option part text n b at e None f = λ more taken letters start t c s.
+    (line_breaks part text more n b taken letters start t c s at e f, line_breaks_at part text more n b at e f)
 
 line_byte : (part : Part) (text : List ℕ) (n : Begun) (b : ℕ) → IsLine text n part → (t : Bool) → (next_byte part == b) ≡ t
     → LeadsTo (Line part) text n b (cond t (line_with (longer_part part)) (To (line_state part b)))
@@ -177,3 +179,19 @@ byte_leads (Start part) text n b at = start_byte part text n b at (next_byte par
 byte_leads (Open part) text n b at = open_byte part text n b at (next_byte part == b) refl
 byte_leads (Line part) text n b at = line_byte part text n b at (next_byte part == b) refl
 byte_leads Inside text n b at = inside_byte text n b at (b == lf) refl
+
+-- ---- a NUL
+
+nul_next : (part : Part) → (next_byte part == nul) ≡ false
+nul_next Nothing = refl
+nul_next F = refl
+nul_next Fr = refl
+nul_next Fro = refl
+nul_next From = refl
+
+-- it begins no letter, and where it doesn't break the form it stands inside a line
+pub nul_leads : (from : FormState) → (effect_at from nul ≡ Break) ⊎ (effect_at from nul ≡ To Inside)
+nul_leads (Start part) = inl (rw (nul_next part) refl)
+nul_leads (Open part) = inr (rw (nul_next part) refl)
+nul_leads (Line part) = inr (rw (nul_next part) refl)
+nul_leads Inside = inr refl

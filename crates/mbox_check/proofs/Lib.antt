@@ -3,5 +3,7 @@ pub mod Bodies
 pub mod Begins
 pub mod Breaks
 pub mod Bytes
+pub mod Nuls
+pub mod Sound
 pub mod Taken
 pub mod Readers

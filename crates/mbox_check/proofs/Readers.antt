@@ -3,10 +3,9 @@ use Rattle.std.proofs.Common.{◌≡◌, ℕ, ◌<◌, List, [], ◌++◌, lengt
 use Rattle.std.specs.Prelude.{⊤}
 use Rattle.std.specs.Io.KnownBytes.{Consumes, IsAtEnd}
 use Rattle.std.proofs.KnownBytes.{Consumes-trans}
-use Rattle.mbox_check.specs.declared.fault.BadForm.{BadForm}
-use Rattle.mbox_check.specs.declared.fault.CheckFault.TheVariants.{Form}
 use Rattle.mbox_check.specs.declared.form.FormCheck.{FormCheck}
-use Rattle.mbox_check.specs.Form.{IsBad, IsFaultOf}
+use Rattle.mbox_check.specs.declared.found.Found.{Found}
+use Rattle.mbox_check.specs.Form.{IsFound, IsFoundOf}
 use Rattle.mbox_check.specs.SoFar.{IsReadSoFar, ReadsOn, BreaksIn}
 
 -- what the reader had is what came, and then what it has
@@ -39,20 +38,21 @@ pub read_end : (old mid new : Option (List ℕ)) (form : FormCheck) (n : ℕ) (b
 read_end old mid new form n buffer r c e some =
     all_read old mid new r.prefix form r.came (subst (λ k. Consumes mid new (take k buffer)) e c.0) (c.1 e some) r.read
 
-pub read_bad : (old : Option (List ℕ)) (form : FormCheck) (bad : BadForm) → IsAllRead old form → ((text : List ℕ) → IsReadSoFar text form → IsBad text bad)
-    → IsFaultOf old (Form bad)
-read_bad None form bad s h = tt
-read_bad (Some xs) form bad s h = h xs s
+pub read_whole : (old : Option (List ℕ)) (form : FormCheck) (found : Found) → IsAllRead old form → ((text : List ℕ) → IsReadSoFar text form → IsFound text found)
+    → IsFoundOf old found
+read_whole None form found s h = tt
+read_whole (Some xs) form found s h = h xs s
 
 -- a piece breaks the form, whatever the reader has left
-broken_at : (xs : List ℕ) (new : Option (List ℕ)) (form : FormCheck) (prefix piece : List ℕ) (bad : BadForm) → Consumes (Some xs) new (prefix ++ piece)
+broken_at : (xs : List ℕ) (new : Option (List ℕ)) (form : FormCheck) (prefix piece : List ℕ) (found : Found) → Consumes (Some xs) new (prefix ++ piece)
     → IsReadSoFar prefix form
-    → BreaksIn form piece bad → IsBad xs bad
-broken_at xs None form prefix piece bad p s h = absurd p
-broken_at xs (Some ys) form prefix piece bad p s h = subst (λ (l : List ℕ). IsBad l bad) (sym (p ∙ append_assoc prefix piece ys)) (h.goes prefix ys s)
+    → BreaksIn form piece found → IsFound xs found
+broken_at xs None form prefix piece found p s h = absurd p
+broken_at xs (Some ys) form prefix piece found p s h =
+    subst (λ (l : List ℕ). IsFound l found) (sym (p ∙ append_assoc prefix piece ys)) (h.goes prefix ys s)
 
-pub read_broken : (old mid new : Option (List ℕ)) (form : FormCheck) (piece : List ℕ) (bad : BadForm) → IsCheckedUpTo old mid form → Consumes mid new piece
-    → BreaksIn form piece bad → IsFaultOf old (Form bad)
-read_broken None mid new form piece bad r c h = tt
-read_broken (Some xs) mid new form piece bad r c h =
-    broken_at xs new form r.prefix piece bad (Consumes-trans (Some xs) mid new r.prefix piece r.came c) r.read h
+pub read_broken : (old mid new : Option (List ℕ)) (form : FormCheck) (piece : List ℕ) (found : Found) → IsCheckedUpTo old mid form → Consumes mid new piece
+    → BreaksIn form piece found → IsFoundOf old found
+read_broken None mid new form piece found r c h = tt
+read_broken (Some xs) mid new form piece found r c h =
+    broken_at xs new form r.prefix piece found (Consumes-trans (Some xs) mid new r.prefix piece r.came c) r.read h

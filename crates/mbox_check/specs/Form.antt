@@ -1,12 +1,14 @@
--- Whether bytes have the form of a mailbox (RFC 4155, Appendix A), and the first place at which they don't.
-use Rattle.std.specs.Prelude.{◌≡◌, ◌+◌, ◌-◌, ◌<◌, ◌≤◌, ℕ, suc, List, [], ◌∷◌, ◌++◌, length, take, true, false, Option, None, Some, ⊤}
+-- Whether bytes have the form of a mailbox (RFC 4155, Appendix A), the first place at which they don't, and the first NUL.
+use Rattle.std.specs.Prelude.{◌≡◌, ◌+◌, ◌-◌, ◌<◌, ◌≤◌, ℕ, suc, List, [], ◌∷◌, ◌++◌, length, take, true, false, Option, None, Some, MatchResult, ⊤}
 use Rattle.mail_world.specs.Counts.{counted}
+use Rattle.mail_world.specs.Malformed.{nul}
 use Rattle.mail_world.specs.Reading.{Letter, AreLetters, written}
+use Rattle.mail_world.specs.Text.{place_of}
 use Rattle.mbox_letters.specs.Letters.{is_boundary}
 use Rattle.mbox_check.specs.declared.fault.BadForm.{BadForm}
 use Rattle.mbox_check.specs.declared.fault.BadForm.TheVariants.{NoFromLine, NoEmptyLine}
-use Rattle.mbox_check.specs.declared.fault.CheckFault.{CheckFault}
-use Rattle.mbox_check.specs.declared.fault.CheckFault.TheVariants as fault
+use Rattle.mbox_check.specs.declared.found.Found.{Found}
+use Rattle.mbox_check.specs.declared.found.NulAt.{NulAt}
 
 -- the text is a mailbox of these letters
 pub record IsMailboxOf (text : List ℕ) (letters : List Letter) : Type 0 where
@@ -54,12 +56,28 @@ IsBad text (NoEmptyLine place letter start) =
 abbrev pub IsLetterCount : List ℕ → ℕ → Type 0
 IsLetterCount text count = (letters : List Letter) × IsMailboxOf text letters × (count ≡ counted (length letters))
 
--- the same of bytes of which only some readers tell
-abbrev pub IsCountOf : Option (List ℕ) → ℕ → Type 0
-IsCountOf None count = ⊤
-IsCountOf (Some text) count = IsLetterCount text count
+-- The first NUL of the text is told: its place, and the letter in which the text would break off right after it.
+pub record IsFirstNul (text : List ℕ) (told : NulAt) : Type 0 where
+  pub p : ℕ
+  pub number : ℕ
+  pub s : ℕ
+  pub first : place_of (nul ∷ []) text ≡ Some p
+  pub within : IsInLetter text (suc p) number s
+  pub is : told ≡ record { place = counted p; letter = counted number; start = counted_start s }
 
-abbrev pub IsFaultOf : Option (List ℕ) → CheckFault → Type 0
-IsFaultOf None cause = ⊤
-IsFaultOf (Some text) fault.Unread = ⊤
-IsFaultOf (Some text) (fault.Form bad) = IsBad text bad
+-- what is told of NULs: the first one of the text, or that it has none
+abbrev pub TellsNul : List ℕ → Option NulAt → Type 0
+TellsNul text None = place_of (nul ∷ []) text ≡ None
+TellsNul text (Some told) = IsFirstNul text told
+
+-- What is found of the text: as many letters as it has, or what is wrong with it; and the first NUL of a mailbox, or else
+-- of what stands before the place that breaks the form.
+pub record IsFound (text : List ℕ) (found : Found) : Type 0 where
+  pub form : MatchResult found.letters (IsLetterCount text) (IsBad text)
+  pub of_all : (letters : List Letter) → IsMailboxOf text letters → TellsNul text found.nul
+  pub of_sound : (place : ℕ) → BreaksAt text place → TellsNul (take place text) found.nul
+
+-- the same of bytes of which only some readers tell
+abbrev pub IsFoundOf : Option (List ℕ) → Found → Type 0
+IsFoundOf None found = ⊤
+IsFoundOf (Some text) found = IsFound text found

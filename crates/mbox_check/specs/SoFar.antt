@@ -1,17 +1,18 @@
 -- What a reader of a mailbox has read so far.
-use Rattle.std.specs.Prelude.{◌≡◌, ℕ, suc, true, false, ◌==◌, List, [], ◌∷◌, ◌++◌, map, length, codes}
+use Rattle.std.specs.Prelude.{◌≡◌, ℕ, suc, true, false, ◌==◌, List, [], ◌∷◌, ◌++◌, None, map, length, codes}
 use Rattle.std.specs.List.{AllByRecursion}
 use Rattle.mail_world.specs.Counts.{counted}
-use Rattle.mail_world.specs.Text.{lf, with_lf, IsOneLine}
+use Rattle.mail_world.specs.Malformed.{nul}
+use Rattle.mail_world.specs.Text.{lf, place_of, with_lf, IsOneLine}
 use Rattle.mail_world.specs.Records.{quoted}
 use Rattle.mail_world.specs.Reading.{Letter, AreLetters, written}
 use Rattle.mbox_letters.specs.Letters.{is_boundary}
-use Rattle.mbox_check.specs.declared.fault.BadForm.{BadForm}
 use Rattle.mbox_check.specs.declared.form.FormCheck.{FormCheck}
+use Rattle.mbox_check.specs.declared.found.Found.{Found}
 use Rattle.mbox_check.specs.declared.state.Part.{Part}
 use Rattle.mbox_check.specs.declared.state.FormState.{FormState}
 use Rattle.mbox_check.specs.declared.state.FormState.TheVariants.{Start, Open, Line, Inside}
-use Rattle.mbox_check.specs.Form.{IsBad, counted_start}
+use Rattle.mbox_check.specs.Form.{IsFound, TellsNul, counted_start}
 use Rattle.mbox_check.specs.States.{part_text}
 
 -- the last byte isn't LF
@@ -70,11 +71,18 @@ pub record IsReadSoFar (text : List ℕ) (form : FormCheck) : Type 0 where
   pub taken : form.taken ≡ counted (length text)
   pub start : form.start ≡ counted_start n.start
   pub at : EndsAt text n form.state
+  pub told : TellsNul text form.nul
+
+-- bytes of a line of which the rest is free, without its end and without NUL
+pub record IsFree (state : FormState) (bytes : List ℕ) : Type 0 where
+  pub inside : state ≡ Inside
+  pub one : IsOneLine bytes
+  pub none : place_of (nul ∷ []) bytes ≡ None
 
 -- whatever came before, the bytes came after it
 pub record ReadsOn (old new : FormCheck) (bytes : List ℕ) : Type 0 where
   pub goes : (prefix : List ℕ) → IsReadSoFar prefix old → IsReadSoFar (prefix ++ bytes) new
 
--- whatever came before, and whatever comes after them, the bytes break the form
-pub record BreaksIn (old : FormCheck) (bytes : List ℕ) (bad : BadForm) : Type 0 where
-  pub goes : (prefix more : List ℕ) → IsReadSoFar prefix old → IsBad (prefix ++ (bytes ++ more)) bad
+-- whatever came before, and whatever comes after them, the bytes break the form, and that is found of the text
+pub record BreaksIn (old : FormCheck) (bytes : List ℕ) (found : Found) : Type 0 where
+  pub goes : (prefix more : List ℕ) → IsReadSoFar prefix old → IsFound (prefix ++ (bytes ++ more)) found

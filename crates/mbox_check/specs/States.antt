@@ -1,9 +1,11 @@
 -- Where a reader of a mailbox stands between two bytes, and where a byte leads it.
 use Rattle.std.specs.Prelude.{ℕ, Bool, true, false, ◌==◌, List, [], Option, Some, None, codes, if◌then◌else◌}
 use Rattle.std.specs.Str.{byte}
+use Rattle.mail_world.specs.Malformed.{nul}
 use Rattle.mail_world.specs.Text.{lf}
 use Rattle.mbox_check.specs.declared.fault.BadForm.{BadForm}
 use Rattle.mbox_check.specs.declared.fault.BadForm.TheVariants.{NoFromLine, NoEmptyLine}
+use Rattle.mbox_check.specs.declared.found.NulAt.{NulAt}
 use Rattle.mbox_check.specs.declared.state.Part.{Part}
 use Rattle.mbox_check.specs.declared.state.Part.TheVariants.{Nothing, F, Fr, Fro, From}
 use Rattle.mbox_check.specs.declared.state.FormState.{FormState}
@@ -77,3 +79,8 @@ bad_at (Start part) taken letter start = NoFromLine taken
 bad_at (Open part) taken letter start = NoEmptyLine taken letter start
 bad_at (Line part) taken letter start = NoEmptyLine taken letter start
 bad_at Inside taken letter start = NoEmptyLine taken letter start
+
+-- the first NUL after a byte, which stands there
+abbrev pub nul_after : Option NulAt → ℕ → NulAt → Option NulAt
+nul_after (Some first) b here = Some first
+nul_after None b here = if b == nul then Some here else None

@@ -1,6 +1,4 @@
-//! What is wrong with a mailbox, and why its letters weren't counted.
-
-ghost use Rattle.std.specs.Prelude.{◌≡◌};
+//! What is wrong with a mailbox, and why nothing was found of it.
 
 use thiserror::Error;
 
@@ -17,23 +15,7 @@ pub enum BadForm {
     NoEmptyLine { place: u64, letter: u64, start: u64 },
 }
 
-/// Why the letters of a mailbox weren't counted.
+/// The reader failed, for another cause than `ErrorKind::Interrupted`, or gave no end in 2^64 - 1 reads.
 #[derive(Clone, Copy, Debug, PartialEq, Eq, Error)]
-pub enum CheckFault {
-    /// The reader failed, for another cause than `ErrorKind::Interrupted`, or gave no end in 2^64 - 1 reads.
-    #[error("the mailbox can't be read")]
-    Unread,
-    /// It isn't a mailbox.
-    #[error(transparent)]
-    Form(BadForm),
-}
-
-impl From<BadForm> for CheckFault {
-    ghost use Rattle.mbox_check.specs.declared.fault.CheckFault.TheVariants.{Form};
-
-    ghost from_gives = { λ bad fault. fault ≡ Form bad };
-
-    fn from(bad: BadForm) -> CheckFault {
-        CheckFault::Form(bad)
-    }
-}
+#[error("the mailbox can't be read")]
+pub struct Unread;

@@ -1,13 +1,14 @@
-//! The form of a mailbox, checked as its bytes come.
-ghost use Rattle.std.specs.Prelude.{◌≡◌, ◌+◌, ◌-◌, ◌<◌, ◌≤◌, ℕ, List, [], ◌∷◌, length, take, IfOk, IfErr, OnOk};
+//! The form of a mailbox, checked as its bytes come, and the first NUL among them.
+ghost use Rattle.std.specs.Prelude.{◌≡◌, ◌+◌, ◌-◌, ◌<◌, ◌≤◌, ℕ, List, [], ◌∷◌, Ok, Err, length, take, IfOk, IfErr, OnOk};
 ghost use Rattle.mail_world.specs.Counts.{counted};
-ghost use Rattle.mbox_check.specs.Form.{IsBad, IsLetterCount};
-ghost use Rattle.mbox_check.specs.States.{bad_at};
-ghost use Rattle.mbox_check.specs.SoFar.{IsReadSoFar, ReadsOn, BreaksIn};
+ghost use Rattle.mbox_check.specs.Form.{IsFound};
+ghost use Rattle.mbox_check.specs.States.{bad_at, nul_after};
+ghost use Rattle.mbox_check.specs.SoFar.{IsFree, IsReadSoFar, ReadsOn, BreaksIn};
 
 use crate::fault::BadForm;
+use crate::found::{Found, NulAt};
 use crate::state::{Effect, FormState, Part, effect_at, is_whole};
-use memchr::memchr;
+use memchr::memchr2;
 
 /// How far the bytes that came have the form of a mailbox.
 #[derive(Clone, Copy, Debug)]
@@ -18,6 +19,8 @@ pub(crate) struct FormCheck {
     // Where the last of these letters began, 0 before there is one; it stays at 2^64 - 5.
     start: u64,
     state: FormState,
+    // The first NUL that was taken.
+    nul: Option<NulAt>,
 }
 
 impl FormCheck {
@@ -29,13 +32,14 @@ impl FormCheck {
             taken: 0,
             start: 0,
             state: FormState::Start(Part::Nothing),
+            nul: None,
         }
     }
 
-    /// Takes the bytes that come next. After an error it is of no use.
-    pub(crate) fn piece(&mut self, piece: &[u8]) -> Result<(), BadForm>
+    /// Takes the bytes that come next. After an error, which is what is found of the text, it is of no use.
+    pub(crate) fn piece(&mut self, piece: &[u8]) -> Result<(), Found>
         ensures ok { OnOk result (ReadsOn self.old self.new piece.now) }
-        ensures err { IfErr result (λ bad. BreaksIn self.old piece.now bad) }
+        ensures err { IfErr result (λ found. BreaksIn self.old piece.now found) }
     {
         let mut rest = piece;
         while !rest.is_empty() {
@@ -45,59 +49,57 @@ impl FormCheck {
         Ok(())
     }
 
-    /// Ends the text: says how many letters it had.
-    pub(crate) fn end(&self) -> Result<u64, BadForm>
-        ensures ok { IfOk result (λ count. (text : List ℕ) → IsReadSoFar text self.now → IsLetterCount text count) }
-        ensures err { IfErr result (λ bad. (text : List ℕ) → IsReadSoFar text self.now → IsBad text bad) }
+    /// Ends the text: says what is found of it.
+    pub(crate) fn end(&self) -> Found
+        ensures { (text : List ℕ) → IsReadSoFar text self.now → IsFound text result }
     {
         if is_whole(self.state) {
-            Ok(self.letters)
+            Found {
+                letters: Ok(self.letters),
+                nul: self.nul,
+            }
         } else {
-            Err(self.bad())
+            self.broken()
         }
     }
 
     // Takes bytes at the beginning of the text, one at least, and says how many.
-    fn turn(&mut self, text: &[u8]) -> Result<usize, BadForm>
+    fn turn(&mut self, text: &[u8]) -> Result<usize, Found>
         requires { 0 < length text.now }
         ensures within { IfOk result (λ n. (1 ≤ n) × (n ≤ length text.now)) }
         ensures ok { IfOk result (λ n. ReadsOn self.old self.new (take n text.now)) }
-        ensures err { IfErr result (λ bad. BreaksIn self.old text.now bad) }
+        ensures err { IfErr result (λ found. BreaksIn self.old text.now found) }
+    {
+        let size = self.free_size(text);
+        if size == 0 {
+            self.byte(text[0])?;
+            return Ok(1);
+        }
+        self.go(FormState::Inside, size);
+        Ok(size)
+    }
+
+    // How many bytes at the beginning of the text are of a line of which the rest is free, and neither its LF nor NUL.
+    fn free_size(&self, text: &[u8]) -> usize
+        ensures within { result ≤ length text.now }
+        ensures free { 0 < result → IsFree self.now.state (take result text.now) }
     {
         match self.state {
-            FormState::Inside => Ok(self.rest_of_line(text)),
-            _ => {
-                self.byte(text[0])?;
-                Ok(1)
-            }
+            FormState::Inside => match memchr2(b'\n', b'\0', text) {
+                Some(at) => at,
+                None => text.len(),
+            },
+            FormState::Start(_) | FormState::Open(_) | FormState::Line(_) => 0,
         }
     }
 
-    // Takes the line's rest up to its LF, or all of the text, and says how many bytes these are.
-    fn rest_of_line(&mut self, text: &[u8]) -> usize
-        requires inside { self.old.state ≡ FormState.Inside }
-        requires some { 0 < length text.now }
-        ensures within { (1 ≤ result) × (result ≤ length text.now) }
-        ensures ok { ReadsOn self.old self.new (take result text.now) }
-    {
-        match memchr(b'\n', text) {
-            Some(at) => {
-                self.go(FormState::Line(Part::Nothing), at + 1);
-                at + 1
-            }
-            None => {
-                self.go(FormState::Inside, text.len());
-                text.len()
-            }
-        }
-    }
-
-    fn byte(&mut self, byte: u8) -> Result<(), BadForm>
+    fn byte(&mut self, byte: u8) -> Result<(), Found>
         ensures ok { OnOk result (ReadsOn self.old self.new (byte ∷ [])) }
-        ensures err { IfErr result (λ bad. BreaksIn self.old (byte ∷ []) bad) }
+        ensures err { IfErr result (λ found. BreaksIn self.old (byte ∷ []) found) }
     {
         match effect_at(self.state, byte) {
             Effect::To(state) => {
+                self.note(byte);
                 self.go(state, 1);
                 Ok(())
             }
@@ -105,7 +107,21 @@ impl FormCheck {
                 self.begin();
                 Ok(())
             }
-            Effect::Break => Err(self.bad()),
+            Effect::Break => Err(self.broken()),
+        }
+    }
+
+    // Notes where the byte that comes next stands, if it is the first NUL.
+    fn note(&mut self, byte: u8)
+        ensures { self.new ≡ record self.old { nul = nul_after self.old.nul byte
+            (record { place = self.old.taken; letter = self.old.letters; start = self.old.start }) } }
+    {
+        if byte == b'\0' && self.nul.is_none() {
+            self.nul = Some(NulAt {
+                place: self.taken,
+                letter: self.letters,
+                start: self.start,
+            });
         }
     }
 
@@ -129,6 +145,19 @@ impl FormCheck {
         self.letters = self.letters.saturating_add(1);
         self.start = self.taken.saturating_sub(4);
         self.go(FormState::Inside, 1);
+    }
+
+    // What is found where the text ends or breaks here.
+    fn broken(&self) -> Found
+        ensures { result ≡ record {
+          letters = Err (bad_at self.now.state self.now.taken self.now.letters self.now.start);
+          nul = self.now.nul;
+        } }
+    {
+        Found {
+            letters: Err(self.bad()),
+            nul: self.nul,
+        }
     }
 
     // What is wrong where the text ends or breaks here.

@@ -24,6 +24,8 @@ pub record FileState : Type 0 where
   pub has_range_lock : Bool
   -- the open file is the one that the path names
   pub is_named : Bool
+  -- and the folder keeps that entry through a crash
+  pub has_entry : Bool
   -- how often what the path names was opened anew
   pub openings : ℕ
   -- how often that couldn't be opened
@@ -51,7 +53,12 @@ at_cut file size = at_now (record file { kept = min file.kept size })
 
 -- so it stands, but for what others may have changed
 abbrev pub IsSharedSince : FileState → FileState → Type 0
-IsSharedSince old new = new ≡ record old { bytes = new.bytes; kept = new.kept; is_named = new.is_named }
+IsSharedSince old new = new ≡ record old {
+  bytes = new.bytes;
+  kept = new.kept;
+  is_named = new.is_named;
+  has_entry = new.has_entry;
+}
 
 -- the lock file was made, and is this holder's
 abbrev pub HasMadeLockFile : FileState → FileState → Type 0
@@ -86,10 +93,12 @@ pub record HasNotLockedRange (old new : FileState) : Type 0 where
   pub same : IsSharedSince (record old { has_range_lock = false; refusals = new.refusals }) new
   pub refused : Rises old.refusals new.refusals
 
--- what is open now is what the path names or named; no lock goes with it
+-- What is open now is what the path names or named; no lock goes with it, and whether a crash leaves its entry nobody
+-- knows: it may have been made just now, or another program put it there.
 pub record HasReopened (old new : FileState) : Type 0 where
   pub same : IsSharedSince (record old { has_range_lock = false; openings = new.openings }) new
   pub opened : Rises old.openings new.openings
+  pub entry : new.has_entry ≡ false
 
 -- what the path names couldn't be opened, and the old file stays open
 pub record HasNotReopened (old new : FileState) : Type 0 where
@@ -117,6 +126,10 @@ pub record IsHeld (file : FileState) : Type 0 where
   pub lock_file : file.has_lock_file ≡ true
   pub range_lock : file.has_range_lock ≡ true
   pub named : file.is_named ≡ true
+
+-- the folder was synced: a crash leaves the file at its path
+abbrev pub KeepsEntry : FileState → FileState → Type 0
+KeepsEntry old new = new ≡ record old { has_entry = true }
 
 -- so the file ends
 pub record IsEnd (file : FileState) (end : FileEnd) : Type 0 where

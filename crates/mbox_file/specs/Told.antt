@@ -16,6 +16,7 @@ at_start = record {
   has_lock_file = false;
   has_range_lock = false;
   is_named = false;
+  has_entry = false;
   openings = 0;
   unopened = 0;
   refusals = 0;
@@ -33,10 +34,11 @@ pub record IsEndBy (last : List ℕ) (end : FileEnd) : Type 0 where
   pub within : length last ≤ end.at
   pub tail : ending_of end.tail ≡ ending (bytes_ending end.at last)
 
--- How the file stands after that. What the path names has to be looked at under each lock, and what is kept of bytes
--- that others may have written nobody knows.
+-- How the file stands after that. What the path names, and whether a crash leaves that, has to be looked at under each
+-- lock, and what is kept of bytes that others may have written nobody knows.
 abbrev pub after : FileState → Step → FileState
-after old step.LockFileMade = record old { has_lock_file = true; is_named = false }
+after old step.LockFileMade = record old { has_lock_file = true; is_named = false; has_entry = false }
+after old step.LockFileRefused = record old { has_entry = false; refusals = old.refusals + 1 }
 after old step.LockFileRemoved = record old { has_lock_file = false }
 after old step.LockFileStays = record old { unremoved = old.unremoved + 1 }
 after old step.RangeLocked = record old { has_range_lock = true; is_named = false }
@@ -44,8 +46,15 @@ after old step.RangeRefused = record old { has_range_lock = false; refusals = ol
 after old step.RangeUnlocked = record old { has_range_lock = false }
 after old step.Named = record old { is_named = true }
 after old step.NotNamed = record old { is_named = false; refusals = old.refusals + 1 }
+after old (step.EntrySeen entry) = record old { has_entry = entry.now.is_kept }
+after old step.NoFolder = record old { has_entry = true }
 after old step.Refused = record old { refusals = old.refusals + 1 }
-after old step.Reopened = record old { has_range_lock = false; is_named = false; openings = old.openings + 1 }
+after old step.Reopened = record old {
+  has_range_lock = false;
+  is_named = false;
+  has_entry = false;
+  openings = old.openings + 1;
+}
 after old step.NotReopened = record old { refusals = old.refusals + 1; unopened = old.unopened + 1 }
 after old (step.Measured size last) = record old { bytes = bytes_ending size last.now; kept = 0 }
 after old (step.Holds bytes) = record old { bytes = bytes.now; kept = length bytes.now }

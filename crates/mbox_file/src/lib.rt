@@ -4,6 +4,7 @@
 //! under its locks. The layer above makes turns and a spool of them. What is written, and when, is never known here.
 #![tactic(auto)]
 
+mod entry;
 mod file;
 mod lock_file;
 mod mailbox_file;

@@ -3,7 +3,7 @@ ghost use Rattle.std.specs.Prelude.{◌≡◌, [], true, false, IfOk, OnOk, OnEr
 ghost use Rattle.mbox_file.specs.MailboxFile.{FileState, HasMadeLockFile, HasNotMadeLockFile, HasRemovedLockFile};
 ghost use Rattle.mbox_file.specs.MailboxFile.{HasLockedRange, HasNotLockedRange, HasReopened, HasNotReopened};
 ghost use Rattle.mbox_file.specs.MailboxFile.{HasRefused, HasLooked, HasMeasured, HasAppended, HasNotAppended};
-ghost use Rattle.mbox_file.specs.MailboxFile.{KeepsFile, FailsToKeep, HasCut, HasNotCut, IsHeld};
+ghost use Rattle.mbox_file.specs.MailboxFile.{KeepsEntry, KeepsFile, FailsToKeep, HasCut, HasNotCut, IsHeld};
 
 use crate::file::FileEnd;
 use mbox_spool::InUse;
@@ -44,6 +44,12 @@ pub trait MailboxFile {
     fn reopen(&mut self) -> Result<(), InUse>
         ensures ok { OnOk result (HasReopened (state self.old) (state self.new)) }
         ensures err { OnErr result (HasNotReopened (state self.old) (state self.new)) };
+
+    /// Has the folder keep the entry of the open file through a crash: it may be new there.
+    fn keep_entry(&mut self) -> Result<(), InUse>
+        requires held { IsHeld (state self.old) }
+        ensures ok { OnOk result (KeepsEntry (state self.old) (state self.new)) }
+        ensures err { OnErr result (HasRefused (state self.old) (state self.new)) };
 
     /// How long the open file is, and how it ends.
     fn end(&mut self) -> Result<FileEnd, InUse>

@@ -71,6 +71,11 @@ impl MailboxFile for MemoryFile {
         Ok(())
     }
 
+    fn keep_entry(&mut self) -> Result<(), InUse> {
+        self.told.add(Step::NoFolder);
+        Ok(())
+    }
+
     fn end(&mut self) -> Result<FileEnd, InUse> {
         Ok(FileEnd {
             at: self.bytes.len() as u64,

@@ -4,6 +4,7 @@
 ghost use Rattle.std.specs.Prelude.{◌≡◌, [], None, Some, IfOk, OnOk, OnErr};
 ghost use Rattle.mbox_file.specs.StdFile.{file_mode, file_path};
 
+use crate::entry::Entry;
 use crate::file::FileEnd;
 use crate::mailbox_file::MailboxFile;
 use crate::mailbox_source::MailboxSource;
@@ -22,6 +23,7 @@ use std::time::Clock;
 #[derive(Drop)]
 pub struct StdMailboxFile<R: Files + Clock + Drop> {
     system: SystemFile<R>,
+    entry: Entry,
     told: Told,
 }
 
@@ -41,10 +43,12 @@ where
         ensures state { IfOk result (λ file. ⟦<StdMailboxFile<R> as MailboxFile>⟧.state file ≡ at_start) }
     {
         let mut system = SystemFile::new(rt, alloc, path, Taken::Own(mode))?;
-        system.open_named().map_err(error_of)?;
-        let _ = system.remove_stale();
+        let mut entry = Entry::unknown();
+        system.open_named(&mut entry).map_err(error_of)?;
+        let _ = system.remove_stale(&mut entry);
         Ok(StdMailboxFile {
             system,
+            entry,
             told: Told::new(),
         })
     }
@@ -57,9 +61,11 @@ where
         ensures state { IfOk result (λ file. ⟦<StdMailboxFile<R> as MailboxFile>⟧.state file ≡ at_start) }
     {
         let mut system = SystemFile::new(rt, alloc, path, Taken::Anybodys)?;
-        system.open_named().map_err(error_of)?;
+        let mut entry = Entry::unknown();
+        system.open_named(&mut entry).map_err(error_of)?;
         Ok(StdMailboxFile {
             system,
+            entry,
             told: Told::new(),
         })
     }
@@ -78,6 +84,7 @@ where
     {
         Ok(StdMailboxFile {
             system: SystemFile::new(rt, alloc, path, Taken::Own(mode))?,
+            entry: Entry::unknown(),
             told: Told::new(),
         })
     }
@@ -122,13 +129,13 @@ where
             self.told.add(Step::Refused);
             return Err(in_use);
         }
-        match self.system.make_lock_file() {
+        match self.system.make_lock_file(&mut self.entry) {
             Ok(()) => {
                 self.told.add(Step::LockFileMade);
                 Ok(())
             }
             Err(in_use) => {
-                self.told.add(Step::Refused);
+                self.told.add(Step::LockFileRefused);
                 Err(in_use)
             }
         }
@@ -174,7 +181,7 @@ where
     }
 
     fn reopen(&mut self) -> Result<(), InUse> {
-        match self.system.open_named() {
+        match self.system.open_named(&mut self.entry) {
             Ok(()) => {
                 self.told.add(Step::Reopened);
                 Ok(())
@@ -186,7 +193,20 @@ where
         }
     }
 
-    /// Of a file whose entry the folder keeps through a crash.
+    /// Where the folder was synced since the file was opened it isn't again.
+    fn keep_entry(&mut self) -> Result<(), InUse> {
+        match self.system.keep_entry(&mut self.entry) {
+            Ok(()) => {
+                self.told.add(Step::EntrySeen(&self.entry));
+                Ok(())
+            }
+            Err(error) => {
+                self.told.add(Step::Refused);
+                Err(system_fault(error))
+            }
+        }
+    }
+
     fn end(&mut self) -> Result<FileEnd, InUse> {
         let mut few = [0; 2];
         let mut many = [0; TAIL_SIZE];

@@ -2,14 +2,15 @@
 //!
 //! A lock file is linked from one that is made at the first turn and stays, `PATH.source.lock`: to make a file and
 //! write to it for each turn takes ten times as long. Where there can be no link it is made.
-ghost use Rattle.std.specs.Prelude.{◌≡◌, ◌≤◌, IfOk, OnOk, length, take};
+ghost use Rattle.std.specs.Prelude.{◌≡◌, ◌≤◌, true, false, IfOk, OnOk, OnErr, length, take};
 ghost use Rattle.std.specs.Io.{ReadsAtMost};
 ghost use Rattle.std.specs.Io.KnownBytes.{Appends, ReadConsumes};
 ghost use Rattle.std.specs.Prelude.{string_bytes};
 ghost use Rattle.mbox_file.specs.SystemFile.{known_of};
 ghost use Rattle.mbox_file.specs.Told.{IsEndBy};
 
-use crate::file::{FileEnd, open_folder, read_end, sync_folder};
+use crate::entry::Entry;
+use crate::file::{FileEnd, open_folder, read_end};
 use crate::lock_file::{Held, LockSource};
 use crate::plain::{
     Node, OpenNode, Taken, is_same, names_plain, node_of, open_plain, remove_node, remove_open,
@@ -35,8 +36,6 @@ pub(crate) struct SystemFile<R: Files + Clock + Drop> {
     path: String,
     taken: Taken,
     open: Option<OpenNode<R::File>>,
-    // the folder was synced since this file is the open one
-    is_folder_synced: bool,
     lock_path: String,
     owner: String,
     source_path: String,
@@ -55,7 +54,6 @@ impl<R: Files + Clock + Drop> Drop for SystemFile<R> {
             path: _,
             taken: _,
             open: _,
-            is_folder_synced: _,
             lock_path: _,
             owner: _,
             source_path,
@@ -83,7 +81,6 @@ where
             path: format!(in alloc; "{path}")?,
             taken,
             open: None,
-            is_folder_synced: false,
             lock_path: format!(in alloc; "{path}.lock")?,
             owner: owner_text(alloc)?,
             source_path: format!(in alloc; "{path}.source.lock")?,
@@ -207,8 +204,8 @@ where
     }
 
     /// Makes the lock file, where there is none but one that was left behind.
-    pub fn make_lock_file(&mut self) -> Result<(), InUse> {
-        if self.make_first()? || self.remove_stale()? && self.make_first()? {
+    pub fn make_lock_file(&mut self, entry: &mut Entry) -> Result<(), InUse> {
+        if self.make_first()? || self.remove_stale(entry)? && self.make_first()? {
             Ok(())
         } else {
             Err(InUse::Locked)
@@ -261,14 +258,12 @@ where
         }
     }
 
-    // Has the folder keep its entry for the open file through a crash. It need not be done again for that file, nor for
-    // one that is only read.
-    fn sync_folder(&mut self) -> io::Result<()> {
-        if !self.is_folder_synced && matches!(self.taken, Taken::Own(_)) {
-            sync_folder(&self.rt, self.path.as_str())?;
-            self.is_folder_synced = true;
-        }
-        Ok(())
+    /// Has the folder keep its entry for the open file.
+    pub fn keep_entry(&self, entry: &mut Entry) -> io::Result<()>
+        ensures ok { OnOk result (entry.new.is_kept ≡ true) }
+        ensures err { OnErr result (entry.new.is_kept ≡ false) }
+    {
+        entry.keep(&self.rt, self.path.as_str())
     }
 
     /// Whether the path names the open file.
@@ -281,16 +276,15 @@ where
         }
     }
 
-    /// Opens the file that the path names.
-    pub fn open_named(&mut self) -> Result<(), InUse>
+    /// Opens the file that the path names, of whose entry nothing is known.
+    pub fn open_named(&mut self, entry: &mut Entry) -> Result<(), InUse>
+        ensures entry { OnOk result (entry.new.is_kept ≡ false) }
+        ensures same { OnErr result (entry.new ≡ entry.old) }
         ensures path { string_bytes self.new.path ≡ string_bytes self.old.path }
         ensures taken { self.new.taken ≡ self.old.taken }
     {
-        let named = open_plain(&self.rt, self.path.as_str(), self.taken)?;
-        // it is compared while both are open, since a closed file's number may be given again
-        let is_same = self.open_node() == Some(named.node);
-        self.is_folder_synced = self.is_folder_synced && is_same;
-        self.open = Some(named);
+        self.open = Some(open_plain(&self.rt, self.path.as_str(), self.taken)?);
+        *entry = Entry::unknown();
         Ok(())
     }
 
@@ -320,8 +314,9 @@ where
         }
     }
 
-    /// Removes a lock file that was left behind. True: there is none now.
-    pub fn remove_stale(&mut self) -> Result<bool, InUse>
+    /// Removes a lock file that was left behind, under the lock on the bytes of what the path names. True: there is none
+    /// now.
+    pub fn remove_stale(&mut self, entry: &mut Entry) -> Result<bool, InUse>
         ensures path { string_bytes self.new.path ≡ string_bytes self.old.path }
         ensures taken { self.new.taken ≡ self.old.taken }
     {
@@ -341,7 +336,7 @@ where
             return Ok(false);
         }
         if !self.names_open()? {
-            self.open_named()?;
+            self.open_named(entry)?;
         }
         self.lock_open()?;
         let removed = self.remove_same(&found);
@@ -369,7 +364,7 @@ where
         }
     }
 
-    /// Where the open file ends, and by which of its bytes that is known. The folder keeps its entry then.
+    /// Where the open file ends, and by which of its bytes that is known.
     pub fn read_end<'a>(
         &mut self,
         few: &'a mut [u8; 2],
@@ -377,7 +372,6 @@ where
     ) -> io::Result<(FileEnd, &'a [u8])>
         ensures { IfOk result (λ read. IsEndBy read.1.now read.0) }
     {
-        self.sync_folder()?;
         read_end(self.opened()?, few, many)
     }
 

@@ -4,12 +4,15 @@ ghost use Rattle.std.specs.Prelude.{◌≡◌};
 ghost use Rattle.std.specs.Borrow.{ftrue};
 ghost use Rattle.mbox_file.specs.MailboxFile.{FileState};
 
+use crate::entry::Entry;
 use std::marker::{Brand, Model, PhantomData};
 
 /// What the system was asked, with its answer.
 #[derive(Clone, Copy)]
 pub(crate) enum Step<'a> {
     LockFileMade,
+    /// Another file may have been opened as what was left behind was looked at.
+    LockFileRefused,
     LockFileRemoved,
     LockFileStays,
     RangeLocked,
@@ -19,6 +22,10 @@ pub(crate) enum Step<'a> {
     Named,
     /// It names another file, or none.
     NotNamed,
+    /// Whether the folder keeps the entry of the open file through a crash.
+    EntrySeen(&'a Entry),
+    /// One in memory has no entry that a crash could take.
+    NoFolder,
     /// What was asked for a turn wasn't granted, and nothing changed.
     Refused,
     Reopened,

@@ -27,8 +27,8 @@ module _ (calendar : Calendar) (site : Site) (note : Note) (letters : List Lette
       part.whole ∙ append_assoc lock.bytes rest part.rest in
       let added =
       ap (λ (l : List ℕ). l ++ record_of calendar site note) turn.alike ∙ append_cancel_left lock.bytes _ _ all in
-      let read = steps_read calendar site turn.host (Tears note ∷ []) turn.found (turn.found ++ rest) letters
-      (turn.mailed, tt) turn.read (
+      let read = steps_read calendar (Tears site note ∷ []) turn.found (turn.found ++ rest) letters
+      ((turn.host, turn.mailed), tt) turn.read (
         turn.found ++ rest,
         record { prefix = rest; part = record { rest = part.rest; whole = added }; left = refl },
         refl,
@@ -47,8 +47,8 @@ module _ (calendar : Calendar) (site : Site) (note : Note) (letters : List Lette
   read_stored : IsReadAs (whole_of calendar site note turn.found) (letters ++ letter_of calendar site note ∷ [])
   read_stored =
       let whole = whole_of calendar site note turn.found in
-      let read = steps_read calendar site turn.host (StoresNote note ∷ []) turn.found whole letters (turn.mailed, tt)
-      turn.read (whole, refl, refl) in
+      let read = steps_read calendar (StoresNote site note ∷ []) turn.found whole letters
+      ((turn.host, turn.mailed), tt) turn.read (whole, refl, refl) in
       subst (λ (l : List Letter). IsReadAs whole l) (read.2.2 ∙ read.2.1) read.1
 
 -- in a turn the file begins with what stood at its lock

@@ -81,12 +81,13 @@ StandsOn None began file = ⊥
 StandsOn (Some lock) began file = BeginsWith lock began file
 
 -- What holds of it between two calls: outside a turn nothing waits, nor after a good sync; in a turn both locks are
--- held, and the file still begins with what stood there at the lock, of which as much is kept; and as long as no call
--- failed in it, its end is known.
+-- held, a crash leaves the file at its path, and it still begins with what stood there at the lock, of which as much is
+-- kept; and as long as no call failed in it, its end is known.
 pub record IsInOrder {F : Type 0} (state : F → FileState) (spool : FileSpool F) : Type 0 where
   pub free : spool.in_turn ≡ false → (spool.waiting ≡ []) × (spool.log.began ≡ None)
   pub synced : spool.is_unsynced ≡ false → spool.waiting ≡ []
   pub held : spool.in_turn ≡ true → IsHeld (state spool.file)
+  pub entry : spool.in_turn ≡ true → (state spool.file).has_entry ≡ true
   pub stands : spool.in_turn ≡ true → StandsOn spool.log.began spool.began (state spool.file)
   pub ends : spool.in_turn ≡ true → spool.has_failed ≡ false → KnowsEnd state spool
   pub settled : spool.is_unsettled ≡ false → (state spool.file).cut_off ≡ []
@@ -102,10 +103,11 @@ pub record IsOpened {F : Type 0} (spool : FileSpool F) : Type 0 where
   pub refusals : spool.refusals ≡ 0
   pub turns : spool.log ≡ no_turns
 
--- A turn began: both locks are on the file that the path names, and its length and end are those that it has now.
--- Nothing waits.
+-- A turn began: both locks are on the file that the path names, where a crash leaves it, and its length and end are
+-- those that it has now. Nothing waits.
 pub record HasTurn {F : Type 0} (state : F → FileState) (new : FileSpool F) : Type 0 where
   pub held : IsHeld (state new.file)
+  pub entry : (state new.file).has_entry ≡ true
   pub began : new.began ≡ length (state new.file).bytes
   pub tail : ending_of new.tail ≡ ending (state new.file).bytes
   pub settled : new.is_unsettled ≡ false → (state new.file).cut_off ≡ []

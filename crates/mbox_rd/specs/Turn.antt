@@ -104,13 +104,13 @@ StaysThere old new = new ≡ record old {
 
 -- the path names the open file, which ends so
 pub record HasFoundOwnEnd (old new : FileState) (end : FileEnd) : Type 0 where
-  pub same : new ≡ record old { bytes = new.bytes; kept = new.kept; is_named = true }
+  pub same : new ≡ record old { bytes = new.bytes; kept = new.kept; is_named = true; has_entry = new.has_entry }
   pub is_end : IsEnd new end
   pub covered : new.kept ≤ length new.bytes
 
 -- Something was refused, and no lock changed.
 pub record HasNotSeen (old new : FileState) : Type 0 where
-  pub same : new ≡ record old { is_named = new.is_named; refusals = new.refusals }
+  pub same : new ≡ record old { is_named = new.is_named; has_entry = new.has_entry; refusals = new.refusals }
   pub refused : Rises old.refusals new.refusals
 
 -- what was seen at the path: the end of the open file, or that it isn't the open file

@@ -162,6 +162,7 @@ impl<F: MailboxFile + Drop, C: Clock + Drop> FileSpool<F, C> {
         requires free { self.old.in_turn ≡ false }
         ensures same { self.new ≡ record self.old { file = self.new.file } }
         ensures ok { IfOk result (HasBegun (F.state self.old.file) (F.state self.new.file)) }
+        ensures entry { OnOk result ((F.state self.new.file).has_entry ≡ true) }
         ensures anew { self.old.has_failed ≡ true
             → OnOk result (Rises (F.state self.old.file).openings (F.state self.new.file).openings) }
         ensures err { OnErr result (HasMissed (F.state self.old.file) (F.state self.new.file)) }
@@ -178,13 +179,20 @@ impl<F: MailboxFile + Drop, C: Clock + Drop> FileSpool<F, C> {
         requires free { self.old.in_turn ≡ false }
         ensures same { self.new ≡ record self.old { file = self.new.file } }
         ensures ok { IfOk result (HasBegun (F.state self.old.file) (F.state self.new.file)) }
+        ensures entry { OnOk result ((F.state self.new.file).has_entry ≡ true) }
         ensures anew { self.old.has_failed ≡ true
             → OnOk result (Rises (F.state self.old.file).openings (F.state self.new.file).openings) }
         ensures err { OnErr result (HasMissed (F.state self.old.file) (F.state self.new.file)) }
         ensures opened { IfErr result (OpensAfter (F.state self.old.file) (F.state self.new.file)) }
     {
         open_anew(&mut self.file, self.has_failed)?;
-        wait_for_turn(&mut self.file, &self.clock, &mut self.patience, tries)
+        wait_for_turn(
+            &mut self.file,
+            &self.clock,
+            &mut self.patience,
+            tries,
+            true,
+        )
     }
 
     // Has what an earlier turn cut off kept so, where that is owed.
@@ -211,6 +219,7 @@ impl<F: MailboxFile + Drop, C: Clock + Drop> FileSpool<F, C> {
     fn start(&mut self, end: FileEnd)
         requires free { self.old.in_turn ≡ false }
         requires held { IsHeld (F.state self.old.file) }
+        requires entry { (F.state self.old.file).has_entry ≡ true }
         requires end { IsEnd (F.state self.old.file) end }
         requires covered { (F.state self.old.file).kept ≤ length (F.state self.old.file).bytes }
         ensures starts { StartsTurn F.state self.old self.new }
@@ -412,6 +421,7 @@ impl<F: MailboxFile + Drop, C: Clock + Drop> Spool for FileSpool<F, C> {
         ensures sound { OnOk result (StaysSound self.old self.new) }
         ensures written { self.new.waiting ≡ [] }
         ensures kept { OnOk result (KeepsAll F.state self.old self.new) }
+        ensures entry { OnOk result ((F.state self.new.file).has_entry ≡ true) }
         ensures ends { OnOk result (KnowsEnd F.state self.new) }
         ensures breaks { OnErr result (Breaks self.old self.new) }
         ensures lost { self.old.in_turn ≡ true → self.old.has_failed ≡ false → self.old.is_unsettled ≡ false

@@ -1,6 +1,6 @@
 //! How a turn at a mailbox's file begins and ends: both locks are taken, on the file that the path names, and its end
 //! is looked at again; what is to be cut is cut while both are held.
-ghost use Rattle.std.specs.Prelude.{◌≡◌, [], true, false, IfOk, IfErr, OnOk, OnErr};
+ghost use Rattle.std.specs.Prelude.{◌≡◌, [], true, false, IfOk, IfErr, OnOk, OnErr, OnSome};
 ghost use Rattle.mail_world.specs.Failures.{Rises};
 ghost use Rattle.mbox_file.specs.MailboxFile.{IsHeld};
 ghost use Rattle.mbox_rd.specs.Turn.{HasBegun, HasMissed, HasTried, HasSeen, HasNotSeen, HasTakenLocks, HasLetGo};
@@ -31,8 +31,8 @@ const EROFS: i32 = 30;
 
 const EDQUOT: i32 = 122;
 
-/// Takes both locks as a turn does, on the file that the path names. Other programs that have one are waited for, that
-/// many seconds in all and 3,600 at most.
+/// Takes both locks as a turn does, on the file that the path names, which is only read. Other programs that have one
+/// are waited for, that many seconds in all and 3,600 at most.
 pub fn hold_locks<F: MailboxFile, C: Clock>(
     file: &mut F,
     clock: &C,
@@ -44,7 +44,7 @@ pub fn hold_locks<F: MailboxFile, C: Clock>(
 {
     let mut patience = Patience::new();
     let tries = patience.tries(clock, seconds);
-    wait_for_turn(file, clock, &mut patience, tries)
+    wait_for_turn(file, clock, &mut patience, tries, false)
 }
 
 /// Opens what the path names, where that is asked for: after a turn that broke nothing of the open file is believed.
@@ -68,43 +68,50 @@ pub(crate) fn open_anew<F: MailboxFile>(file: &mut F, is_asked: bool) -> Result<
 }
 
 /// Tries for a turn that often, and pauses after each try that others' locks were in the way of, but the last, as long
-/// as there is time.
+/// as there is time. Where the file is written, the folder keeps its entry.
 pub(crate) fn wait_for_turn<F: MailboxFile, C: Clock>(
     file: &mut F,
     clock: &C,
     patience: &mut Patience,
     tries: u64,
+    is_written: bool,
 ) -> Result<FileEnd, InUse>
     ensures ok { IfOk result (HasBegun (F.state file.old) (F.state file.new)) }
+    ensures entry { is_written ≡ true → OnOk result ((F.state file.new).has_entry ≡ true) }
     ensures err { OnErr result (HasMissed (F.state file.old) (F.state file.new)) }
     ensures opened { IfErr result (OpensAfter (F.state file.old) (F.state file.new)) }
 {
     for pauses in 1..tries {
-        match begin_turn(file, clock) {
+        match begin_turn(file, clock, is_written) {
             Ok(end) => return Ok(end),
             Err(InUse::Locked) if patience.pause(clock, pauses) => {}
             Err(in_use) => return Err(in_use),
         }
     }
-    begin_turn(file, clock)
+    begin_turn(file, clock, is_written)
 }
 
 // The path may name another file than the open one, which is then opened, and it is tried again, unless that took long.
-fn begin_turn<F: MailboxFile, C: Clock>(file: &mut F, clock: &C) -> Result<FileEnd, InUse>
+fn begin_turn<F: MailboxFile, C: Clock>(
+    file: &mut F,
+    clock: &C,
+    is_written: bool,
+) -> Result<FileEnd, InUse>
     ensures ok { IfOk result (HasBegun (F.state file.old) (F.state file.new)) }
+    ensures entry { is_written ≡ true → OnOk result ((F.state file.new).has_entry ≡ true) }
     ensures err { OnErr result (HasMissed (F.state file.old) (F.state file.new)) }
     ensures opened { IfErr result (OpensAfter (F.state file.old) (F.state file.new)) }
 {
     for _ in 1..OPENINGS {
         let began = clock.monotonic();
-        if let Some(end) = begin_or_reopen(file)? {
+        if let Some(end) = begin_or_reopen(file, is_written)? {
             return Ok(end);
         }
         if is_late(clock, began) {
             return Err(InUse::Locked);
         }
     }
-    match begin_or_reopen(file)? {
+    match begin_or_reopen(file, is_written)? {
         Some(end) => Ok(end),
         None => Err(InUse::Locked),
     }
@@ -121,13 +128,18 @@ fn is_late<C: Clock>(clock: &C, began: io::Result<Duration>) -> bool {
 // With both locks it is seen whether they are on the file that the path names. None: they weren't, and were given
 // back, and that file is open now. Where the system refuses a lock, or the look, the open file may be why: what the
 // path names is opened for the next try.
-fn begin_or_reopen<F: MailboxFile>(file: &mut F) -> Result<Option<FileEnd>, InUse>
+fn begin_or_reopen<F: MailboxFile>(
+    file: &mut F,
+    is_written: bool,
+) -> Result<Option<FileEnd>, InUse>
     ensures ok { IfOk result (HasTried (F.state file.old) (F.state file.new)) }
+    ensures entry { is_written ≡ true
+        → IfOk result (λ seen. OnSome seen ((F.state file.new).has_entry ≡ true)) }
     ensures err { OnErr result (HasMissed (F.state file.old) (F.state file.new)) }
     ensures opened { IfErr result (OpensAfterTry (F.state file.old) (F.state file.new)) }
 {
     take_locks(file)?;
-    match own_end(file) {
+    match own_end(file, is_written) {
         Ok(Some(end)) => Ok(Some(end)),
         Ok(None) => {
             let_go(file);
@@ -192,13 +204,20 @@ fn is_folders(code: i32) -> bool
     code == EPERM || code == EACCES || code == ENOSPC || code == EROFS || code == EDQUOT
 }
 
-// The open file's end, if the path names it.
-fn own_end<F: MailboxFile>(file: &mut F) -> Result<Option<FileEnd>, InUse>
+// The open file's end, if the path names it. Where the file is written, the folder keeps that entry.
+fn own_end<F: MailboxFile>(file: &mut F, is_written: bool) -> Result<Option<FileEnd>, InUse>
+    requires lock_file { (F.state file.old).has_lock_file ≡ true }
+    requires range_lock { (F.state file.old).has_range_lock ≡ true }
     ensures ok { IfOk result (HasSeen (F.state file.old) (F.state file.new)) }
+    ensures entry { is_written ≡ true
+        → IfOk result (λ seen. OnSome seen ((F.state file.new).has_entry ≡ true)) }
     ensures err { OnErr result (HasNotSeen (F.state file.old) (F.state file.new)) }
 {
     if !file.is_named()? {
         return Ok(None);
+    }
+    if is_written {
+        file.keep_entry()?;
     }
     Ok(Some(file.end()?))
 }

@@ -13,12 +13,12 @@ returns-in-NoFromLine-clause-err g c =
 
 pub returns-in-NoEmptyLine-clause-ok : goal.returns-in-NoEmptyLine-clause-ok
 returns-in-NoEmptyLine-clause-ok g c =
-    subst (λ (bad : BadForm). OnOk c.write_broken.result
-    (Appends (g.W.Write.contents c.args.writer.now) (g.W.Write.contents c.write_broken.new.writer) (bad_line c.args.name.now bad)))
-    (sym c.in-NoEmptyLine.is) c.write_broken.ensures.ok
+    subst (λ (bad : BadForm). OnOk c.write_place.result
+    (Appends (g.W.Write.contents c.args.writer.now) (g.W.Write.contents c.write_place.new.writer) (bad_line c.args.name.now bad)))
+    (sym c.in-NoEmptyLine.is) c.write_place.ensures.ok
 
 pub returns-in-NoEmptyLine-clause-err : goal.returns-in-NoEmptyLine-clause-err
 returns-in-NoEmptyLine-clause-err g c =
-    subst (λ (bad : BadForm). OnErr c.write_broken.result
-    (IsCutOff (g.W.Write.contents c.args.writer.now) (g.W.Write.contents c.write_broken.new.writer) (bad_line c.args.name.now bad)))
-    (sym c.in-NoEmptyLine.is) c.write_broken.ensures.err
+    subst (λ (bad : BadForm). OnErr c.write_place.result
+    (IsCutOff (g.W.Write.contents c.args.writer.now) (g.W.Write.contents c.write_place.new.writer) (bad_line c.args.name.now bad)))
+    (sym c.in-NoEmptyLine.is) c.write_place.ensures.err

@@ -4,6 +4,6 @@ use Rattle.mail_lives.proofs.laws.lives_are_read.Goals as goal
 pub returns : goal.returns
 returns c = record {
   read = lives_read;
-  stored = λ calendar site lives old new h. (lives_do calendar site lives old new h).stores;
-  torn = λ calendar site lives old new h. (lives_do calendar site lives old new h).torn;
+  stored = λ calendar lives old new h. (lives_do calendar lives old new h).stores;
+  torn = λ calendar lives old new h. (lives_do calendar lives old new h).torn;
 }

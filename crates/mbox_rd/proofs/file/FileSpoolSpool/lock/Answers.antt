@@ -5,7 +5,13 @@ use Rattle.mbox_rd.proofs.Leaving.{locks}
 use Rattle.mbox_rd.proofs.file.FileSpoolSpool.lock.Goals as goal
 
 pub returns-in-Ok-clause-had : goal.returns-in-Ok-clause-had
-returns-in-Ok-clause-had g c = record { held = search rules; began = search rules; tail = search rules; settled = search rules }
+returns-in-Ok-clause-had g c = record {
+  held = search rules;
+  entry = search rules;
+  began = search rules;
+  tail = search rules;
+  settled = search rules;
+}
 
 pub returns-in-Ok-clause-moments : goal.returns-in-Ok-clause-moments
 returns-in-Ok-clause-moments g c =
