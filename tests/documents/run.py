@@ -121,10 +121,12 @@ def definitions_are_there(_):
 @case
 def sources_are_there(_):
     """each source, and each folder of tests of whole calls, that docs/RULES.md cites in its short form is there"""
-    sources = [found[0] for found in cited(SOURCE, RULES) if not (ROOT / "crates" / found[1] / "src" / found[2]).exists()]
-    calls = ROOT / "tests/calls/src"
-    folders = [it[0] for it in cited(CALLS, RULES) if not ((calls / it[1]).is_dir() or (calls / f"{it[1]}.rt.in").exists())]
-    equal(sources + folders, [])
+    sources, calls = {}, ROOT / "tests/calls/src"
+    for found in cited(SOURCE, RULES):
+        sources[found[0]] = [ROOT / "crates" / found[1] / "src" / found[2]]
+    for found in cited(CALLS, RULES):
+        sources[found[0]] = [calls / found[1], calls / f"{found[1]}.rt.in"]
+    equal([it for it, places in sources.items() if not any(place.exists() for place in places)], [])
 
 
 def functions_in_text(text):
