@@ -32,7 +32,7 @@ toolchain:
 # the program gives it a message, so that it ends by itself.
 build: toolchain
 	building/prove.py
-	cd crates/lmtpd && rt run --jobs $$(../../building/jobs_at_once) -- $$(cat args) < stdin > /dev/null
+	cd crates/lmtpd && ../../building/rt run --jobs $$(../../building/jobs_at_once) -- $$(cat args) < stdin > /dev/null
 
 # Installs the program that `make build` made, its manual page, its units for systemd with what begins the server and
 # what looks at its words and at leases before that, the user and the folder that they need, those of several servers,
@@ -87,7 +87,7 @@ deb:
 
 # Proves every crate, as many side by side as cores and memory allow, over what earlier checks kept.
 check:
-	rt all check --jobs $$(building/jobs_at_once)
+	building/rt all check --jobs $$(building/jobs_at_once)
 
 # Proves everything, tries the must-fail edits, and runs the program and the scripts of tests/.
 test:

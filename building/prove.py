@@ -20,6 +20,7 @@ import sys
 import tempfile
 import time
 
+BUILDING = pathlib.Path(__file__).resolve().parent
 CRATES = pathlib.Path("crates")
 SECONDS = pathlib.Path("building/seconds")
 PARTS = ["src", "specs", "proofs"]
@@ -100,7 +101,7 @@ class Check:
             os.rename(crate.folder / "out", self.folder / "out")
         self.said = (self.room / "said").open("w+b")
         # rt lib makes a crate into a library for those above
-        words = ["rt", "lib", "--jobs", str(jobs)]
+        words = [sys.executable, "-B", BUILDING / "rt", "lib", "--jobs", str(jobs)]
         # a group of processes, and no session: the kernel weighs niceness within a session alone
         begin = lambda: (os.setpgrp(), os.nice(niceness))  # noqa: E731
         ends = {"stdin": subprocess.DEVNULL, "stdout": self.said, "stderr": subprocess.STDOUT}

@@ -1,12 +1,12 @@
 #!/usr/bin/env bash
 # The gate. First the program's version gets the name of the toolchain that proves it (`make toolchain`), which is said
-# where it had another. Then `rt ci`: proves every crate, tries the must-fail edits and runs the program; and beside it,
-# on the cores that it leaves idle, the scripts of tests/ that need the sources alone, and the wrong bodies that are
-# tried at once, each crate's once those below it are proved. Then, over what was built, the other scripts, side by
-# side. A script that leaves something out, for want of something of the machine, says so and ends with status 77
-# (tests/counts). The last line but one says how much was left out, and why; with CI=true it fails for what
-# tests/may_be_absent doesn't take. The last line counts all: 'N passed, M failed'. The benchmarks' programs are only
-# compiled (tests/benchmarks.sh), and proved by `make benchmarks`.
+# where it had another. Then `rt ci`: proves every crate and runs the program; and beside it, on the cores that it
+# leaves idle, the scripts of tests/ that need the sources alone, and the wrong bodies that are tried at once, each
+# crate's once those below it are proved, but those that were refused here before and stay as they were. Then, over what
+# was built, the other scripts, side by side. A script that leaves something out, for want of something of the machine,
+# says so and ends with status 77 (tests/counts). The last line but one says how much was left out, and why; with
+# CI=true it fails for what tests/may_be_absent doesn't take. The last line counts all: 'N passed, M failed'. The
+# benchmarks' programs are only compiled (tests/benchmarks.sh), and proved by `make benchmarks`.
 # usage: tests/gate.sh [--scripts]: with the word only the scripts, on what stands built
 set -uo pipefail
 cd "$(dirname "$0")/.."

@@ -31,6 +31,7 @@ def each_answer_has_a_way_on(_folder):
         before = [owner_and_mode(service.mailbox(name)) for name in ["ben", "carla"]]
         starts_late(service.mailbox("ben"))
         lacks_an_empty_line(service.mailbox("carla"))
+        spoilt_by_a_power_cut(service.mailbox("carla"))
         equal([owner_and_mode(service.mailbox(name)) for name in ["ben", "carla"]], before)
         torn = torn_at_its_end(service.mailbox("anna"))
         nothing_to_read(service.mailbox("dora"))
@@ -96,6 +97,22 @@ def lacks_an_empty_line(path):
     equal(said("carla"), (1, row(answer, PLACE=str(third + 4), NUMBER="2", START=str(second))))
     lines = (PAGES / "TROUBLE.md").read_text().split(f"\n{PUT_IN}\n")[1].split("```\n")[1]
     type_lines(f"cd {path.parent}\n{lines.replace('20476', str(third)).replace('20477', str(third + 1))}")
+    equal(path.read_bytes(), text)
+    (path.parent / "carla.new").unlink()
+
+
+def spoilt_by_a_power_cut(path):
+    """NULs stand after its second letter, which the next letter ended; the typed lines take them out."""
+    text = path.read_bytes()
+    second, third = text.index(b"\n\nFrom ") + 2, text.rindex(b"\n\nFrom ") + 2
+    spoilt = b"\0" * 100 + b"\n\n"
+    path.write_bytes(text[:third] + spoilt + text[third:])
+    told = row("NUL at PLACE in letter NUMBER at START", PLACE=str(third), NUMBER="2", START=str(second))
+    equal(said("carla"), (0, f"{letters(3)}\n{path} {told}"))
+    lines = (PAGES / "TROUBLE.md").read_text().split(f"\n{HEADING}\n")[1].split("```\n")[3]
+    following = third + len(spoilt) + 1
+    lines = lines.replace("emil", "carla").replace("12288", str(third)).replace("16387", str(following))
+    type_lines(f"cd {path.parent}\n{lines}")
     equal(path.read_bytes(), text)
     (path.parent / "carla.new").unlink()
 

@@ -528,11 +528,11 @@ def spoilt():
     yield "a NUL in the second letter", letter + b"From a\nx\0\n\n" + letter, with_nul("letters 3", 197, 2, 189)
     yield "a NUL in each letter", b"From a\0\n\n" * 3, with_nul("letters 3", 6, 1, 0)
     yield "a NUL in place of a From line's last byte", letter + b"From\0\n\n", with_nul("letters 1", 193, 1, 0)
-    yield "NULs behind a letter", letter + nuls, with_nul(broken(4_096, 1, 0), 189, 1, 0)
-    yield "NULs behind a letter, and the next one", letter + nuls + b"\n\n" + letter, whole
+    yield "NULs after a letter", letter + nuls, with_nul(broken(4_096, 1, 0), 189, 1, 0)
+    yield "NULs after a letter, and the next one", letter + nuls + b"\n\n" + letter, whole
     yield "NULs and a part of a record, and the next letter", letter + nuls + b"x\n\n" + letter, whole
     after = with_nul("letters 3", 198, 2, 189)
-    yield "NULs behind a From line, and the next letter", letter + kept + nuls + b"\n\n" + letter, after
+    yield "NULs after a From line, and the next letter", letter + kept + nuls + b"\n\n" + letter, after
     yield "a NUL before a letter without its end", b"From a\0\nFrom b\n\n", with_nul(broken(12, 1, 0), 6, 1, 0)
     yield "a NUL after one without it", b"From a\nFrom b\n\0\n\n", broken(11, 1, 0)
     yield "NULs at the start", nuls + letter, "no From line at 0"

@@ -28,6 +28,7 @@ import stamps
 import told
 from place import Place, places_of
 
+RT = [sys.executable, "-B", pathlib.Path(__file__).resolve().parent.parent.parent / "building/rt"]
 MOST = 20  # of wrong bodies that are tried at once
 ROUNDS = 3  # of trying without answers, each of which may show further names that are gone
 FOLDERS = {"--own": "must-fail", "--gate": "must-fail-at-once"}  # of a crate, by the word that asks for them
@@ -66,7 +67,7 @@ class Room:
     def check(self, *words):
         """How a check of the crate as it stands now ended, and what it said."""
         how = {"cwd": self.crate, "stdin": subprocess.DEVNULL, "stderr": subprocess.STDOUT, "errors": "replace"}
-        ran = subprocess.run(["rt", "check", "--jobs", "1", *words], stdout=subprocess.PIPE, check=False, **how)
+        ran = subprocess.run([*RT, "check", "--jobs", "1", *words], stdout=subprocess.PIPE, check=False, **how)
         return ran.returncode, ran.stdout
 
     def said_with(self, texts, places=()):

@@ -1,5 +1,5 @@
 -- A run whose only lane is sent a copy for anna, at either site, however her mailbox's turn ends.
-use Rattle.std.proofs.Common.{◌≡◌, ℕ, zero, suc, ◌+◌, ◌<◌, ◌≤◌, List, [], ◌∷◌, ◌++◌, length, map, Bool, true, false}
+use Rattle.std.proofs.Common.{◌≡◌, ℕ, zero, suc, ◌+◌, ◌<◌, ◌≤◌, List, [], ◌∷◌, length, map, Bool, true, false}
 use Rattle.std.proofs.Common.{cond, Some, None, refl, sym, ◌∙◌, subst, inl, inr, lit<, lit≤, arith, take-append-drop}
 use Rattle.std.specs.Prelude.{◌==◌, slice_get, count_by, flat_map, take, drop, ⊤}
 use Rattle.std.specs.List.{AllByRecursion}

@@ -1,5 +1,5 @@
 -- The two sites of the worked example, and what is of each mailbox of one of them.
-use Rattle.std.proofs.Common.{◌≡◌, ℕ, zero, suc, ◌<◌, List, [], ◌∷◌, length, Bool, true, false, Option, Some, arith}
+use Rattle.std.proofs.Common.{◌≡◌, ℕ, zero, suc, ◌<◌, List, [], ◌∷◌, length, Bool, true, false, Some, arith}
 use Rattle.std.proofs.Common.{subst, lit<}
 use Rattle.std.specs.Prelude.{slice_get}
 use Rattle.mail_world.specs.Site.{Site}

@@ -8,5 +8,7 @@
 mod laws;
 mod rows;
 
-pub use laws::{mailboxes_are_named, runs_are_lives, spoilt_runs_are_found, told_is_read_back, told_is_stored};
+pub use laws::{
+    mailboxes_are_named, runs_are_lives, spoilt_runs_are_found, told_is_read_back, told_is_stored,
+};
 pub use rows::killed_runs_exist;

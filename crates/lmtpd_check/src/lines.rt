@@ -88,11 +88,7 @@ fn write_bad<W: Write>(writer: &mut W, name: &str, bad: BadForm) -> Result<(), W
     }
 }
 
-fn write_nul<W: Write>(
-    writer: &mut W,
-    name: &str,
-    nul: Option<NulAt>,
-) -> Result<(), WriteFault>
+fn write_nul<W: Write>(writer: &mut W, name: &str, nul: Option<NulAt>) -> Result<(), WriteFault>
     ensures ok { OnOk result (Appends (W.contents writer.old) (W.contents writer.new) (nul_line name.now nul)) }
     ensures err { OnErr result (IsCutOff (W.contents writer.old) (W.contents writer.new) (nul_line name.now nul)) }
 {

@@ -1,12 +1,12 @@
 -- Where the first NUL of a text stands as the text grows.
-use Rattle.std.proofs.Common.{◌≡◌, ℕ, zero, suc, ◌+◌, ◌<◌, ◌≤◌, arith, Bool, true, false, cond, ◌==◌, ◌||◌, List, [], ◌∷◌, ◌++◌, length, take, Option, Some, None}
-use Rattle.std.proofs.Common.{sym, ap, subst, ◌∙◌, refl, take-take, true≢false}
+use Rattle.std.proofs.Common.{◌≡◌, ℕ, zero, suc, ◌<◌, ◌≤◌, arith, Bool, true, false, cond, ◌==◌, ◌||◌, List, [], ◌∷◌, ◌++◌, length, take, Option, Some, None}
+use Rattle.std.proofs.Common.{sym, ap, ◌∙◌, refl, take-take, true≢false}
 use Rattle.std.specs.Prelude.{option_map, slice_index}
 use Rattle.std.proofs.lemmas.Bool.{false_from_ne_true, or_parts, eqb-true}
 use Rattle.mail_world.specs.Malformed.{nul}
 use Rattle.mail_world.specs.Text.{lf, has_byte, place_of}
 use Rattle.mbox_check.specs.declared.found.NulAt.{NulAt}
-use Rattle.mbox_check.specs.Form.{IsInLetter, IsFirstNul, TellsNul}
+use Rattle.mbox_check.specs.Form.{IsFirstNul, TellsNul}
 use Rattle.mbox_check.proofs.Breaks.{take_prefix}
 
 abbrev pub nul_in : List ℕ → Option ℕ

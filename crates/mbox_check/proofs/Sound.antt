@@ -1,9 +1,8 @@
 -- What is found of a text, by the one place that breaks it.
-use Rattle.std.proofs.Common.{◌≡◌, ℕ, suc, ◌<◌, ◌≤◌, arith, List, [], ◌++◌, append-nil, length, take, drop, Option, Ok, Err, sym, ap, subst, ◌∙◌, refl, take-take, take-append-drop}
+use Rattle.std.proofs.Common.{◌≡◌, ℕ, suc, ◌<◌, ◌≤◌, arith, List, [], ◌++◌, append-nil, length, take, drop, Option, Ok, Err, sym, ap, subst, ◌∙◌, take-take, take-append-drop}
 use Rattle.std.proofs.lemmas.List.{take_all}
 use Rattle.mail_world.specs.Reading.{Letter}
 use Rattle.mbox_check.specs.declared.fault.BadForm.{BadForm}
-use Rattle.mbox_check.specs.declared.found.Found.{Found}
 use Rattle.mbox_check.specs.declared.found.NulAt.{NulAt}
 use Rattle.mbox_check.specs.Form.{IsMailboxOf, BeginsMailbox, BreaksAt, IsBad, IsLetterCount, TellsNul, IsFound}
 use Rattle.mbox_check.proofs.Bodies.{begins_shorter}
@@ -25,8 +24,12 @@ one_break text p q a b =
 mailbox_breaks : (text : List ℕ) (letters : List Letter) (p : ℕ) → IsMailboxOf text letters → BreaksAt text p → ⊥
 mailbox_breaks text letters p m b =
     let all : take (length text) text ≡ text = take_all (length text) text (omega arith) in
-    let begins : BeginsMailbox text = begins_shorter text [] (record { more = []; letters = letters; is = subst (λ (l : List ℕ). IsMailboxOf l letters)
-        (sym (append-nil (text ++ []) ∙ append-nil text)) m }) in
+    let begins : BeginsMailbox text = begins_shorter text [] (record {
+      more = [];
+      letters = letters;
+      is = subst (λ (l : List ℕ). IsMailboxOf l letters)
+          (sym (append-nil (text ++ []) ∙ append-nil text)) m;
+    }) in
     let left : p < length text → ⊥ = begins_less text p (length text) b (omega arith) (subst BeginsMailbox (sym all) begins) in
     let within : p ≤ length text = b.within in
     b.short (omega (arith, left, within)) letters m

@@ -63,10 +63,10 @@ first_nul text n form t l s i none =
 -- ---- a byte
 
 nul_goes_inside : (from state : FormState) → effect_at from nul ≡ To state → state ≡ Inside
-nul_goes_inside from state e = elim (nul_leads from) [ | inl f ↦ cc | inr f ↦ cc ]
+nul_goes_inside from state e = elim (nul_leads from) [ inl f ↦ cc | inr f ↦ cc ]
 
 begins_no_nul : (from : FormState) (b : ℕ) → effect_at from b ≡ Begin → b ≡ nul → ⊥
-begins_no_nul from b e z = let f : effect_at from nul ≡ Begin = ap (λ c. effect_at from c) (sym z) ∙ e in elim (nul_leads from) [ | inl g ↦ cc | inr g ↦ cc ]
+begins_no_nul from b e z = let f : effect_at from nul ≡ Begin = ap (λ c. effect_at from c) (sym z) ∙ e in elim (nul_leads from) [ inl g ↦ cc | inr g ↦ cc ]
 
 other_than_nul : (b : ℕ) (t : Bool) → (b == nul) ≡ t → (b ≡ nul → ⊥) → t ≡ false
 other_than_nul b true e no' = absurd (no' (eqb-true b nul e))

@@ -113,8 +113,10 @@ impl FormCheck {
 
     // Notes where the byte that comes next stands, if it is the first NUL.
     fn note(&mut self, byte: u8)
-        ensures { self.new ≡ record self.old { nul = nul_after self.old.nul byte
-            (record { place = self.old.taken; letter = self.old.letters; start = self.old.start }) } }
+        ensures { self.new ≡ record self.old {
+          nul = nul_after self.old.nul byte
+              (record { place = self.old.taken; letter = self.old.letters; start = self.old.start });
+        } }
     {
         if byte == b'\0' && self.nul.is_none() {
             self.nul = Some(NulAt {

@@ -1,4 +1,5 @@
 pub mod Trying
+pub mod Pausing
 pub mod Tails
 pub mod Left
 pub mod Losing

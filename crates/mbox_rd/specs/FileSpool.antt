@@ -13,11 +13,14 @@ use Rattle.mbox_file.specs.MailboxFile.{FileState, IsHeld}
 use Rattle.mail_world.specs.Endings.{ending}
 use Rattle.mbox_spool.specs.Tail.{ending_of}
 use Rattle.mbox_rd.specs.Turn.{HasEndedTurn}
+use Rattle.mbox_rd.specs.declared.patience.Patience.{Patience}
 
 pub record FileSpool (F : Type 0) : Type 0 where
   pub file : F
   -- how many seconds a lock waits for other programs
   pub wait : ℕ
+  -- and what it was waited for so far
+  pub patience : Patience
   -- the bytes that were taken and aren't written yet
   pub waiting : List ℕ
   -- it is in a turn
@@ -117,6 +120,7 @@ pub record StartsTurn {F : Type 0} (state : F → FileState) (old new : FileSpoo
   pub was_free : old.in_turn ≡ false
   pub same : new ≡ record old {
     file = new.file;
+    patience = new.patience;
     waiting = [];
     in_turn = true;
     has_failed = false;
@@ -127,10 +131,11 @@ pub record StartsTurn {F : Type 0} (state : F → FileState) (old new : FileSpoo
     log = begun_at old.log (standing_of (state new.file) old.failures);
   }
 
--- a missed turn is counted, and else only the file may have changed
+-- a missed turn is counted, and else only the file may have changed, and how long it was waited for
 abbrev pub CountsRefusal : {F : Type 0} → FileSpool F → FileSpool F → Type 0
 CountsRefusal old new = new ≡ record old {
   file = new.file;
+  patience = new.patience;
   refusals = counted (old.refusals + 1);
   log = missed old.log;
 }

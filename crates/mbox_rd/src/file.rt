@@ -1,6 +1,6 @@
 //! A mailbox in a file, which other programs read and empty too: it takes bytes in turns, and what stands there is
 //! looked at again in each. Nothing of it lasts from one turn to the next but its file and whether the last turn broke.
-ghost use Rattle.std.specs.Prelude.{◌≡◌, ◌≢◌, ◌<◌, ◌≤◌, ◌⊎◌, ℕ, List, [], ◌∷◌, ◌++◌, true, false, length, take};
+ghost use Rattle.std.specs.Prelude.{◌≡◌, ◌≢◌, ◌<◌, ◌≤◌, ◌-◌, ◌⊎◌, ℕ, List, [], ◌∷◌, ◌++◌, true, false, length, take};
 ghost use Rattle.std.specs.Prelude.{drop, ⊤, Err, IsErr, IfOk, IfErr, OnOk, OnErr};
 ghost use Rattle.mail_world.specs.Endings.{ending, ending_from};
 ghost use Rattle.mail_world.specs.Failures.{Rises};
@@ -64,6 +64,7 @@ impl<F: MailboxFile + Drop, C: Clock + Drop> Model for FileSpool<F, C> {
     ghost view = { λ s. record {
       file = s.file;
       wait = s.wait;
+      patience = s.patience;
       waiting = s.waiting.items;
       in_turn = s.in_turn;
       has_failed = s.has_failed;
@@ -81,6 +82,7 @@ impl<F: MailboxFile + Drop, C: Clock + Drop> Model for FileSpool<F, C> {
         × IsInOrder F.state (record {
           file = s.file;
           wait = s.wait;
+          patience = s.patience;
           waiting = s.waiting.items;
           in_turn = s.in_turn;
           has_failed = s.has_failed;
@@ -131,6 +133,8 @@ impl<F: MailboxFile + Drop, C: Clock + Drop> FileSpool<F, C> {
     ghost use Rattle.mbox_file.specs.MailboxFile.{IsEnd};
     ghost use Rattle.mbox_rd.specs.Turn.{HasBegun, HasMissed, StaysThere, OpensAfter};
     ghost use Rattle.mbox_rd.specs.FileSpool.{StartsTurn, CountsRefusal, failed_again};
+    ghost use Rattle.mbox_rd.specs.Patience.{HasPaused, HasWaited, IsGivenUp, IsTimeOver, IsUnpaused, KeepsMiss};
+    ghost use Rattle.mbox_rd.specs.Patience.{pauses_ms};
 
     // Why a call is refused that the file isn't asked for: it is in no turn in which none failed, or else what was cut
     // off couldn't be kept so as this turn began.
@@ -160,13 +164,18 @@ impl<F: MailboxFile + Drop, C: Clock + Drop> FileSpool<F, C> {
     // Asks for a turn. After one that broke, what the path names is opened first.
     fn ask(&mut self) -> Result<FileEnd, InUse>
         requires free { self.old.in_turn ≡ false }
-        ensures same { self.new ≡ record self.old { file = self.new.file } }
+        ensures same { self.new ≡ record self.old { file = self.new.file; patience = self.new.patience } }
         ensures ok { IfOk result (HasBegun (F.state self.old.file) (F.state self.new.file)) }
         ensures entry { OnOk result ((F.state self.new.file).has_entry ≡ true) }
         ensures anew { self.old.has_failed ≡ true
             → OnOk result (Rises (F.state self.old.file).openings (F.state self.new.file).openings) }
         ensures err { OnErr result (HasMissed (F.state self.old.file) (F.state self.new.file)) }
         ensures opened { IfErr result (OpensAfter (F.state self.old.file) (F.state self.new.file)) }
+        ensures waits { HasWaited self.old.patience self.new.patience self.old.wait }
+        ensures keeps_miss { KeepsMiss self.old.patience self.new.patience }
+        ensures given_up { IfErr result (λ in_use. in_use ≡ InUse.Locked
+            → IsGivenUp self.old.patience self.new.patience
+            ⊎ Rises (F.state self.old.file).unopened (F.state self.new.file).unopened) }
     {
         let tries = self.patience.tries(&self.clock, self.wait);
         let answer = self.try_for_turn(tries);
@@ -177,22 +186,22 @@ impl<F: MailboxFile + Drop, C: Clock + Drop> FileSpool<F, C> {
     // Tries for a turn that often.
     fn try_for_turn(&mut self, tries: u64) -> Result<FileEnd, InUse>
         requires free { self.old.in_turn ≡ false }
-        ensures same { self.new ≡ record self.old { file = self.new.file } }
+        requires unpaused { IsUnpaused self.old.patience }
+        requires time { pauses_ms (tries - 1) ≤ 3_600_000 }
+        ensures same { self.new ≡ record self.old { file = self.new.file; patience = self.new.patience } }
         ensures ok { IfOk result (HasBegun (F.state self.old.file) (F.state self.new.file)) }
         ensures entry { OnOk result ((F.state self.new.file).has_entry ≡ true) }
         ensures anew { self.old.has_failed ≡ true
             → OnOk result (Rises (F.state self.old.file).openings (F.state self.new.file).openings) }
         ensures err { OnErr result (HasMissed (F.state self.old.file) (F.state self.new.file)) }
         ensures opened { IfErr result (OpensAfter (F.state self.old.file) (F.state self.new.file)) }
+        ensures paused { HasPaused self.old.patience self.new.patience tries }
+        ensures given_up { IfErr result (λ in_use. in_use ≡ InUse.Locked
+            → (self.new.patience.pauses ≡ tries - 1) ⊎ IsTimeOver self.new.patience
+            ⊎ Rises (F.state self.old.file).unopened (F.state self.new.file).unopened) }
     {
         open_anew(&mut self.file, self.has_failed)?;
-        wait_for_turn(
-            &mut self.file,
-            &self.clock,
-            &mut self.patience,
-            tries,
-            true,
-        )
+        wait_for_turn(&mut self.file, &self.clock, &mut self.patience, tries, true)
     }
 
     // Has what an earlier turn cut off kept so, where that is owed.
@@ -224,6 +233,7 @@ impl<F: MailboxFile + Drop, C: Clock + Drop> FileSpool<F, C> {
         requires covered { (F.state self.old.file).kept ≤ length (F.state self.old.file).bytes }
         ensures starts { StartsTurn F.state self.old self.new }
         ensures same { self.new.is_unsettled ≡ self.old.is_unsettled }
+        ensures patience { self.new.patience ≡ self.old.patience }
         ensures file { self.new.file ≡ self.old.file }
         ensures began { self.new.began ≡ end.at }
         ensures tail { self.new.tail ≡ end.tail }
@@ -242,6 +252,7 @@ impl<F: MailboxFile + Drop, C: Clock + Drop> FileSpool<F, C> {
     fn refuse(&mut self, in_use: InUse) -> Result<u64, InUse>
         ensures new { CountsRefusal self.old self.new }
         ensures file { self.new.file ≡ self.old.file }
+        ensures patience { self.new.patience ≡ self.old.patience }
         ensures result { result ≡ Err in_use }
     {
         self.refusals = self.refusals.saturating_add(1);
@@ -255,6 +266,7 @@ impl<F: MailboxFile + Drop, C: Clock + Drop> Spool for FileSpool<F, C> {
     ghost use Rattle.mbox_rd.specs.FileSpool.{HasTaken, KeepsAll, StaysSound, Breaks, HasLost, failed_again};
     ghost use Rattle.mbox_rd.specs.FileSpool.{AddsLines, KnowsEnd, contents_of, state_of};
     ghost use Rattle.mbox_rd.specs.Moments.{AnyMoment, Stores};
+    ghost use Rattle.mbox_rd.specs.Patience.{HasWaited, IsGivenUp, KeepsMiss};
     ghost use Rattle.mbox_rd.specs.Turn.{HasMissed, OpensAfter};
 
     ghost state = { λ s. state_of F.state s };
@@ -269,7 +281,8 @@ impl<F: MailboxFile + Drop, C: Clock + Drop> Spool for FileSpool<F, C> {
     /// kept so where that is owed, or else this turn's first append and sync fail. In a turn it is refused, and the turn
     /// goes on.
     fn lock(&mut self) -> Result<u64, InUse>
-        ensures within { self.old.in_turn ≡ true → (result ≡ Err InUse.Locked) × (self.new.file ≡ self.old.file) }
+        ensures within { self.old.in_turn ≡ true → (result ≡ Err InUse.Locked) × (self.new.file ≡ self.old.file)
+            × (self.new.patience ≡ self.old.patience) }
         ensures starts { OnOk result (StartsTurn F.state self.old self.new) }
         ensures had { OnOk result (HasTurn F.state self.new) }
         ensures moments { OnOk result
@@ -283,6 +296,12 @@ impl<F: MailboxFile + Drop, C: Clock + Drop> Spool for FileSpool<F, C> {
             → OnErr result (HasMissed (F.state self.old.file) (F.state self.new.file)) }
         ensures opened { self.old.in_turn ≡ false
             → IfErr result (OpensAfter (F.state self.old.file) (F.state self.new.file)) }
+        ensures waits { self.old.in_turn ≡ false → HasWaited self.old.patience self.new.patience self.old.wait }
+        ensures keeps_miss { OnOk result (KeepsMiss self.old.patience self.new.patience) }
+        ensures missed { self.old.in_turn ≡ false → OnErr result (self.new.patience.was_missed ≡ true) }
+        ensures given_up { self.old.in_turn ≡ false → IfErr result (λ in_use. in_use ≡ InUse.Locked
+            → IsGivenUp self.old.patience self.new.patience
+            ⊎ Rises (F.state self.old.file).unopened (F.state self.new.file).unopened) }
 
         // what every spool ensures
         ensures asks { AsksForTurn (⟦<FileSpool<F, C> as Spool>⟧.state self.old)

@@ -1,8 +1,8 @@
 //! How long a mailbox is waited for: so many seconds within a minute, in all of its turns together.
-ghost use Rattle.std.specs.Prelude.{◌≡◌, ◌⊎◌, ◌+◌, ◌-◌, ◌*◌, ◌<◌, ◌≤◌, min, true, false};
+ghost use Rattle.std.specs.Prelude.{◌≡◌, ◌+◌, ◌-◌, ◌*◌, ◌<◌, ◌≤◌, true, false};
 ghost use Rattle.mail_world.specs.Counts.{counted};
-ghost use Rattle.mail_world.specs.declared.limits.TheConstants.{LOCK_WAIT_LIMIT as LONGEST};
-ghost use Rattle.mbox_rd.specs.Patience.{pause_ms, pauses_ms};
+ghost use Rattle.mbox_rd.specs.Patience.{HasAsked, is_minute_over, ms_between, pause_ms, pauses_ms};
+ghost use Rattle.mbox_rd.specs.Patience.{spent_ms, took_none, IsTimeOver};
 
 use mail_world::limits::LOCK_WAIT_LIMIT;
 use std::time::{Clock, Duration};
@@ -31,7 +31,11 @@ pub(crate) struct Patience {
     // when this turn was asked for, where the clock tells it, how long it may be waited for, and its pauses
     asked: Option<Duration>,
     left_ms: u64,
+    pauses: u64,
     paused_ms: u64,
+    // when the last of them was asked for and was over, where the clock tells it
+    paused_at: Option<Duration>,
+    woke: Option<Duration>,
 }
 
 impl Patience {
@@ -47,7 +51,10 @@ impl Patience {
             began: Duration::ZERO,
             asked: None,
             left_ms: 0,
+            pauses: 0,
             paused_ms: 0,
+            paused_at: None,
+            woke: None,
         }
     }
 
@@ -55,22 +62,23 @@ impl Patience {
     /// where turns are waited for that many seconds within a minute, LOCK_WAIT_LIMIT at most. For a minute after a
     /// missed turn it is one.
     pub fn tries<C: Clock>(&mut self, clock: &C, seconds: u32) -> u64
-        ensures minute { (self.new.waited_ms ≡ self.old.waited_ms) ⊎ (self.new.waited_ms ≡ 0) }
-        ensures kept { self.old.was_missed ≡ false → self.new.was_missed ≡ false }
+        ensures asked { HasAsked self.old self.new seconds }
         ensures missed { self.new.was_missed ≡ true → result ≡ 1 }
-        ensures left { self.new.left_ms ≡ min seconds LONGEST * 1_000 - self.new.waited_ms }
-        ensures unpaused { self.new.paused_ms ≡ 0 }
         ensures within { pauses_ms (result - 1) ≤ self.new.left_ms }
         ensures most { self.new.was_missed ≡ false → self.new.left_ms < pauses_ms result }
     {
-        self.was_missed = self.was_missed && !is_minute_over(clock, self.missed);
-        if self.waited_ms > 0 && is_minute_over(clock, self.began) {
+        let asked = clock.monotonic().ok();
+        self.was_missed = self.was_missed && !has_minute_passed(asked, self.missed);
+        if has_minute_passed(asked, self.began) {
             self.waited_ms = 0;
         }
-        self.asked = clock.monotonic().ok();
-        self.paused_ms = 0;
         let most = u64::from(seconds.min(LOCK_WAIT_LIMIT)) * 1_000;
         self.left_ms = most.saturating_sub(self.waited_ms);
+        self.asked = asked;
+        self.pauses = 0;
+        self.paused_ms = 0;
+        self.paused_at = None;
+        self.woke = None;
         if self.was_missed {
             1
         } else {
@@ -78,41 +86,55 @@ impl Patience {
         }
     }
 
-    /// The turn's pause of this number, counted from 1. False: the time for this turn is over, and there is none, or it
-    /// took no time, since the clock waits for nothing any more.
-    pub fn pause<C: Clock>(&mut self, clock: &C, number: u64) -> bool
-        ensures paused { result ≡ true
-            → self.new ≡ record self.old { paused_ms = counted (self.old.paused_ms + pause_ms number) } }
-        ensures none { result ≡ false → self.new ≡ self.old }
-        ensures over { self.old.left_ms ≤ self.old.paused_ms → result ≡ false }
+    /// The turn's next pause, after so many. False: the time for this turn is over, and there is none, or it took no
+    /// time, since the clock waits for nothing any more.
+    pub fn pause<C: Clock>(&mut self, clock: &C, made: u64) -> bool
+        ensures paused { result ≡ true → self.new ≡ record self.old {
+          pauses = counted (made + 1);
+          paused_ms = counted (self.old.paused_ms + pause_ms made);
+          paused_at = self.new.paused_at;
+          woke = self.new.woke;
+        } }
+        ensures none { result ≡ false → self.new ≡ record self.old {
+          paused_at = self.new.paused_at;
+          woke = self.new.woke;
+        } }
+        ensures over { result ≡ false → IsTimeOver self.new }
+        ensures late { self.old.left_ms ≤ self.old.paused_ms → result ≡ false }
     {
-        if self.spent_ms(clock) >= self.left_ms {
+        self.paused_at = clock.monotonic().ok();
+        self.woke = None;
+        if self.spent_by(self.paused_at) >= self.left_ms {
             return false;
         }
-        let ms = pause_after(number);
-        if !has_slept(clock, ms) {
+        let ms = pause_after(made);
+        clock.sleep(Duration::from_millis(ms));
+        self.woke = clock.monotonic().ok();
+        if has_taken_none(self.paused_at, self.woke) {
             return false;
         }
+        self.pauses = made.saturating_add(1);
         self.paused_ms = self.paused_ms.saturating_add(ms);
         true
     }
 
-    // How long this turn is waited for by now. Where the clock tells no time its pauses count.
-    fn spent_ms<C: Clock>(&self, clock: &C) -> u64
-        ensures { self.now.paused_ms ≤ result }
+    // How long this turn is waited for by then. Where the clock tells no time its pauses count.
+    fn spent_by(&self, then: Option<Duration>) -> u64
+        ensures exact { result ≡ spent_ms self.now.asked then self.now.paused_ms }
+        ensures paused { self.now.paused_ms ≤ result }
     {
-        match (self.asked, clock.monotonic()) {
-            (Some(asked), Ok(now)) => self.paused_ms.max(whole_ms(now.saturating_sub(asked))),
+        match (self.asked, then) {
+            (Some(asked), Some(then)) => self.paused_ms.max(whole_ms(asked, then)),
             _ => self.paused_ms,
         }
     }
 
     /// The turn is had or missed: how long it was waited for counts within this minute.
     pub fn end_wait<C: Clock>(&mut self, clock: &C)
+        ensures same { self.new ≡ record self.old { waited_ms = self.new.waited_ms; began = self.new.began } }
         ensures counted { counted (self.old.waited_ms + self.old.paused_ms) ≤ self.new.waited_ms }
-        ensures missed { self.new.was_missed ≡ self.old.was_missed }
     {
-        let spent = self.spent_ms(clock);
+        let spent = self.spent_by(clock.monotonic().ok());
         if self.waited_ms == 0 {
             self.began = self.asked.unwrap_or(Duration::ZERO);
         }
@@ -121,38 +143,39 @@ impl Patience {
 
     /// A turn is missed now.
     pub fn miss<C: Clock>(&mut self, clock: &C)
-        ensures missed { self.new.was_missed ≡ true }
-        ensures waited { self.new.waited_ms ≡ self.old.waited_ms }
+        ensures { self.new ≡ record self.old { was_missed = true; missed = self.new.missed } }
     {
         self.was_missed = true;
         self.missed = clock.monotonic().unwrap_or(Duration::ZERO);
     }
 }
 
-// Sleeps so many milliseconds. False: by the clock not even one has passed. One that tells no time is believed.
-fn has_slept<C: Clock>(clock: &C, ms: u64) -> bool {
-    let began = clock.monotonic();
-    clock.sleep(Duration::from_millis(ms));
-    match (began, clock.monotonic()) {
-        (Ok(began), Ok(now)) => whole_ms(now.saturating_sub(began)) > 0,
-        _ => true,
+// Whether by the clock not even a millisecond passed in a pause. One that tells no time is believed.
+fn has_taken_none(began: Option<Duration>, woke: Option<Duration>) -> bool
+    ensures { result ≡ took_none began woke }
+{
+    match (began, woke) {
+        (Some(began), Some(woke)) => whole_ms(began, woke) == 0,
+        _ => false,
     }
 }
 
 // Whether a minute has passed since then. A clock that tells no time ends none.
-fn is_minute_over<C: Clock>(clock: &C, since: Duration) -> bool {
-    match clock.monotonic() {
-        Ok(now) => now.saturating_sub(since).as_secs() >= MINUTE_SECONDS,
-        Err(_) => false,
+fn has_minute_passed(now: Option<Duration>, since: Duration) -> bool
+    ensures { result ≡ is_minute_over now since }
+{
+    match now {
+        Some(now) => now.saturating_sub(since).as_secs() >= MINUTE_SECONDS,
+        None => false,
     }
 }
 
 // A wait of less than a millisecond is none.
-fn whole_ms(duration: Duration) -> u64 {
-    duration
-        .as_secs()
-        .saturating_mul(1_000)
-        .saturating_add(u64::from(duration.subsec_millis()))
+fn whole_ms(began: Duration, now: Duration) -> u64
+    ensures { result ≡ ms_between began now }
+{
+    let ms = now.saturating_sub(began).as_millis();
+    ms.min(u128::from(u64::MAX)) as u64
 }
 
 // How many tries take that many milliseconds with a pause between each two.
@@ -169,11 +192,11 @@ fn tries_in(ms: u64) -> u64
     }
 }
 
-// How many milliseconds the pause of this number takes, counted from 1.
-fn pause_after(number: u64) -> u64
-    ensures { result ≡ pause_ms number }
+// How many milliseconds the pause takes that comes after so many.
+fn pause_after(made: u64) -> u64
+    ensures { result ≡ pause_ms made }
 {
-    if number <= SHORT_PAUSES {
+    if made < SHORT_PAUSES {
         SHORT_PAUSE_MS
     } else {
         PAUSE_MS

@@ -1,12 +1,13 @@
 //! How a turn at a mailbox's file begins and ends: both locks are taken, on the file that the path names, and its end
 //! is looked at again; what is to be cut is cut while both are held.
-ghost use Rattle.std.specs.Prelude.{◌≡◌, [], true, false, IfOk, IfErr, OnOk, OnErr, OnSome};
+ghost use Rattle.std.specs.Prelude.{◌≡◌, ◌≤◌, ◌⊎◌, ◌-◌, [], true, false, IfOk, IfErr, OnOk, OnErr, OnSome};
 ghost use Rattle.mail_world.specs.Failures.{Rises};
 ghost use Rattle.mbox_file.specs.MailboxFile.{IsHeld};
 ghost use Rattle.mbox_rd.specs.Turn.{HasBegun, HasMissed, HasTried, HasSeen, HasNotSeen, HasTakenLocks, HasLetGo};
 ghost use Rattle.mbox_rd.specs.Turn.{HasCutBack, HasEndedTurn, IsBetweenTries, OpensFor, OpensAfter, OpensAfterTry};
 ghost use Rattle.mbox_rd.specs.Turn.{IfSystem, IsOfFolder};
 ghost use Rattle.mbox_rd.specs.Moments.{LeavesInTurn};
+ghost use Rattle.mbox_rd.specs.Patience.{HasPaused, IsTimeOver, IsUnpaused, pauses_ms};
 
 use crate::patience::Patience;
 use mbox_file::{FileEnd, MailboxFile};
@@ -53,6 +54,7 @@ pub(crate) fn open_anew<F: MailboxFile>(file: &mut F, is_asked: bool) -> Result<
     ensures ok { OnOk result (IsBetweenTries (F.state file.old) (F.state file.new)) }
     ensures anew { is_asked ≡ true → OnOk result (Rises (F.state file.old).openings (F.state file.new).openings) }
     ensures err { OnErr result (HasMissed (F.state file.old) (F.state file.new)) }
+    ensures unopened { OnErr result (Rises (F.state file.old).unopened (F.state file.new).unopened) }
     ensures opened { IfErr result (OpensAfter (F.state file.old) (F.state file.new)) }
 {
     if !is_asked {
@@ -76,15 +78,20 @@ pub(crate) fn wait_for_turn<F: MailboxFile, C: Clock>(
     tries: u64,
     is_written: bool,
 ) -> Result<FileEnd, InUse>
+    requires unpaused { IsUnpaused patience.old }
+    requires time { pauses_ms (tries - 1) ≤ 3_600_000 }
     ensures ok { IfOk result (HasBegun (F.state file.old) (F.state file.new)) }
     ensures entry { is_written ≡ true → OnOk result ((F.state file.new).has_entry ≡ true) }
     ensures err { OnErr result (HasMissed (F.state file.old) (F.state file.new)) }
     ensures opened { IfErr result (OpensAfter (F.state file.old) (F.state file.new)) }
+    ensures paused { HasPaused patience.old patience.new tries }
+    ensures given_up { IfErr result (λ in_use. in_use ≡ InUse.Locked
+        → (patience.new.pauses ≡ tries - 1) ⊎ IsTimeOver patience.new) }
 {
-    for pauses in 1..tries {
+    for made in 0..tries.saturating_sub(1) {
         match begin_turn(file, clock, is_written) {
             Ok(end) => return Ok(end),
-            Err(InUse::Locked) if patience.pause(clock, pauses) => {}
+            Err(InUse::Locked) if patience.pause(clock, made) => {}
             Err(in_use) => return Err(in_use),
         }
     }
@@ -128,10 +135,7 @@ fn is_late<C: Clock>(clock: &C, began: io::Result<Duration>) -> bool {
 // With both locks it is seen whether they are on the file that the path names. None: they weren't, and were given
 // back, and that file is open now. Where the system refuses a lock, or the look, the open file may be why: what the
 // path names is opened for the next try.
-fn begin_or_reopen<F: MailboxFile>(
-    file: &mut F,
-    is_written: bool,
-) -> Result<Option<FileEnd>, InUse>
+fn begin_or_reopen<F: MailboxFile>(file: &mut F, is_written: bool) -> Result<Option<FileEnd>, InUse>
     ensures ok { IfOk result (HasTried (F.state file.old) (F.state file.new)) }
     ensures entry { is_written ≡ true
         → IfOk result (λ seen. OnSome seen ((F.state file.new).has_entry ≡ true)) }
