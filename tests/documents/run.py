@@ -13,7 +13,7 @@ from exported import exported_by, methods_of
 ROOT = pathlib.Path(__file__).parent.parent.parent
 RULES = "docs/RULES.md"
 # Those that speak of what is here now: others say of what there was, too.
-OF_SOURCES = ["README.md", "CONTRIBUTING.md", "docs/ARCHITECTURE.md", RULES]
+OF_SOURCES = ["README.md", "CONTRIBUTING.md", "docs/ARCHITECTURE.md", "docs/DECISIONS.md", "docs/PROVING.md", RULES]
 # In these a name may be another program's.
 OF_USE = ["docs/OPERATING.md", *sorted(f"docs/operating/{it.name}" for it in (ROOT / "docs/operating").iterdir())]
 NAME = re.compile(r"`([a-z][a-z0-9]*(?:_[a-z0-9]+)+)`")
