@@ -90,8 +90,8 @@ free_before (b ∷ text) (suc k) p =
 
 -- ---- what is told
 
-told_more : (text more : List ℕ) (told : NulAt) → IsFirstNul text told → IsFirstNul (text ++ more) told
-told_more text more told h =
+pub tells_more : (text more : List ℕ) (told : NulAt) → IsFirstNul text told → IsFirstNul (text ++ more) told
+tells_more text more told h =
     let low : suc h.p ≤ length text = nul_within text h.p h.first in
     let same : take (suc h.p) text ≡ take (suc h.p) (text ++ more) =
     ap (λ (l : List ℕ). take (suc h.p) l) (sym (take_prefix text more)) ∙ take-take (suc h.p) (length text) (text ++ more) low in record {
@@ -114,7 +114,4 @@ told_more text more told h =
 -- bytes without NUL change nothing
 pub tells_on : (text more : List ℕ) (told : Option NulAt) → nul_in more ≡ None → TellsNul text told → TellsNul (text ++ more) told
 tells_on text more None e h = none_after text more h e
-tells_on text more (Some told) e h = told_more text more told h
-
-pub tells_more : (text more : List ℕ) (told : NulAt) → IsFirstNul text told → IsFirstNul (text ++ more) told
-tells_more = told_more
+tells_on text more (Some told) e h = tells_more text more told h
