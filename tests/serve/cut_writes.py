@@ -106,7 +106,7 @@ class Killer:
 
 
 def deliver_after(folder, cuts):
-    """One server delivers to all these mailboxes: what the check says of each then."""
+    """One server delivers to all these mailboxes: what the check says of each then, in lines."""
     boxes = [cut.path.stem for cut in cuts]
     with Server(folder, boxes, 1, "--lanes", 1) as server, Client(server.address).greet() as client:
         # the start alone changes nothing
@@ -116,11 +116,11 @@ def deliver_after(folder, cuts):
         equal(vars(server.end()), {"status": 0, "said": [f"{box} stored 1" for box in boxes], "errors": []})
     paths = [cut.path for cut in cuts]
     said = run(["check", *paths]).said
-    return [line.removeprefix(f"{path} ") for path, line in zip(paths, said, strict=True)]
+    return [[line.removeprefix(f"{path} ") for line in said if line.startswith(f"{path} ")] for path in paths]
 
 
 def faults_of(cut, said, readers):
-    """Who finds a fault in that mailbox after the next letter, where the check said that of it."""
+    """Who finds a fault in that mailbox after the next letter, of which the check said these lines."""
     found = cut.path.read_bytes()
     if not found.startswith(cut.torn + mends(cut.torn)):
         yield "what mends"
@@ -134,9 +134,11 @@ def faults_of(cut, said, readers):
         gaining = len(told) if reader.joins else int(cut.is_spoilt)
         if not is_right(read_by(reader, cut.path), told, reader.shown(then), gaining):
             yield name
-    count = said.removeprefix("letters ")
+    count, nul = said[0].removeprefix("letters "), found.find(b"\0")
     if not count.isdigit() or not 1 <= int(count) - len(cut.told) <= 1 + MOST_TORN:
         yield "check"
+    if [line.partition(" in letter ")[0] for line in said[1:]] != ([f"NUL at {nul}"] if nul >= 0 else []):
+        yield "check of NULs"
 
 
 def read_by(reader, path):
@@ -166,8 +168,8 @@ def judge(cuts, said, readers):
     """Each told letter is unchanged, but for lines that the last one gained where the mailbox is spoilt, and the next
     one whole, for each reader, and no byte is lost."""
     wrong = {}
-    for cut, line in zip(cuts, said, strict=True):
-        for name in faults_of(cut, line, readers):
+    for cut, lines in zip(cuts, said, strict=True):
+        for name in faults_of(cut, lines, readers):
             wrong.setdefault(name, []).append(cut.place)
     equal({name: spans(places) for name, places in wrong.items()}, {})
 
