@@ -9,6 +9,7 @@ cd "$(dirname "$0")/.."
 needed=("$@")
 [ "$#" != 0 ] || mapfile -t needed < <(find crates -name 'tests.rt.in' | cut -d/ -f2 | sort -u)
 # shellcheck disable=SC2046
+rt=$PWD/building/rt
 copy_crates sources $(grep -oE '^[a-z0-9_]+' crates.txt)
 # its tests write records, which are their site's, and its code names neither
 sed -i 's/^mbox_rd:/& lmtp_text mbox_record/' "$folder/crates.txt"
@@ -18,7 +19,7 @@ cd "$folder"
 # try_tests CRATE: runs its tests, and keeps what they said and how they ended.
 try_tests() {
     local status=0
-    (cd "crates/$1" && rt try --test --seconds 2000) > "$1.said" 2>&1 || status=$?
+    (cd "crates/$1" && "$rt" try --test --seconds 2000) > "$1.said" 2>&1 || status=$?
     echo "$status" > "$1.status"
 }
 
