@@ -10,4 +10,4 @@ cd "$(dirname "$0")/.."
     { echo 'building/rehearse.sh: crates/lmtpd/args has other words than building/rehearsal' >&2; exit 1; }
 copy_crates sources lmtpd_rehearse
 add_crate rehearsal "$PWD/building/rehearsal" 'lmtp_text lmtpd_rehearse'
-rt try
+"$rt" try

@@ -12,7 +12,7 @@ copy_crates sources $crates
 add_crate calls tests/calls "$crates log"
 
 status=0
-rt try --test --seconds 2000 ${1:+-- "$1"} 2>&1 | tee "$folder/said" || status=$?
+"$rt" try --test --seconds 2000 ${1:+-- "$1"} 2>&1 | tee "$folder/said" || status=$?
 passed=$(passed_in "$folder/said")
 [ "$status" = 0 ] || { echo "rt try ended with status $status" >&2; exit 1; }
 [ "${passed:-0}" -gt 0 ] || { echo 'no test was run' >&2; exit 1; }

@@ -31,7 +31,7 @@ refused() {
     cd "$folder/crates/$crate"
     number=$(sed -nE 's/^const REFUSED: u32 = ([0-9]+);$/\1/p' "$1")
     expected=$(cat "$@" | grep -cE '^#\[test\]')
-    rt try --test --fail-alloc "$number" ${only:+-- "$only"} > "$folder/said" 2>&1 || status=$?
+    "$rt" try --test --fail-alloc "$number" ${only:+-- "$only"} > "$folder/said" 2>&1 || status=$?
     if [ "$status" != 0 ] || [ "$(passed_in "$folder/said")" != "$expected" ]; then
         cat "$folder/said"
         echo "FAILED: of $expected tests that have an allocation refused"

@@ -9,7 +9,6 @@ cd "$(dirname "$0")/.."
 needed=("$@")
 [ "$#" != 0 ] || mapfile -t needed < <(find crates -name 'tests.rt.in' | cut -d/ -f2 | sort -u)
 # shellcheck disable=SC2046
-rt=$PWD/building/rt
 copy_crates sources $(grep -oE '^[a-z0-9_]+' crates.txt)
 # its tests write records, which are their site's, and its code names neither
 sed -i 's/^mbox_rd:/& lmtp_text mbox_record/' "$folder/crates.txt"
