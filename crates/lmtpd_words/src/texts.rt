@@ -2,7 +2,7 @@
 //! status means.
 
 /// The program's version, and the toolchain that proves it, as `rt version` names it: `make toolchain` writes it here.
-pub const VERSION: &str = "0.1.0 (rattle-kit-13b, logic dac8208d650f15bf)";
+pub const VERSION: &str = "0.1.0 (rattle-kit-13f, logic dac8208d650f15bf)";
 
 /// The error for a bad folder.
 pub const BAD_FOLDER: &str =
