@@ -14,7 +14,7 @@ pub trait Gate {
 }
 
 /// Lets every copy through.
-#[derive(Clone, Copy, Debug, PartialEq, Eq)]
+#[derive(Clone, Copy, PartialEq, Eq)]
 pub struct OpenGate;
 
 impl Gate for OpenGate {

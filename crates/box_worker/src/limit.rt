@@ -7,7 +7,7 @@ ghost use Rattle.box_worker.specs.Limits.{Admits, missing};
 use mbox_spool::{Tail, what_mends};
 
 /// A quota of bytes, and how many stand in the mailbox by the worker's own count, which stays at 2^64 - 1.
-#[derive(Clone, Copy, Debug, PartialEq, Eq)]
+#[derive(Clone, Copy, PartialEq, Eq)]
 pub struct Limit {
     pub quota: u64,
     pub held: u64,

@@ -24,7 +24,7 @@ impl Display for Client {
 }
 
 /// A client, when its conversation began, and how many bytes came and went. Each count stays at its largest value.
-#[derive(Clone, Copy, Debug, PartialEq, Eq)]
+#[derive(Clone, Copy, PartialEq, Eq)]
 pub struct Traffic {
     pub client: Client,
     /// When the conversation began, by a clock that only rises; where there is none it is the largest moment there is.

@@ -16,7 +16,7 @@ use std::sync::Arc;
 use std::time::Duration;
 
 /// How much of a client one conversation may ask.
-#[derive(Clone, Copy, Debug, PartialEq, Eq)]
+#[derive(Clone, Copy, PartialEq, Eq)]
 pub struct Bounds {
     /// How many reads may be made.
     pub reads: u64,
@@ -189,7 +189,7 @@ impl<T, E: Drop> TcpPeer<T, E> {
 }
 
 /// What a wait for a client's bytes came to.
-#[derive(Clone, Copy, Debug, PartialEq, Eq)]
+#[derive(Clone, Copy, PartialEq, Eq)]
 enum Waited {
     /// Bytes stand in the buffer.
     Came,

@@ -16,7 +16,7 @@ use mail_world::limits::{NAME_LIMIT, PATH_LIMIT};
 use std::str::from_utf8;
 
 /// What a text begins with, and what follows that.
-#[derive(Clone, Copy)]
+#[derive(Clone, Copy, Debug)]
 pub(crate) struct Found<'a, T> {
     pub(crate) value: T,
     pub(crate) rest: &'a [u8],

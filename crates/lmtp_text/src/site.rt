@@ -48,7 +48,7 @@ impl From<AllocError> for SiteFault {
 /// may have, the byte that parts user and detail of a recipient's address, if one does, whether addresses may be in
 /// UTF-8, whether records have the marks in a message's head renamed, whether malformed messages are refused, whether
 /// copies over a quota are refused for good, and whether a recipient may be told that its mailbox is busy.
-#[derive(Debug, Drop)]
+#[derive(Drop)]
 pub struct Site {
     host: Vec<u8>,
     domains: Vec<Vec<u8>>,

@@ -39,7 +39,7 @@ impl<T: Task> Promise<Option<T::Output>> for Does<T> {
 }
 
 /// No thread could be made.
-#[derive(Clone, Copy, Debug)]
+#[derive(Clone, Copy)]
 pub struct Refused;
 
 /// Threads that have started, each with its task. The memory for their results is there.

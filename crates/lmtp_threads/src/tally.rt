@@ -1,7 +1,7 @@
 //! What a worker says of its run.
 
 /// What a worker did. Counts stay at their largest value.
-#[derive(Clone, Copy, Debug, PartialEq, Eq)]
+#[derive(Clone, Copy, PartialEq, Eq)]
 pub struct Tally {
     /// The copies that it took.
     pub taken: u64,

@@ -14,7 +14,7 @@ const LF: u8 = b'\n';
 const DOT: u8 = b'.';
 
 /// What a call of `Dot::feed` did.
-#[derive(Clone, Copy, Debug, PartialEq, Eq)]
+#[derive(Clone, Copy, PartialEq, Eq)]
 pub struct Fed {
     /// How many bytes of the piece were taken.
     pub used: usize,
@@ -25,7 +25,7 @@ pub struct Fed {
 }
 
 /// How much of the end of data came last.
-#[derive(Clone, Copy, Debug, PartialEq, Eq)]
+#[derive(Clone, Copy, PartialEq, Eq)]
 enum DataState {
     /// Nothing of it.
     InText,
@@ -40,7 +40,7 @@ enum DataState {
 }
 
 /// What a byte adds to the message, and where it leaves the data.
-#[derive(Clone, Copy, Debug, PartialEq, Eq)]
+#[derive(Clone, Copy, PartialEq, Eq)]
 enum Effect {
     Nothing(DataState),
     /// The byte itself.

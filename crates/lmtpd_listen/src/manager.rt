@@ -27,13 +27,13 @@ const TRIES: u32 = 20;
 const PAUSE_MS: u64 = 50;
 
 /// The service manager, where the environment names one.
-#[derive(Clone, Copy, Debug)]
+#[derive(Clone, Copy)]
 pub struct Manager {
     address: Option<Address>,
 }
 
 // Where it is told.
-#[derive(Clone, Copy, Debug)]
+#[derive(Clone, Copy)]
 struct Address {
     bytes: [u8; ADDRESS_SIZE],
     // the bytes of the name
@@ -41,7 +41,7 @@ struct Address {
 }
 
 /// What the manager is told.
-#[derive(Clone, Copy, Debug, PartialEq, Eq)]
+#[derive(Clone, Copy, PartialEq, Eq)]
 pub enum Told {
     Listening,
     Stopping,

@@ -28,7 +28,7 @@ pub(crate) struct Made<'a> {
 }
 
 /// Which file it is. A file that is made after another was removed may get its number, and is younger.
-#[derive(Clone, Copy, Debug, PartialEq, Eq)]
+#[derive(Clone, Copy, PartialEq, Eq)]
 pub(crate) struct Mark {
     dev: u64,
     ino: u64,

@@ -7,7 +7,7 @@ use crate::mailbox_line::MailboxLine;
 use box_worker::TurnEnd;
 
 /// How a turn finds the mailbox, by the ends of those before it.
-#[derive(Clone, Copy, Debug, Default)]
+#[derive(Clone, Copy, Default)]
 pub(crate) struct Condition {
     // the last one was missed
     is_in_use: bool,

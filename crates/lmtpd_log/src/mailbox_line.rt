@@ -5,7 +5,7 @@ use mbox_spool::{InUse, SpoolFault};
 use std::io;
 
 /// A line of a mailbox's log.
-#[derive(Clone, Copy, Debug, PartialEq, Eq)]
+#[derive(Clone, Copy, PartialEq, Eq)]
 pub enum MailboxLine {
     /// A turn was missed for that reason, and the one before wasn't.
     InUse(InUse),

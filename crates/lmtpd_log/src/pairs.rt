@@ -115,7 +115,7 @@ pub struct RefusedLine {
 }
 
 /// Why a recipient isn't known.
-#[derive(Clone, Copy, Debug, PartialEq, Eq)]
+#[derive(Clone, Copy, PartialEq, Eq)]
 pub enum Unknown {
     /// Its domain isn't served.
     Domain,
@@ -199,7 +199,7 @@ impl Display for Id {
 }
 
 /// A time in seconds, with three digits after the point.
-#[derive(Clone, Copy, Debug, Drop)]
+#[derive(Clone, Copy, Drop)]
 pub struct Seconds(pub Duration);
 
 impl Display for Seconds {

@@ -20,7 +20,7 @@ const TARGET: &str = "lmtpd";
 
 /// Writes each record to the standard error of a runtime, as a line of printable ASCII; with its priority before it
 /// where that is the journal.
-#[derive(Clone, Copy, Debug, Drop)]
+#[derive(Clone, Copy, Drop)]
 pub struct ErrorLines<R> {
     rt: R,
     is_journal: bool,

@@ -6,7 +6,7 @@ use std::fmt;
 use std::fmt::{Display, Formatter, Write};
 
 /// Shows what the value shows, with the priority of an error before each line.
-#[derive(Clone, Copy, Debug, Drop)]
+#[derive(Clone, Copy, Drop)]
 pub struct Urgent<D>(pub D);
 
 impl<D: Display> Display for Urgent<D> {

@@ -6,7 +6,7 @@ use lmtp_house::{Clock, SlowMailboxes};
 use std::sync::Wait;
 
 /// A clock that stands still.
-#[derive(Clone, Copy, Debug, PartialEq, Eq)]
+#[derive(Clone, Copy, PartialEq, Eq)]
 pub struct FixedClock {
     /// The seconds since 1970 that it always answers.
     pub moment: u32,

@@ -59,7 +59,7 @@ pub fn write_counts<W: Write>(
 
 /// The copies of a mailbox that an administrator is told of: those whose turn was missed while other programs had the
 /// mailbox locked, or those over the quota.
-#[derive(Clone, Copy, Debug, PartialEq, Eq)]
+#[derive(Clone, Copy, PartialEq, Eq)]
 pub enum Trouble {
     InUse,
     OverQuota,

@@ -26,7 +26,7 @@ const TELL_MS: u64 = 60_000;
 const NEVER: u64 = u64::MAX;
 
 /// What ends a server, beside the number of its conversations, and what ends each of these.
-#[derive(Clone, Copy, Debug, PartialEq, Eq)]
+#[derive(Clone, Copy, PartialEq, Eq)]
 pub struct Ends<'a> {
     /// The server ends in order once this file is there.
     pub stop_file: Option<&'a str>,

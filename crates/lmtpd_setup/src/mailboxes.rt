@@ -33,7 +33,7 @@ pub type ServedMailbox<R, G> = Watched<WaitingMailbox<R>, MailboxLog<LogSink<G>>
 
 /// Where mailboxes are, what their files have after their names, how many seconds a turn at one is waited for, the
 /// permission bits of a file that is made, and whether a mailbox is had though its file can't be opened.
-#[derive(Clone, Copy, Debug)]
+#[derive(Clone, Copy)]
 pub struct Access<'a> {
     pub folder: &'a str,
     pub suffix: &'a str,

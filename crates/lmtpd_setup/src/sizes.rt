@@ -10,7 +10,7 @@ use mail_world::limits::{BLOCK_LIMIT, CAPACITY_LIMIT, LANE_LIMIT};
 const LEAST: u32 = 1;
 
 /// A size that the words name, and the most that it may be.
-#[derive(Clone, Copy, Debug)]
+#[derive(Clone, Copy)]
 struct NamedSize {
     word: &'static str,
     has: u32,

@@ -18,7 +18,7 @@ use log::Level;
 use std::io::Write;
 
 /// How the program ends.
-#[derive(Clone, Copy, Debug, PartialEq, Eq)]
+#[derive(Clone, Copy, PartialEq, Eq)]
 pub struct Exit {
     pub status: u8,
     /// Whether a write to standard error failed; nothing was written after it.
@@ -27,7 +27,7 @@ pub struct Exit {
 
 /// Words that `clap` refuses or answers with help, a fault, a mailbox whose file can't be opened, alone or since its
 /// folder can't be read, or a file of mailboxes that can't be read.
-#[derive(Debug, Drop)]
+#[derive(Drop)]
 pub enum Stop<'a> {
     Words(Error),
     Fault(Fault),

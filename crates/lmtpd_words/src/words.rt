@@ -52,7 +52,7 @@ pub const MODE_DIGIT_LIMIT: usize = 4;
 pub const BOXES_FILE_LIMIT: usize = 65_536;
 
 /// The site that the words name.
-#[derive(Debug, Drop)]
+#[derive(Drop)]
 pub struct SiteWords<'a> {
     pub host: &'a str,
     pub domains: Vec<&'a str>,
@@ -81,7 +81,7 @@ pub struct SiteWords<'a> {
 }
 
 /// What a rehearsal is asked to do.
-#[derive(Debug, Drop)]
+#[derive(Drop)]
 pub struct RehearseWords<'a> {
     pub site: SiteWords<'a>,
     /// The moment of each delivery, in seconds since 1970.
@@ -93,7 +93,7 @@ pub struct RehearseWords<'a> {
 }
 
 /// What a server is asked to do.
-#[derive(Debug, Drop)]
+#[derive(Drop)]
 pub struct ServeWords<'a> {
     pub site: SiteWords<'a>,
     /// Where to listen, in text: an address and port, `unix:` and a path, or `inherited`.
@@ -137,14 +137,14 @@ pub struct ServeWords<'a> {
 }
 
 /// What a check is asked to do.
-#[derive(Debug, Drop)]
+#[derive(Drop)]
 pub struct CheckWords<'a> {
     /// The mailbox files, by their paths.
     pub files: Vec<&'a str>,
 }
 
 /// What a copy is asked to do.
-#[derive(Debug, Drop)]
+#[derive(Drop)]
 pub struct CopyWords<'a> {
     /// The mailbox's file, by its path.
     pub file: &'a str,
@@ -153,7 +153,7 @@ pub struct CopyWords<'a> {
 }
 
 /// What the program is asked to do.
-#[derive(Debug, Drop)]
+#[derive(Drop)]
 pub enum Words<'a> {
     Rehearse(RehearseWords<'a>),
     Serve(ServeWords<'a>),

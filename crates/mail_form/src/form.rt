@@ -22,7 +22,7 @@ const CR: u8 = b'\r';
 const SPACE: u8 = b' ';
 
 /// What is known of a message of which a part has come: 8 bytes, whatever has come.
-#[derive(Clone, Copy, Debug, PartialEq, Eq)]
+#[derive(Clone, Copy, PartialEq, Eq)]
 pub enum MessageForm {
     /// Nothing has come.
     Empty,

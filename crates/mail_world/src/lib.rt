@@ -52,7 +52,7 @@ pub struct Slip {
 }
 
 /// One copy of a message for one mailbox, as contracts see it.
-#[derive(Debug, Drop)]
+#[derive(Drop)]
 pub struct Note {
     pub txn: Txn,
     pub place: u32,
@@ -67,7 +67,7 @@ pub struct Note {
 
 /// What may happen in a server, one atomic step at a time. A step of a lane or of a worker has its number first; a
 /// mailbox has its worker's number.
-#[derive(Debug, Drop)]
+#[derive(Drop)]
 pub enum Event {
     /// The lane opens a draft.
     Begin(u32),

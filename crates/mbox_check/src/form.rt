@@ -11,7 +11,7 @@ use crate::state::{Effect, FormState, Part, effect_at, is_whole};
 use memchr::memchr2;
 
 /// How far the bytes that came have the form of a mailbox.
-#[derive(Clone, Copy, Debug)]
+#[derive(Clone, Copy)]
 pub(crate) struct FormCheck {
     // How many letters have begun, and how many bytes were taken; both stay at 2^64 - 1.
     letters: u64,

@@ -3,7 +3,7 @@ ghost use Rattle.std.specs.Prelude.{◌≡◌};
 ghost use Rattle.mbox_check.specs.States.{next_byte, longer_part, line_state, is_whole, effect_at};
 
 /// What a line has begun with of `From `, where it has begun with nothing else.
-#[derive(Clone, Copy, Debug)]
+#[derive(Clone, Copy)]
 pub(crate) enum Part {
     Nothing,
     F,
@@ -13,7 +13,7 @@ pub(crate) enum Part {
 }
 
 /// Where a reader stands.
-#[derive(Clone, Copy, Debug)]
+#[derive(Clone, Copy)]
 pub(crate) enum FormState {
     /// In the first line, which has to be a From line.
     Start(Part),
@@ -26,7 +26,7 @@ pub(crate) enum FormState {
 }
 
 /// What comes of a byte.
-#[derive(Clone, Copy, Debug)]
+#[derive(Clone, Copy)]
 pub(crate) enum Effect {
     To(FormState),
     /// A letter begins: `From ` is whole.

@@ -8,7 +8,7 @@ use std::os::unix::fs::MetadataExt;
 use std::{fs, io};
 
 /// Which file it is, of those that exist now.
-#[derive(Clone, Copy, Debug, PartialEq, Eq)]
+#[derive(Clone, Copy, PartialEq, Eq)]
 pub(crate) struct Node {
     dev: u64,
     ino: u64,
@@ -29,7 +29,7 @@ pub(crate) struct OpenNode<F: Drop> {
 }
 
 /// Which plain files are taken, and whether one is made where it is missing.
-#[derive(Clone, Copy, Debug)]
+#[derive(Clone, Copy)]
 pub(crate) enum Taken {
     /// One's own, where root asks. It is made with these permission bits.
     Own(u32),

@@ -17,7 +17,7 @@ const SLOW_SECONDS: u64 = 1;
 const CAUTION_SECONDS: u64 = 600;
 
 /// Since when lock files of other users aren't looked at: the owner of a file may have its opening wait.
-#[derive(Clone, Copy, Debug)]
+#[derive(Clone, Copy)]
 pub(crate) struct Caution {
     since: Option<Duration>,
 }

@@ -8,7 +8,7 @@ use std::marker::Model;
 
 /// A letter of a mailbox: what follows `From ` on its From line, and the lines after it, each with its LF and without
 /// the quoting.
-#[derive(Debug, Drop)]
+#[derive(Drop)]
 pub struct Letter {
     head: Vec<u8>,
     body: Vec<u8>,

@@ -11,7 +11,7 @@ const PROCESS_LIMIT: u32 = 2_147_483_647;
 const BLANKS: [char; 3] = [' ', '\t', '\n'];
 
 /// Who has a lock file, as far as this host can tell.
-#[derive(Clone, Copy, Debug, PartialEq, Eq)]
+#[derive(Clone, Copy, PartialEq, Eq)]
 pub enum Holder {
     /// Nobody who could be asked for: it names no process, or one of another host, or one that is gone and nobody knows
     /// whether the server's user said so.

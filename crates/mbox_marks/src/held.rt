@@ -7,7 +7,7 @@ use std::marker::Model;
 pub const HELD_LIMIT: usize = 15;
 
 /// Bytes at the beginning of a field, or a CR at that of a line.
-#[derive(Debug, Drop)]
+#[derive(Drop)]
 pub struct Held {
     bytes: [u8; HELD_LIMIT],
     len: usize,

@@ -53,7 +53,7 @@ enum Step {
 
 /// The first `at` bytes of a piece stay as they are. Either a mark stands there, or all bytes after these are held
 /// back.
-#[derive(Clone, Copy)]
+#[derive(Clone, Copy, Debug)]
 pub struct Found {
     pub at: usize,
     pub place: Place,

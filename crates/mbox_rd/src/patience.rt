@@ -20,7 +20,7 @@ const PAUSE_MS: u64 = 100;
 /// What decides how long the next turn is waited for: how long turns were waited for within this minute, which begins
 /// with the first that was, and whether one was missed within the last. A wait is all that passes from a turn's first
 /// call to its lock, since any of these calls may be held up.
-#[derive(Clone, Copy, Debug)]
+#[derive(Clone, Copy)]
 pub(crate) struct Patience {
     // a turn was missed, and no minute has passed since
     was_missed: bool,

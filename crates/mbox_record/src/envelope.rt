@@ -9,7 +9,7 @@ use std::marker::Model;
 
 /// The reverse path, the client's name, whether the message came as one in UTF-8, the transaction and the moment of a
 /// delivery. Its texts lie in the value itself.
-#[derive(Debug, Drop)]
+#[derive(Drop)]
 pub struct Envelope {
     sender: SmallVec<u8, 256>,
     client: SmallVec<u8, 256>,

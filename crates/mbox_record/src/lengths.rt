@@ -12,7 +12,7 @@ const HEAD_END: &[u8] = b"\r\n\r\n";
 /// How many bytes a message's text has in its record, with LF for CRLF, one more `>` before each From line, and the
 /// empty line after it: where the marks of its head stay, and where `X-Was-` stands before each of them. A count stays
 /// at 2^64 - 1.
-#[derive(Clone, Copy, Debug, PartialEq, Eq)]
+#[derive(Clone, Copy, PartialEq, Eq)]
 pub struct Lengths {
     pub plain: u64,
     pub marked: u64,
@@ -35,7 +35,7 @@ impl Lengths {
 
 /// Counts both lengths of a message that comes in pieces. It keeps no bytes but the 15 that a writer holds back at
 /// most. Past the message's head both grow alike.
-#[derive(Debug, Drop)]
+#[derive(Drop)]
 pub struct LengthCounter {
     plain: QuotedText,
     marked: RecordWriter,

@@ -24,7 +24,7 @@ mod counting;
 
 /// Writes the record of a message that comes in pieces. Of the message it holds back 15 bytes at most: a CR, a prefix
 /// of a line's `From `, or the beginning of a field that may be a mark.
-#[derive(Debug, Drop)]
+#[derive(Drop)]
 pub struct RecordWriter {
     quoted: QuotedText,
     place: Place,

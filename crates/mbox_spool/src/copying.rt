@@ -8,7 +8,7 @@ use crate::lines::{BLOCK, has_from_line, next_lines};
 pub const LINES_ROOM: usize = BLOCK;
 
 /// How many bytes of text `copy_lines` made, and in place of how many of the first ones of a piece.
-#[derive(Clone, Copy, Debug)]
+#[derive(Clone, Copy)]
 pub struct Copied {
     pub made: usize,
     pub taken: usize,

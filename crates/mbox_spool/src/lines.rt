@@ -12,7 +12,7 @@ use std::simd::prelude::*;
 pub(crate) const BLOCK: usize = 64;
 
 // How many bytes are written in place of the first `taken` ones of a piece.
-#[derive(Clone, Copy, Debug)]
+#[derive(Clone, Copy)]
 pub(crate) struct Lines {
     pub(crate) len: usize,
     pub(crate) taken: usize,

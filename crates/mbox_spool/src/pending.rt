@@ -31,7 +31,7 @@ pub(crate) enum Pending {
 
 // What comes of a prefix of a piece: its first `len` bytes as they are, then `extra`, in place of its first `taken`
 // bytes.
-#[derive(Clone, Copy, Debug)]
+#[derive(Clone, Copy)]
 pub(crate) struct Step {
     pub(crate) len: usize,
     pub(crate) taken: usize,
@@ -70,7 +70,7 @@ impl Step {
 }
 
 // A line that is written as it is: the first `len` bytes of a piece, in place of its first `taken` bytes.
-#[derive(Clone, Copy, Debug)]
+#[derive(Clone, Copy)]
 pub(crate) struct Run {
     pub(crate) len: usize,
     pub(crate) taken: usize,

@@ -18,7 +18,7 @@ use crate::spool::{Spool, SpoolFault};
 use std::marker::Model;
 
 /// A text that comes in pieces. A CR is held back, or a prefix of a line's `From `, and no bytes of the text are kept.
-#[derive(Clone, Copy, Debug)]
+#[derive(Clone, Copy)]
 pub struct QuotedText {
     pending: Pending,
 }

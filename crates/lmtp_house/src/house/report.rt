@@ -14,7 +14,7 @@ pub fn has_failed(tallies: &[Tally]) -> bool
 }
 
 /// How many blocks there are for messages on their way, and how many of these there may be.
-#[derive(Clone, Copy, Debug, PartialEq, Eq)]
+#[derive(Clone, Copy, PartialEq, Eq)]
 pub struct Room {
     pub blocks: u32,
     pub slots: u32,

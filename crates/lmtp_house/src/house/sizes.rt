@@ -7,7 +7,7 @@ use lmtp_text::Site;
 use mail_world::limits::{BLOCK_LIMIT, CAPACITY_LIMIT, LANE_LIMIT, SLOT_LIMIT};
 
 /// The sizes that are chosen when a server starts.
-#[derive(Clone, Copy, Debug, PartialEq, Eq)]
+#[derive(Clone, Copy, PartialEq, Eq)]
 pub struct Sizes {
     /// Blocks of `BLOCK_SIZE` bytes for the messages on their way, 1 to 65,536.
     pub blocks: u32,

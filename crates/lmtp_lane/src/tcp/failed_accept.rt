@@ -7,7 +7,7 @@ ghost use Rattle.lmtp_lane.specs.Accepts.{first_of, is_broken, is_passing, is_re
 use std::io::Error;
 
 /// Why an accept failed, by when the next one is made.
-#[derive(Clone, Copy, Debug, PartialEq, Eq)]
+#[derive(Clone, Copy, PartialEq, Eq)]
 pub(super) enum FailedAccept {
     /// What listens doesn't any more: there is no next one.
     Broken,
