@@ -1,6 +1,6 @@
 //! The names of a site's mailboxes in their order, each found by a hash.
 
-ghost use Rattle.std.specs.Prelude.{◌≡◌, ◌<◌, [], ◌∷◌, ◌++◌, length, not, position, true, false, IfOk, IfSome, OnErr};
+ghost use Rattle.std.specs.Prelude.{◌≡◌, ◌<◌, [], ◌∷◌, ◌++◌, length, not, position, true, false, IfOk, IfSome};
 ghost use Rattle.std.specs.Prelude.{slice_get, unwrap_or, is_some};
 ghost use Rattle.std.specs.List.{list_all};
 ghost use Rattle.mail_world.specs.Site.{has_text, has_twice, is_box_name};

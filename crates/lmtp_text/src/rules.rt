@@ -5,7 +5,8 @@ ghost use Rattle.std.specs.List.{list_all};
 ghost use Rattle.std.specs.Str.{byte};
 ghost use Rattle.mail_world.specs.Text.{begins};
 ghost use Rattle.mail_world.specs.Grammar.{is_between};
-ghost use Rattle.mail_world.specs.Site.{is_host_name, is_domain_name, is_box_name, has_text, has_twice, fault_of, NamedTwice};
+ghost use Rattle.mail_world.specs.Site.{is_host_name, is_domain_name, is_box_name, has_text, has_twice, fault_of};
+ghost use Rattle.mail_world.specs.Site.{NamedTwice};
 ghost use Rattle.lmtp_text.specs.Sites.{texts, site_of, cause, is_of_host_name, is_of_box_name};
 
 use crate::names::is_any_domain;
@@ -84,7 +85,7 @@ fn has_text(names: &[&[u8]], text: &[u8]) -> bool
     names.iter().any(|name| *name == text)
 }
 
-/// Two of these names are the same. It compares each with each: where no memory is left.
+/// Two of these names are the same. It takes no memory, and compares each with each: it is for where memory is lacking.
 pub(crate) fn has_twice(names: &[&[u8]]) -> bool
     ensures { result ≡ has_twice (texts names.now) }
 {

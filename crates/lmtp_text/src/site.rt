@@ -116,7 +116,7 @@ fn copied(alloc: Global, names: &[&[u8]]) -> Result<Vec<Vec<u8>>, AllocError>
     Ok(all)
 }
 
-// The names of a site's mailboxes.
+// The names of a site's mailboxes. That two are the same comes before lack of memory.
 fn names_of(alloc: Global, boxes: &[&[u8]]) -> Result<BoxNames, SiteFault>
     requires { list_all is_box_name (texts boxes.now) ≡ true }
     ensures made { IfOk result (λ names. names ≡ texts boxes.now) }
