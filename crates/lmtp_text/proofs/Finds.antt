@@ -1,37 +1,18 @@
 -- The mailbox of a target, from the place of its name or of its user's.
-use Rattle.std.proofs.Common.{◌≡◌, ℕ, Bool, true, false, List, [], ◌∷◌, length, Option, Some, None, refl, sym, ◌∙◌, Vec, Global}
-use Rattle.std.specs.Prelude.{codes, position, not}
-use Rattle.std.specs.List.{prefix_len}
+use Rattle.std.proofs.Common.{◌≡◌, ℕ, Bool, true, false, List, Option, Some, None, refl, sym, ◌∙◌}
+use Rattle.std.specs.Prelude.{codes, position}
 use Rattle.mail_world.specs.Site.{Site}
 use Rattle.mail_world.specs.Grammar.{Target}
 use Rattle.mail_world.specs.Commands.{is_word}
 use Rattle.mail_world.specs.Targets.{box_of, box_named, box_or, is_here, local_name, user_of}
-use Rattle.lmtp_text.specs.Sites.{owned}
 
-prefix_len-owned : (p : List ℕ → Bool) (names : List (Vec ℕ Global)) → prefix_len p (owned names) ≡ prefix_len (λ name. p name.items) names
-prefix_len-owned p [] = refl
-prefix_len-owned p (x ∷ xs) = rw (prefix_len-owned p xs) refl
-
-length-owned : (names : List (Vec ℕ Global)) → length (owned names) ≡ length names
-length-owned [] = refl
-length-owned (x ∷ xs) = rw (length-owned xs) refl
-
-position-owned : (p : List ℕ → Bool) (names : List (Vec ℕ Global)) → position p (owned names) ≡ position (λ name. p name.items) names
-position-owned p names = rw (prefix_len-owned (λ name. not (p name)) names, length-owned names) refl
-
-box_named-is : (boxes : List (List ℕ)) (name : List ℕ) (postmaster : Bool) (place : Option ℕ)
-    → position (λ box. is_word box name) boxes ≡ place → postmaster ≡ is_word (codes "postmaster") name
-    → box_named boxes name ≡ box_or postmaster place
-box_named-is boxes name postmaster place e f = rw (e, f) refl
-
--- the mailbox of a name, where the names are owned and the place of that name was found among them
-pub box_named-placed : (boxes : List (List ℕ)) (names : List (Vec ℕ Global)) (name : List ℕ) (postmaster : Bool) (found place : Option ℕ) → owned names ≡ boxes
-    → found ≡ position (λ text. is_word text.items name) names → found ≡ place → postmaster ≡ is_word (codes "postmaster") name
+-- the mailbox of a name, from the place that was found for it among the names
+pub box_named-placed : (boxes names : List (List ℕ)) (name : List ℕ) (postmaster : Bool) (found place : Option ℕ) → names ≡ boxes
+    → found ≡ position (λ box. is_word box name) names → found ≡ place → postmaster ≡ is_word (codes "postmaster") name
     → box_named boxes name ≡ box_or postmaster place
 box_named-placed boxes names name postmaster found place held e f g =
-    let there : position (λ box. is_word box name) boxes ≡ place =
-    rw (← held) (position-owned (λ box. is_word box name) names ∙ sym e ∙ f) in
-    box_named-is boxes name postmaster place there g
+    let there : position (λ box. is_word box name) boxes ≡ place = rw (← held) (sym e ∙ f) in
+    rw (there, g) refl
 
 -- the mailbox of a target at the site, by its name, and by its user where the name has none
 pub box_of-named : (site : Site) (t : Target) (found : Option ℕ) (n : ℕ) → is_here site t.domain ≡ true

@@ -1,7 +1,8 @@
 pub mod SiteRules
+pub mod Users
 pub mod WordSteps
 pub mod Finds
-pub mod Users
+pub mod BoxPlaces
 pub mod TextLists
 pub mod CommandCuts
 pub mod ParameterLists

@@ -1,10 +1,9 @@
 -- What follows from the rules of a site.
-use Rattle.std.proofs.Common.{◌≡◌, ℕ, zero, suc, ◌≤◌, Bool, true, false, List, [], ◌∷◌, length, Option, Some, None, refl, arith, cond, Vec, Global}
+use Rattle.std.proofs.Common.{◌≡◌, ℕ, zero, suc, ◌≤◌, Bool, true, false, List, [], ◌∷◌, length, Option, Some, None, refl, arith, cond}
 use Rattle.std.proofs.lemmas.Bool.Decides.{nat_tests}
 use Rattle.std.specs.Prelude.{slice_get, unwrap_or, not, ◌&&◌, ◌||◌, ◌==◌, nat_lt}
 use Rattle.std.specs.List.{list_all}
 use Rattle.mail_world.specs.Site.{Site, Fault, BadHost, BadDomain, BadCount, BadBox, NamedTwice, IsSite, box_name, is_box_name, has_twice, is_host_name, is_domain_name}
-use Rattle.lmtp_text.specs.Sites.{owned}
 use Rattle.mail_world.specs.declared.limits.TheConstants.{BOX_NAME_LIMIT, BOX_LIMIT}
 
 no_fault : (b : Bool) (fault : Fault) (rest : Option Fault) → cond b (Some fault) rest ≡ None → (b ≡ false) × (rest ≡ None)
@@ -26,11 +25,11 @@ boxes_named site sound =
     let count = no_fault ((length site.boxes == 0) || nat_lt BOX_LIMIT (length site.boxes)) BadCount named domains.1 in
     were_true (list_all is_box_name site.boxes) (no_fault (not (list_all is_box_name site.boxes)) BadBox twice count.1).0
 
-prefix_true : (a b : Bool) → (a && b) ≡ true → (a ≡ true) × (b ≡ true)
+pub prefix_true : (a b : Bool) → (a && b) ≡ true → (a ≡ true) × (b ≡ true)
 prefix_true true b e = (refl, e)
 prefix_true false b e = cc
 
-name_size : (text : List ℕ) → is_box_name text ≡ true → length text ≤ BOX_NAME_LIMIT
+pub name_size : (text : List ℕ) → is_box_name text ≡ true → length text ≤ BOX_NAME_LIMIT
 name_size text e = grind (arith, nat_tests, prefix_true)
 
 name_in : (names : List (List ℕ)) (i : ℕ) → list_all is_box_name names ≡ true → length (unwrap_or (slice_get names i) []) ≤ BOX_NAME_LIMIT
@@ -41,9 +40,3 @@ name_in (x ∷ xs) (suc i) e = name_in xs i (prefix_true _ _ e).1
 -- a mailbox's name has a bounded length, and so has that of no mailbox
 pub box_name-bounded : (site : Site) (i : ℕ) → IsSite site → length (box_name site i) ≤ BOX_NAME_LIMIT
 box_name-bounded site i sound = name_in site.boxes i (boxes_named site sound)
-
--- after the last mailbox there is no name
-pub owned-past : (names : List (Vec ℕ Global)) (i : ℕ) → length names ≤ i → [] ≡ unwrap_or (slice_get (owned names) i) []
-owned-past [] i h = refl
-owned-past (x ∷ xs) zero h = absurd (omega arith)
-owned-past (x ∷ xs) (suc i) h = owned-past xs i (omega arith)

@@ -25,7 +25,7 @@ no_backslash c b known e = grind (arith, nat_tests)
 drop_pair : (b : ℕ) (text : List ℕ) (escaped : Bool) → (not escaped && (b == 92)) ≡ true → unescaped escaped (b ∷ text) ≡ unescaped true text
 drop_pair b text escaped e = rw e refl
 
-keep_byte : (b : ℕ) (text : List ℕ) (escaped : Bool) → (not escaped && (b == 92)) ≡ false → unescaped escaped (b ∷ text) ≡ b ∷ unescaped false text
+pub keep_byte : (b : ℕ) (text : List ℕ) (escaped : Bool) → (not escaped && (b == 92)) ≡ false → unescaped escaped (b ∷ text) ≡ b ∷ unescaped false text
 keep_byte b text escaped e = rw e refl
 
 no_pair : (escaped t : Bool) → t ≡ false → (not escaped && t) ≡ false

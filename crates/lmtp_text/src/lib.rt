@@ -5,6 +5,7 @@
 #![tactic(auto)]
 
 mod alphabet;
+mod box_names;
 mod command;
 mod cut;
 mod names;

@@ -1,6 +1,6 @@
 //! Whether a name is a word, whatever the case of its letters (RFC 5321, 2.4).
 
-ghost use Rattle.std.specs.Prelude.{◌≡◌, ◌==◌, false, position};
+ghost use Rattle.std.specs.Prelude.{◌≡◌, ◌==◌, false};
 ghost use Rattle.std.specs.List.{before_first, list_any};
 ghost use Rattle.mail_world.specs.Commands.{is_word};
 ghost use Rattle.mail_world.specs.Targets.{unescaped, local_name, is_listed_as};
@@ -72,13 +72,6 @@ pub(crate) fn is_listed(domain: &[u8], domains: &[Vec<u8>]) -> bool
     ensures { result ≡ list_any (is_listed_as domain.now) (owned domains.now) }
 {
     domains.iter().any(|name| is_listed_as(domain, name))
-}
-
-/// The first of these names that the target's local part is.
-pub(crate) fn named_at(target: &Target, boxes: &[Vec<u8>]) -> Option<usize>
-    ensures { result ≡ position (λ name. is_word name.items (local_name (seen_target target.now))) boxes.now }
-{
-    boxes.iter().position(|name| names(target, name))
 }
 
 /// The target with what stands before the first delimiter of its local part in place of that, or the same where it has

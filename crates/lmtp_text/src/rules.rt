@@ -1,11 +1,12 @@
 //! The rules for what a site is named and serves.
 
-ghost use Rattle.std.specs.Prelude.{◌≡◌, length, option_map};
+ghost use Rattle.std.specs.Prelude.{◌≡◌, length, option_map, IfSome, IfNone, Some, None, if◌then◌else◌, true};
 ghost use Rattle.std.specs.List.{list_all};
 ghost use Rattle.std.specs.Str.{byte};
 ghost use Rattle.mail_world.specs.Text.{begins};
 ghost use Rattle.mail_world.specs.Grammar.{is_between};
 ghost use Rattle.mail_world.specs.Site.{is_host_name, is_domain_name, is_box_name, has_text, has_twice, fault_of};
+ghost use Rattle.mail_world.specs.Site.{NamedTwice};
 ghost use Rattle.lmtp_text.specs.Sites.{texts, site_of, cause, is_of_host_name, is_of_box_name};
 
 use crate::names::is_any_domain;
@@ -84,7 +85,8 @@ fn has_text(names: &[&[u8]], text: &[u8]) -> bool
     names.iter().any(|name| *name == text)
 }
 
-fn has_twice(names: &[&[u8]]) -> bool
+/// Two of these names are the same. It takes no memory, and compares each with each: it is for where memory is lacking.
+pub(crate) fn has_twice(names: &[&[u8]]) -> bool
     ensures { result ≡ has_twice (texts names.now) }
 {
     match names {
@@ -93,9 +95,13 @@ fn has_twice(names: &[&[u8]]) -> bool
     }
 }
 
-/// The first rule that a site of these names would break.
+/// The first rule but `Twice` that a site of these names would break.
 pub(crate) fn first_fault(host: &[u8], domains: &[&[u8]], boxes: &[&[u8]]) -> Option<SiteFault>
-    ensures { result ≡ option_map cause (fault_of (site_of host.now domains.now boxes.now)) }
+    ensures some { IfSome result (λ fault.
+        option_map cause (fault_of (site_of host.now domains.now boxes.now)) ≡ Some fault) }
+    ensures none { IfNone result (fault_of (site_of host.now domains.now boxes.now)
+        ≡ (if has_twice (texts boxes.now) then Some NamedTwice else None)) }
+    ensures named { IfNone result (list_all is_box_name (texts boxes.now) ≡ true) }
 {
     if !is_host_name(host) {
         Some(SiteFault::Host)
@@ -105,8 +111,6 @@ pub(crate) fn first_fault(host: &[u8], domains: &[&[u8]], boxes: &[&[u8]]) -> Op
         Some(SiteFault::Count)
     } else if !are_box_names(boxes) {
         Some(SiteFault::Box)
-    } else if has_twice(boxes) {
-        Some(SiteFault::Twice)
     } else {
         None
     }

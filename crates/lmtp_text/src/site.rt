@@ -1,16 +1,18 @@
 //! What a server is named and serves.
 
 ghost use Rattle.std.specs.Prelude.{◌≡◌, ◌≤◌, ◌<◌, [], Some, None, length, slice_get, unwrap_or, option_map, IfOk};
-ghost use Rattle.std.specs.Prelude.{IfErr, IfSome, true};
+ghost use Rattle.std.specs.Prelude.{IfErr, IfSome, true, false};
+ghost use Rattle.std.specs.List.{list_all};
 ghost use Rattle.mail_world.specs.Site.{Fault, IsSite, IsDelimiter, IsMessageLimit, fault_of, box_name, is_delimiter};
-ghost use Rattle.mail_world.specs.Site.{extensions_of};
+ghost use Rattle.mail_world.specs.Site.{extensions_of, is_box_name, has_twice};
 ghost use Rattle.mail_world.specs.Targets.{is_here, box_named, box_of, local_name, user_of};
 ghost use Rattle.lmtp_text.specs.Seen.{seen_target};
 ghost use Rattle.lmtp_text.specs.Sites.{texts, site_of, cause, owned};
 
+use crate::box_names::BoxNames;
 use crate::command::Target;
-use crate::names::{is_listed, is_word, named_at, names, user_of};
-use crate::rules::first_fault;
+use crate::names::{is_listed, is_word, names, user_of};
+use crate::rules::{first_fault, has_twice};
 use mail_world::Extensions;
 use mail_world::limits::{BOX_LIMIT, BOX_NAME_LIMIT, MESSAGE_LIMIT, NAME_LIMIT};
 use std::alloc::{AllocError, Global};
@@ -52,7 +54,7 @@ impl From<AllocError> for SiteFault {
 pub struct Site {
     host: Vec<u8>,
     domains: Vec<Vec<u8>>,
-    boxes: Vec<Vec<u8>>,
+    boxes: BoxNames,
     message_limit: u32,
     recipient_delimiter: Option<u8>,
     utf8: bool,
@@ -79,7 +81,7 @@ impl Model for Site {
     ghost view = { λ s. record {
       host = s.host.items;
       domains = owned s.domains.items;
-      boxes = owned s.boxes.items;
+      boxes = s.boxes;
       message_limit = s.message_limit;
       recipient_delimiter = s.recipient_delimiter;
       utf8 = s.utf8;
@@ -93,7 +95,7 @@ impl Model for Site {
         (record {
           host = s.host.items;
           domains = owned s.domains.items;
-          boxes = owned s.boxes.items;
+          boxes = s.boxes;
           message_limit = s.message_limit;
           recipient_delimiter = s.recipient_delimiter;
           utf8 = s.utf8;
@@ -114,12 +116,19 @@ fn copied(alloc: Global, names: &[&[u8]]) -> Result<Vec<Vec<u8>>, AllocError>
     Ok(all)
 }
 
-fn name_at(names: &[Vec<u8>], i: usize) -> &[u8]
-    ensures { result.now ≡ unwrap_or (slice_get (owned names.now) i) [] }
+// The names of a site's mailboxes. That two are the same comes before lack of memory.
+fn names_of(alloc: Global, boxes: &[&[u8]]) -> Result<BoxNames, SiteFault>
+    requires { list_all is_box_name (texts boxes.now) ≡ true }
+    ensures made { IfOk result (λ names. names ≡ texts boxes.now) }
+    ensures once { IfOk result (λ names. has_twice (texts boxes.now) ≡ false) }
+    ensures twice { has_twice (texts boxes.now) ≡ true → result ≡ Err SiteFault.Twice }
+    ensures whole { has_twice (texts boxes.now) ≡ false → IfErr result (λ fault. fault ≡ SiteFault.Memory) }
 {
-    match names.get(i) {
-        Some(name) => name,
-        None => b"",
+    match BoxNames::of(alloc, boxes) {
+        Ok(Some(names)) => Ok(names),
+        Ok(None) => Err(SiteFault::Twice),
+        Err(_) if has_twice(boxes) => Err(SiteFault::Twice),
+        Err(_) => Err(SiteFault::Memory),
     }
 }
 
@@ -144,9 +153,9 @@ impl Site {
         if let Some(fault) = first_fault(host, domains, boxes) {
             return Err(fault);
         }
+        let boxes = names_of(alloc, boxes)?;
         let host = host.to_vec(alloc)?;
         let domains = copied(alloc, domains)?;
-        let boxes = copied(alloc, boxes)?;
         Ok(Site {
             host,
             domains,
@@ -315,7 +324,7 @@ impl Site {
         ensures value { result.now ≡ box_name self.now i }
         ensures size { length result.now ≤ BOX_NAME_LIMIT }
     {
-        name_at(&self.boxes, i as usize)
+        self.boxes.at(i as usize)
     }
 
     /// The number of the mailbox that a recipient's address means, counted from 0 (RFC 5321, 4.5.1 for `postmaster`).
@@ -351,7 +360,7 @@ impl Site {
         ensures value { result ≡ box_named self.now.boxes (local_name (seen_target target.now)) }
         ensures known { IfSome result (λ n. n < length self.now.boxes) }
     {
-        match named_at(target, &self.boxes) {
+        match self.boxes.place_of(target) {
             Some(n) => Some(n as u32),
             None if names(target, b"postmaster") => Some(0),
             None => None,
