@@ -1,6 +1,6 @@
 -- Why a server didn't run: its size, or what came only once its size was good.
 use Rattle.std.proofs.Common.{◌≡◌, ◌⊎◌, inl, inr, ℕ, ◌<◌, ◌≤◌, Bool, true, false, None, refl, ap, arith}
-use Rattle.std.specs.Prelude.{ltb, Err, Result}
+use Rattle.std.specs.Prelude.{ltb, Err, Ok, Result}
 use Rattle.std.proofs.lemmas.Bool.{ltb-true, ltb-false}
 use Rattle.mail_world.specs.declared.limits.TheConstants.{BLOCK_LIMIT}
 use Rattle.lmtp_house.specs.declared.house.fault.HouseFault.{HouseFault}
@@ -73,3 +73,15 @@ not_rehearsed {X} words cause sound only size =
       | inl memory ↦ inl memory
       | inr not_run ↦ inr (inr (sound, not_run))
     ]
+
+ok_is_no_error : {X : Type 0} (x : X) (cause : HouseFault) → (◌≡◌ {A = Result X HouseFault} (Ok x) (Err cause)) → ⊥
+ok_is_no_error x cause e = cc
+
+-- what ran had a good number of blocks
+pub good_where_it_ran : {X : Type 0} (x : X) (Good : Type 0) → Good ⊎ (Good → ⊥)
+    → ((Good → ⊥) → (◌≡◌ {A = Result X HouseFault} (Ok x) (Err house.Size)) ⊎ (◌≡◌ {A = Result X HouseFault} (Ok x) (Err house.Memory)))
+    → Good
+good_where_it_ran x Good good size = after Good good (λ bad. elim (size bad) [
+  | inl e ↦ ok_is_no_error x house.Size e
+  | inr e ↦ ok_is_no_error x house.Memory e
+])
