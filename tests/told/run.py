@@ -126,30 +126,11 @@ def where_a_goal_is_told(folder):
 
 @case
 def an_answer_that_does_not_follow(folder):
-    """a goal counts whose answer is a search for a proof by numbers that finds none, or one that stops at its limit and
-    knows values at which the goal fails; one that stops and knows none doesn't count"""
-    line = "./proofs/files/check_each/Answers.antt:5:5: error: `returns-then-is_err`: "
-    stopped = "`grind` stopped at its own limit of instances of lemmas, so the goal may hold."
-    for text, met in [
-        ("`omega`: the goal does not follow from what it read.", told.REFUSED),
-        (f"{stopped} By the facts that it had used, the goal fails at `c.args.line.now` = `x`\n  `y` = `z`", told.REFUSED),
-        (stopped, told.ELSEWHERE),
-    ]:
-        room = Recorded(folder, "another_statement")
-        room.left = ["1", f"{line}{text}\nonly=1 proved=0"]
-        equal((text, room.try_one(room.edit)[0]), (text, met))
-
-
-@case
-def an_answer_that_looks_for_what_is_gone(folder):
-    """an answer that rewrites by what the goal hasn't any more is set aside as one is that names it"""
-    room = Recorded(folder, "dropped_call")
-    gone = r"record `[^`]*` has no field `\w+`( \(nearest: [^)]*\))?"
-    looks = "`rw`: no occurrence of the path's left endpoint in the goal: write the family yourself"
-    status, said, *left = room.left
-    room.left = [status, re.sub(gone, looks, said), *left]
-    equal("has no field" in room.left[1], False)
-    equal(room.try_one(room.edit), (told.REFUSED, "check_each, returns-then-is_err (not proved), without its answer"))
+    """a goal counts whose answer is a search for a proof by numbers that finds none"""
+    room = Recorded(folder, "another_statement")
+    line = "./proofs/files/check_each/Answers.antt:5:5: error: `returns-then-is_err`: `omega`: the goal does not follow"
+    room.left = ["1", f"{line} from what it read.\nonly=1 proved=0"]
+    equal(room.try_one(room.edit), (told.REFUSED, "check_each, returns-then-is_err (not proved)"))
 
 
 @case

@@ -32,8 +32,8 @@ OPEN = "not proved"
 NO_GOALS = r"does not cover this function yet|[:;] it calls|which (has no proof|is not proved)"
 # a text that can't be read says nothing of a contract
 UNREAD = r"is not in scope|has no field|is no name|operand is missing|expected the end|cannot continue"
-# nor does a proof that names what the wrong body took away, or looks for it in the goal, or what cites such a proof
-NAMES = r"has no field|is not in scope|has no `|is no name|was not admitted|no occurrence of the path's"
+# nor does a proof that names what the wrong body took away, or what cites such a proof
+NAMES = r"has no field|is not in scope|has no `|is no name|was not admitted"
 # a goal's name; that of a lemma beside it has no sign but `_`
 GOAL = r"`(returns|[^`\s.]+-[^`\s.]+)`"
 ASKED = rf"note: (?:\./)?(src/\S+?):(\d+):\d+: (?:it is not proved that|`search` found no proof) .*?\({GOAL}\)(.*)"
@@ -41,7 +41,7 @@ ANSWER = r"(?:\./)?proofs/(\S+)/(Answers|Invariants)\.antt:\d+:\d+: error: (.*)"
 STATEMENT = rf"note: {GOAL} of (?:\./)?proofs/(\S+)/Answers\.antt must prove: (.*)"
 DEFINED = r"(?:abbrev )?(?:pub )?"
 DIFFERS = r"\bthe two (types|sides)\b|\bbut this has type\b"
-NOT_FOUND = r"\bno proof of\b|\bthe goal does not follow\b|\bstopped at its own limit\b.*\bthe goal fails at\b"
+NOT_FOUND = r"\bno proof of\b|\bthe goal does not follow\b"
 
 
 class Unmet(typing.NamedTuple):
