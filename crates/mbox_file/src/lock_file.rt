@@ -2,7 +2,10 @@
 use crate::plain::{Node, OpenNode};
 use std::fs::{FileTimes, OpenFile};
 use std::io;
-use std::time::{Clock, SystemTime, UNIX_EPOCH};
+use std::time::{Clock, Duration, SystemTime, UNIX_EPOCH};
+
+/// For how many seconds after a try it isn't tried again to make what lock files are linked from.
+const TRY_SECONDS: u64 = 60;
 
 /// A server's own lock file.
 #[derive(Drop)]
@@ -21,6 +24,33 @@ impl<F: Drop> Held<F> {
             Held::Linked(node) => Some(*node),
             Held::Made(own) => Some(own.node),
         }
+    }
+}
+
+/// The tries to make what lock files are linked from: where another server has left its own there, one succeeds some
+/// day.
+#[derive(Clone, Copy)]
+pub(crate) enum SourceTries {
+    /// There is none: lock files are made, and not linked.
+    Never,
+    NotYet,
+    /// The last was at this time.
+    Last(Duration),
+}
+
+impl SourceTries {
+    /// Whether it is to be tried at this time, which is noted then. A clock that tells no time has the first try alone.
+    pub fn begin(&mut self, now: io::Result<Duration>) -> bool {
+        let now = now.unwrap_or(Duration::ZERO);
+        let is_due = match *self {
+            SourceTries::Never => false,
+            SourceTries::NotYet => true,
+            SourceTries::Last(last) => now.saturating_sub(last).as_secs() >= TRY_SECONDS,
+        };
+        if is_due {
+            *self = SourceTries::Last(now);
+        }
+        is_due
     }
 }
 

@@ -1,7 +1,7 @@
 //! A mailbox's file in the file system, beside its lock file: what the system is asked, and what it answers.
 //!
 //! A lock file is linked from one that is made at the first turn and stays, `PATH.source.lock`: to make a file and
-//! write to it for each turn takes ten times as long. Where there can be no link it is made.
+//! write to it for each turn takes ten times as long. Where there is none to link it from it is made.
 ghost use Rattle.std.specs.Prelude.{◌≡◌, ◌≤◌, true, false, IfOk, OnOk, OnErr, length, take};
 ghost use Rattle.std.specs.Io.{ReadsAtMost};
 ghost use Rattle.std.specs.Io.KnownBytes.{Appends, ReadConsumes};
@@ -11,7 +11,7 @@ ghost use Rattle.mbox_file.specs.Told.{IsEndBy};
 
 use crate::entry::Entry;
 use crate::file::{FileEnd, open_folder, read_end};
-use crate::lock_file::{Held, LockSource};
+use crate::lock_file::{Held, LockSource, SourceTries};
 use crate::plain::{
     Node, OpenNode, Taken, is_same, names_plain, node_of, open_plain, remove_node, remove_open,
     system_fault,
@@ -40,8 +40,7 @@ pub(crate) struct SystemFile<R: Files + Clock + Drop> {
     owner: String,
     source_path: String,
     source: Option<LockSource<R::File>>,
-    // lock files are linked from one that stays, which no turn has tried to make yet
-    awaits_source: bool,
+    source_tries: SourceTries,
     caution: Caution,
     lock_file: Held<R::File>,
 }
@@ -58,7 +57,7 @@ impl<R: Files + Clock + Drop> Drop for SystemFile<R> {
             owner: _,
             source_path,
             source,
-            awaits_source: _,
+            source_tries: _,
             caution: _,
             lock_file: _,
         } = self;
@@ -85,7 +84,10 @@ where
             owner: owner_text(alloc)?,
             source_path: format!(in alloc; "{path}.source.lock")?,
             source: None,
-            awaits_source: matches!(taken, Taken::Own(_)),
+            source_tries: match taken {
+                Taken::Own(_) => SourceTries::NotYet,
+                Taken::Anybodys => SourceTries::Never,
+            },
             caution: Caution::none(),
             lock_file: Held::No,
             rt,
@@ -115,13 +117,13 @@ where
     }
 
     // Makes the file that lock files are linked from, at the first turn that has the mailbox's open. One that was left
-    // behind goes; where a server has one, or it can't be made, there is none for this one.
+    // behind goes; where a server has one, or it can't be made, there is none for this one, until a later try.
     fn have_source(&mut self) {
-        if self.awaits_source && self.open.is_some() {
-            self.awaits_source = false;
-            if self.remove_left_source().is_ok() {
-                self.source = self.make_source().ok();
-            }
+        if self.source.is_some() || self.open.is_none() {
+            return;
+        }
+        if self.source_tries.begin(self.rt.monotonic()) && self.remove_left_source().is_ok() {
+            self.source = self.make_source().ok();
         }
     }
 
