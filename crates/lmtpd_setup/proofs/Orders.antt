@@ -140,6 +140,25 @@ box_refused host domains boxes suffix name f e some bad =
     (list_all (is_usable_name suffix) (texts boxes))
     (cond (has_too_many (site_of host domains boxes)) (Some fault.TooManyBoxes) (cond (has_twice (texts boxes)) (Some fault.BoxTwice) None)) f some bad e
 
+bad_said : (n h d u all : Bool) (rest : Option Fault) → n ≡ false → all ≡ false
+    → cond (not h) (Some fault.Host) (cond (not d) (Some fault.Domain) (cond (not (u && true)) (Some fault.Box) None)) ≡ None
+    → cond n (Some fault.NoBox) (cond (not h) (Some fault.Host) (cond (not d) (Some fault.Domain) (cond (not all) (Some fault.Box) rest)))
+    ≡ Some fault.Box
+bad_said true h d u all rest some bad e = absurd (true≢false some)
+bad_said false false d u all rest some bad e = cc
+bad_said false true false u all rest some bad e = cc
+bad_said false true true u true rest some bad e = absurd (true≢false bad)
+bad_said false true true u false rest some bad e = refl
+
+-- beside a host and domains that do alone, a name that none can have is what a site says
+pub name_refused : (host : List ℕ) (domains boxes : List (Bor (List ℕ))) (suffix name : List ℕ)
+    → first_fault suffix (site_of_one host domains name) ≡ None → has_none (site_of host domains boxes) ≡ false
+    → list_all (is_usable_name suffix) (texts boxes) ≡ false → first_fault suffix (site_of host domains boxes) ≡ Some fault.Box
+name_refused host domains boxes suffix name e some bad =
+    bad_said (has_none (site_of host domains boxes)) (is_host_name host) (list_all is_domain_name (texts domains)) (is_usable_name suffix name)
+    (list_all (is_usable_name suffix) (texts boxes))
+    (cond (has_too_many (site_of host domains boxes)) (Some fault.TooManyBoxes) (cond (has_twice (texts boxes)) (Some fault.BoxTwice) None)) some bad e
+
 -- a site of names has none exactly where there are none
 pub none_of_none : (host : List ℕ) (domains boxes : List (Bor (List ℕ))) (t : Bool) → t ≡ (length boxes == 0) → has_none (site_of host domains boxes) ≡ t
 none_of_none host domains boxes t e = ap (λ n. n == 0) (length-map boxes (λ (name : Bor (List ℕ)). name.now)) ∙ sym e

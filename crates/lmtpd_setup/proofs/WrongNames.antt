@@ -1,6 +1,6 @@
 -- Where the name stands that can't be used, and what is said of it.
-use Rattle.std.proofs.Common.{◌≡◌, ◌∙◌, ◌⊎◌, ◌+◌, ◌<◌, ◌≤◌, ◌++◌, ◌∷◌, [], inl, inr, ap, sym, subst, refl, suc, ℕ, Bool, true, false, List, String, Option, Some, None, length, cond, arith}
-use Rattle.std.proofs.Common.{append_assoc, append-nil, ap₂, codes, drop, get_or, take, true≢false}
+use Rattle.std.proofs.Common.{◌≡◌, ◌∙◌, ◌⊎◌, ◌+◌, ◌<◌, ◌≤◌, ◌++◌, ◌∷◌, [], inl, inr, ap, sym, refl, suc, ℕ, Bool, true, false, List, String, Some, None, length, cond, arith}
+use Rattle.std.proofs.Common.{append_assoc, append-nil, ap₂, drop, get_or, take, true≢false}
 use Rattle.std.specs.Prelude.{not, ◌||◌, ◌&&◌, ◌==◌, nat_lt, string_bytes}
 use Rattle.std.specs.declared.alloc.Global.{Global}
 use Rattle.std.specs.Borrow.{Bor}
@@ -13,13 +13,11 @@ use Rattle.mail_world.specs.Site.{has_text, has_twice, is_host_name, is_domain_n
 use Rattle.mail_world.specs.declared.limits.TheConstants.{BOX_LIMIT}
 use Rattle.lmtp_text.specs.Sites.{texts}
 use Rattle.lmtpd_words.specs.Words.{named_site}
-use Rattle.lmtpd_words.specs.declared.words.ServeWords.{ServeWords}
 use Rattle.lmtpd_words.specs.declared.words.SiteWords.{SiteWords}
-use Rattle.lmtpd_setup.specs.Faults.{first_fault, is_usable_name, site_fault, site_of_one}
-use Rattle.lmtpd_setup.specs.Names.{IsNameLine, IsNoSite, IsToldIf, IsToldOf, place_in, tells_names, twice_place, wrong_place}
+use Rattle.lmtpd_setup.specs.Faults.{is_usable_name, site_fault}
+use Rattle.lmtpd_setup.specs.Names.{IsNameLine, IsToldOf, place_in, twice_place}
 use Rattle.lmtpd_setup.specs.declared.fault.Fault.{Fault}
 use Rattle.lmtpd_setup.specs.declared.fault.Fault.TheVariants as fault
-use Rattle.lmtpd_setup.specs.declared.stop.Stop.{Stop}
 use Rattle.lmtpd_setup.specs.declared.stop.Stop.TheVariants as stop
 
 -- of the first fault of a site which of its tests failed
@@ -61,10 +59,20 @@ good_step : (b : Bool) (n m : ℕ) (rest : Bool) → suc m ≤ cond b (1 + n) 0 
 good_step true n m rest all more = more (omega (arith, all))
 good_step false n m rest all more = absurd (omega (arith, all))
 
-all_good : (good : List ℕ → Bool) (names : List (List ℕ)) → length names ≤ prefix_len good names → list_all good names ≡ true
+pub all_good : (good : List ℕ → Bool) (names : List (List ℕ)) → length names ≤ prefix_len good names → list_all good names ≡ true
 all_good good [] all = refl
 all_good good (name ∷ names) all =
     good_step (good name) (prefix_len good names) (length names) (list_all good names) all (all_good good names)
+
+-- and where one isn't passed not all are
+bad_step : (b : Bool) (n m : ℕ) (rest : Bool) → cond b (1 + n) 0 < suc m → (n < m → rest ≡ false) → (b && rest) ≡ false
+bad_step true n m rest before more = more (omega (arith, before))
+bad_step false n m rest before more = refl
+
+pub one_bad : (good : List ℕ → Bool) (names : List (List ℕ)) → prefix_len good names < length names → list_all good names ≡ false
+one_bad good [] before = absurd (omega (arith, before))
+one_bad good (name ∷ names) before =
+    bad_step (good name) (prefix_len good names) (length names) (list_all good names) before (one_bad good names)
 
 shuffle : (a e t b : Bool) → ((a || e) || (t || b)) ≡ ((a || t) || (e || b))
 shuffle true e t b = refl
@@ -175,27 +183,29 @@ alone : (b : Bool) → cond (not (b && true)) (Some fault.Box) None ≡ Some fau
 alone true e = cc
 alone false e = refl
 
--- the name at this place stands among those before it, or it doesn't
-pub here : (names : List (Bor (List ℕ))) (k : ℕ) (d : Bor (List ℕ)) → k < length names
+-- the name at this place stands among those before it, which were seen, or it doesn't
+pub here : (names : List (Bor (List ℕ))) (k : ℕ) (d : Bor (List ℕ)) (seen : List (List ℕ)) → k < length names → seen ≡ texts (take k names)
     → twice_place (texts (take k names)) (texts (drop k names)) + k ≡ twice_place [] (texts names)
-    → has_text (texts (take k names)) (get_or names k d).now ≡ true → k ≡ twice_place [] (texts names)
-here names k d below before among =
+    → has_text seen (get_or names k d).now ≡ true → k ≡ twice_place [] (texts names)
+here names k d seen below held before is =
+    let among : has_text (texts (take k names)) (get_or names k d).now ≡ true = ap (λ l. has_text l (get_or names k d).now) (sym held) ∙ is in
     let parts : texts (drop k names) ≡ (get_or names k d).now ∷ texts (drop (k + 1) names) = ap texts (drop_more names k d below) in
     let none : twice_place (texts (take k names)) (texts (drop k names)) ≡ 0 =
     ap (twice_place (texts (take k names))) parts
     ∙ ap (λ t. cond t 0 (suc (twice_place (texts (take k names) ++ (get_or names k d).now ∷ []) (texts (drop (k + 1) names))))) among in
     omega (arith, none, before)
 
-pub later : (names : List (Bor (List ℕ))) (k : ℕ) (d : Bor (List ℕ)) → k < length names
+pub later : (names : List (Bor (List ℕ))) (k : ℕ) (d : Bor (List ℕ)) (seen next : List (List ℕ)) → k < length names → seen ≡ texts (take k names)
     → twice_place (texts (take k names)) (texts (drop k names)) + k ≡ twice_place [] (texts names)
-    → has_text (texts (take k names)) (get_or names k d).now ≡ false
-    → twice_place (texts (take (k + 1) names)) (texts (drop (k + 1) names)) + (k + 1) ≡ twice_place [] (texts names)
-later names k d below before among =
+    → has_text seen (get_or names k d).now ≡ false → next ≡ seen ++ (get_or names k d).now ∷ []
+    → (next ≡ texts (take (k + 1) names)) × (twice_place (texts (take (k + 1) names)) (texts (drop (k + 1) names)) + (k + 1) ≡ twice_place [] (texts names))
+later names k d seen next below held before is more =
+    let among : has_text (texts (take k names)) (get_or names k d).now ≡ false = ap (λ l. has_text l (get_or names k d).now) (sym held) ∙ is in
     let parts : texts (drop k names) ≡ (get_or names k d).now ∷ texts (drop (k + 1) names) = ap texts (drop_more names k d below) in
-    let seen : texts (take (k + 1) names) ≡ texts (take k names) ++ (get_or names k d).now ∷ [] =
+    let one_more : texts (take (k + 1) names) ≡ texts (take k names) ++ (get_or names k d).now ∷ [] =
     ap texts (take_more names k d below) ∙ map-append (λ (name : Bor (List ℕ)). name.now) (take k names) (get_or names k d ∷ []) in
     let one : twice_place (texts (take k names)) (texts (drop k names)) ≡ suc (twice_place (texts (take (k + 1) names)) (texts (drop (k + 1) names))) =
     ap (twice_place (texts (take k names))) parts
     ∙ (ap (λ t. cond t 0 (suc (twice_place (texts (take k names) ++ (get_or names k d).now ∷ []) (texts (drop (k + 1) names))))) among
-    ∙ ap (λ l. suc (twice_place l (texts (drop (k + 1) names)))) (sym seen)) in
-    omega (arith, one, before)
+    ∙ ap (λ l. suc (twice_place l (texts (drop (k + 1) names)))) (sym one_more)) in
+    (more ∙ ap (λ l. l ++ (get_or names k d).now ∷ []) held ∙ sym one_more, omega (arith, one, before))

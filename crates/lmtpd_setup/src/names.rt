@@ -1,16 +1,17 @@
 //! Which name of a mailbox can't be used, and the line of the log that says it.
 
-ghost use Rattle.std.specs.Prelude.{◌≡◌, ◌⊎◌, ◌<◌, ◌++◌, [], length, Some, IfOk, OnOk, string_bytes};
+ghost use Rattle.std.specs.Prelude.{◌≡◌, ◌⊎◌, ◌<◌, ◌++◌, ◌∷◌, [], length, not, true, Some, IfOk, OnOk, string_bytes};
 ghost use Rattle.std.specs.List.{prefix_len};
 ghost use Rattle.mail_world.specs.Site.{has_text};
-ghost use Rattle.lmtp_text.specs.Sites.{texts};
+ghost use Rattle.lmtp_text.specs.Sites.{owned, texts};
 ghost use Rattle.lmtpd_setup.specs.Faults.{is_usable_name, site_fault};
 ghost use Rattle.lmtpd_setup.specs.Names.{IsFoundAt, IsNameLine, IsNoSite, IsPlace, IsToldOf, place_in, place_text};
 ghost use Rattle.lmtpd_setup.specs.Names.{shown_name, tells_names, twice_place, wrong_place};
 
 use crate::fault::Fault;
-use crate::site::try_box;
+use crate::site::is_usable_name;
 use crate::stop::Stop;
+use indexmap::IndexSet;
 use itoa::Buffer;
 use lmtpd_output::printable;
 use lmtpd_words::{ServeWords, SiteWords, count_names, line_of_name};
@@ -67,7 +68,7 @@ fn wrong_number(
     match fault {
         Fault::Box => first_bad(alloc, suffix, names),
         Fault::TooManyBoxes => Ok(place_within(names, BOX_LIMIT)),
-        Fault::BoxTwice => Ok(first_twice(names)),
+        Fault::BoxTwice => first_twice(alloc, names),
         _ => Ok(None),
     }
 }
@@ -82,49 +83,41 @@ fn place_within(names: &[&[u8]], place: usize) -> Option<usize>
     }
 }
 
-// The first that no mailbox can have whose file has that suffix.
-fn first_bad(alloc: Global, suffix: &str, names: &[&[u8]]) -> Result<Option<usize>, AllocError>
+/// The first of the names that no mailbox can have whose file has that suffix.
+pub(crate) fn first_bad(
+    alloc: Global,
+    suffix: &str,
+    names: &[&[u8]],
+) -> Result<Option<usize>, AllocError>
     ensures { IfOk result (IsFoundAt (prefix_len (is_usable_name suffix.now) (texts names.now)) (length names.now)) }
 {
     for (place, name) in names.iter().enumerate() {
-        if !is_good(alloc, suffix, name)? {
+        if !is_usable_name(alloc, suffix, name)? {
             return Ok(Some(place));
         }
     }
     Ok(None)
 }
 
-fn is_good(alloc: Global, suffix: &str, name: &[u8]) -> Result<bool, AllocError>
-    ensures { IfOk result (λ good. good ≡ is_usable_name suffix.now name.now) }
+// The first that stands among those before it, each found by a hash.
+fn first_twice(alloc: Global, names: &[&[u8]]) -> Result<Option<usize>, AllocError>
+    ensures { IfOk result (IsFoundAt (twice_place [] (texts names.now)) (length names.now)) }
 {
-    match try_box(alloc, b"h", &[], suffix, name) {
-        Ok(()) => Ok(true),
-        Err(Fault::Box) => Ok(false),
-        Err(_) => Err(AllocError),
-    }
-}
-
-// The first that stands among those before it.
-fn first_twice(names: &[&[u8]]) -> Option<usize>
-    ensures { IsFoundAt (twice_place [] (texts names.now)) (length names.now) result }
-{
-    for (place, name) in names.iter().enumerate() {
-        if is_among(&names[..place], name) {
-            return Some(place);
+    let mut seen = IndexSet::with_capacity(alloc, names.len())?;
+    for (number, name) in names.iter().enumerate() {
+        if !add_name(alloc, &mut seen, name)? {
+            return Ok(Some(number));
         }
     }
-    None
+    Ok(None)
 }
 
-fn is_among(names: &[&[u8]], name: &[u8]) -> bool
-    ensures { result ≡ has_text (texts names.now) name.now }
+// Adds the name to those that were seen; false where it is among them, and then nothing changes.
+fn add_name(alloc: Global, seen: &mut IndexSet<Vec<u8>>, name: &[u8]) -> Result<bool, AllocError>
+    ensures is_new { IfOk result (λ is_new. is_new ≡ not (has_text (owned seen.old.keys) name.now)) }
+    ensures more { IfOk result (λ is_new. is_new ≡ true → owned seen.new.keys ≡ owned seen.old.keys ++ name.now ∷ []) }
 {
-    for other in names {
-        if *other == name {
-            return true;
-        }
-    }
-    false
+    Ok(seen.insert(name.to_vec(alloc)?)?)
 }
 
 // The line of the log on the name of that number.

@@ -1,6 +1,6 @@
 //! The site that the program's words name.
 
-ghost use Rattle.std.specs.Prelude.{◌≡◌, ◌⊎◌, ◌++◌, true, false, Some, None, IfOk, MatchResult};
+ghost use Rattle.std.specs.Prelude.{◌≡◌, ◌<◌, ◌⊎◌, ◌++◌, true, false, length, Some, None, IfOk, MatchResult};
 ghost use Rattle.std.specs.Arc.{arc_value};
 ghost use Rattle.mail_world.specs.Site.{IsSite};
 ghost use Rattle.std.specs.List.{list_all};
@@ -10,14 +10,14 @@ ghost use Rattle.lmtpd_setup.specs.Faults.{first_fault, is_lock_name, is_usable_
 ghost use Rattle.lmtpd_setup.specs.Names.{IsNoSite};
 
 use crate::fault::Fault;
-use crate::names::refused_site;
+use crate::names::{first_bad, refused_site};
 use crate::stop::Stop;
 use lmtp_text::Site;
 use lmtpd_words::{ServeWords, SiteWords};
 use std::alloc::{AllocError, Global};
 use std::sync::Arc;
 
-/// The site of these words. That there is a mailbox is looked at first; then each is tried alone, so that a bad name
+/// The site of these words. That there is a mailbox is looked at first; then each name is tried alone, so that a bad one
 /// comes before too many.
 pub fn site_of(alloc: Global, words: &SiteWords) -> Result<Site, Fault>
     ensures made { IfOk result (λ site. site ≡ named_site words.now) }
@@ -136,6 +136,7 @@ fn make_site(
     Ok(site)
 }
 
+// Host and domains are tried with the first name alone.
 fn try_each_box(
     alloc: Global,
     host: &[u8],
@@ -143,18 +144,31 @@ fn try_each_box(
     suffix: &str,
     boxes: &[&[u8]],
 ) -> Result<(), Fault>
+    requires { 0 < length boxes.now }
     ensures { MatchResult result (λ _. list_all (is_usable_name suffix.now) (texts boxes.now) ≡ true)
         (λ fault. (fault ≡ Fault.Memory)
         ⊎ (first_fault suffix.now (site_of host.now domains.now boxes.now) ≡ Some fault)) }
 {
-    for name in boxes {
-        try_box(alloc, host, domains, suffix, name)?;
+    try_box(alloc, host, domains, suffix, boxes[0])?;
+    match first_bad(alloc, suffix, boxes)? {
+        Some(_) => Err(Fault::Box),
+        None => Ok(()),
     }
-    Ok(())
 }
 
-/// Whether the name is one that a mailbox can have whose file has that suffix, beside that host and these domains.
-pub fn try_box(
+/// Whether the name is one that a mailbox can have whose file has that suffix.
+pub(crate) fn is_usable_name(alloc: Global, suffix: &str, name: &[u8]) -> Result<bool, AllocError>
+    ensures { IfOk result (λ usable. usable ≡ is_usable_name suffix.now name.now) }
+{
+    match try_box(alloc, b"h", &[], suffix, name) {
+        Ok(()) => Ok(true),
+        Err(Fault::Box) => Ok(false),
+        Err(_) => Err(AllocError),
+    }
+}
+
+// Whether the name is one that a mailbox can have whose file has that suffix, beside that host and these domains.
+fn try_box(
     alloc: Global,
     host: &[u8],
     domains: &[&[u8]],

@@ -1,13 +1,25 @@
-use Rattle.std.proofs.Common.{◌∙◌, sym}
+use Rattle.std.proofs.Common.{◌≡◌, ◌∙◌, Bool, true, false, refl, sym}
+use Rattle.std.specs.Prelude.{not}
 use Rattle.lmtpd_setup.proofs.WrongNames.{here, later}
 use Rattle.lmtpd_setup.proofs.names.first_twice.Goals as goal
 
-pub returns-then-is_among : goal.returns-then-is_among
-returns-then-is_among c = (
-  here c.args.names.now c.loop-place.place _ c.loop-place-test.true c.loop-place.invariant (sym c.is_among.ensures ∙ c.if-is_among.true),
-  c.loop-place-test.true,
-)
+was_false : (b : Bool) → true ≡ not b → b ≡ false
+was_false true e = cc
+was_false false e = refl
 
-pub loop-place-preserved : goal.loop-place-preserved
-loop-place-preserved c =
-    later c.args.names.now c.loop-place.place _ c.loop-place-test.true c.loop-place.invariant (sym c.is_among.ensures ∙ c.if-is_among.false)
+was_true : (b : Bool) → false ≡ not b → b ≡ true
+was_true true e = refl
+was_true false e = cc
+
+pub returns-then-not-branch : goal.returns-then-not-branch
+returns-then-not-branch c =
+    let there = was_true _ (sym c.if-not-branch.true ∙ c.in_ok-add_name.ensures.is_new) in (
+      here c.args.names.now c.loop-number.number _ _ c.loop-number-test.true c.loop-number.invariant.0 c.loop-number.invariant.1 there,
+      c.loop-number-test.true,
+    )
+
+pub loop-number-preserved : goal.loop-number-preserved
+loop-number-preserved c =
+    let fresh = was_false _ (sym c.if-not-branch.false ∙ c.in_ok-add_name.ensures.is_new) in
+    later c.args.names.now c.loop-number.number _ _ _ c.loop-number-test.true c.loop-number.invariant.0 c.loop-number.invariant.1 fresh
+    (c.in_ok-add_name.ensures.more c.if-not-branch.false)
