@@ -21,6 +21,7 @@ use Rattle.lmtpd_setup.specs.declared.fault.Fault.TheVariants as fault
 use Rattle.lmtpd_setup.specs.declared.stop.Stop.TheVariants as stop
 use Rattle.lmtpd_setup.specs.Faults.{site_fault}
 use Rattle.lmtpd.specs.Lacking.{house_refusal}
+use Rattle.lmtpd_log.specs.LaneLogs.{LogLines}
 use Rattle.lmtpd_listen.specs.Listening.{Names}
 use Rattle.lmtpd_listen.specs.declared.fault.ListenFault.TheVariants as listen
 use Rattle.lmtpd_listen.specs.declared.listen_address.ListenAddress.{ListenAddress}
@@ -83,7 +84,7 @@ serving_is words socket curfew slow sizes count bounds addresses a b c d =
     ∙ ap (λ (each : Bounds). serving_with words socket curfew slow (sizes_asked words) (connections_asked words) each addresses) c
     ∙ ap (λ (t : Bool). serving_with words socket curfew slow (sizes_asked words) (connections_asked words) (bounds_asked words) t) d
 
-pub served_as_asked : (C : Type 0) {G S : Type 0} (told : G → Option (List Entry)) (shows : G → Bool) (view : SpoolsView S) (held : S → Held)
+pub served_as_asked : (C : Type 0) {G S : Type 0} (told : G → Option (List Entry)) (shows : G → LogLines) (view : SpoolsView S) (held : S → Held)
     (words : ServeWords) (before after : Option (List ℕ)) (served : Served) (site : Site) (serving : Serving ServerSocket (ServerCurfew C)) (opened : Opened)
     (curfew : Arc (ServerCurfew C) Global) (slow : Arc SlowBoxes Global) (spools : List S)
     → words.check_words ≡ false

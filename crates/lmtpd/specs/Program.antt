@@ -43,6 +43,7 @@ use Rattle.lmtpd_setup.specs.declared.fault.Fault.{Fault}
 use Rattle.lmtpd_setup.specs.declared.fault.Fault.TheVariants as fault
 use Rattle.lmtpd_setup.specs.declared.stop.Stop.{Stop}
 use Rattle.lmtpd_setup.specs.declared.stop.Stop.TheVariants as stop
+use Rattle.lmtpd_log.specs.LaneLogs.{LogLines}
 use Rattle.lmtpd_check.specs.Checked.{IsChecked, unlocked_lines}
 use Rattle.lmtpd_check.specs.declared.checked.Checked.{Checked as CheckedFiles}
 use Rattle.lmtpd_rehearse.specs.Rehearsal.{IsBlockCount, IsRehearsed, Streams}
@@ -145,7 +146,7 @@ IsSizeAsked words =
 -- conversations within their bounds, until the end that they say, with addresses in its lines just where they say so,
 -- and over a spool for each mailbox, which is had as they say (`held` is how one is), and whose observer was told of no
 -- turn yet. `before` and `after` are what standard output held.
-pub record IsServedAsAsked (C : Type 0) {G S : Type 0} (told : G → Option (List Entry)) (shows : G → Bool)
+pub record IsServedAsAsked (C : Type 0) {G S : Type 0} (told : G → Option (List Entry)) (shows : G → LogLines)
     (view : SpoolsView S) (held : S → Held) (words : ServeWords) (before after : Option (List ℕ))
     (served : ServedRun) : Type 0 where
   pub serves : words.check_words ≡ false

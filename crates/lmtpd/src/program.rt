@@ -81,7 +81,7 @@ where
     E: Write,
     ensures done { IsDoneAsAsked (streams_of R.remaining W.contents) (IsFilled P.File.remaining)
         (λ asked after. IsServedAsAsked H (⟦<LineLog<LogSink<ServerLog<H>>, H> as Observer>⟧.told)
-        (⟦<LineLog<LogSink<ServerLog<H>>, H> as LaneLog>⟧.addresses)
+        (⟦<LineLog<LogSink<ServerLog<H>>, H> as LaneLog>⟧.lines)
         (spools_view (⟦<WaitingMailbox<H> as Spool>⟧.state) (⟦<WaitingMailbox<H> as Spool>⟧.MayFind)
         (⟦<WaitingMailbox<H> as Spool>⟧.MayRefuse) (⟦<MailboxLog<LogSink<ServerLog<H>>> as TurnObserver>⟧.told))
         held_as asked (W.contents writer) (W.contents after))
@@ -122,7 +122,7 @@ where
     W: Write + Drop + Send + 'static,
     ensures { IsDoneAsAsked (streams_of R.remaining W.contents) (IsFilled P.File.remaining)
         (λ asked after. IsServedAsAsked H (⟦<LineLog<LogSink<ServerLog<H>>, H> as Observer>⟧.told)
-        (⟦<LineLog<LogSink<ServerLog<H>>, H> as LaneLog>⟧.addresses)
+        (⟦<LineLog<LogSink<ServerLog<H>>, H> as LaneLog>⟧.lines)
         (spools_view (⟦<WaitingMailbox<H> as Spool>⟧.state) (⟦<WaitingMailbox<H> as Spool>⟧.MayFind)
         (⟦<WaitingMailbox<H> as Spool>⟧.MayRefuse) (⟦<MailboxLog<LogSink<ServerLog<H>>> as TurnObserver>⟧.told))
         held_as asked (W.contents writer) (W.contents after))

@@ -1,5 +1,6 @@
 pub mod Events
 pub mod History
+pub mod LaneLogs
 pub mod Letters
 pub mod Line
 pub mod Lines

@@ -3,6 +3,7 @@ use Rattle.std.specs.Prelude.{◌≡◌, Bool, List, ◌++◌, if◌then◌else�
 use Rattle.lmtp_talk.specs.Entries.{Entry}
 use Rattle.lmtpd_log.specs.declared.line_log.LineLog.{LineLog}
 use Rattle.lmtpd_log.specs.declared.line_log.TheConstants.{WAITING_LIMIT}
+use Rattle.lmtpd_log.specs.LaneLogs.{LogLines}
 use Rattle.lmtpd_log.specs.Line.{Line}
 use Rattle.lmtpd_log.specs.Owed.{Heard, LineRules, entries_heard, lines_owed}
 use Rattle.lmtpd_log.specs.Rules.{lines_of, rules_of}
@@ -28,8 +29,9 @@ owed_by log = lines_owed (rules_in log) (heard_by log)
 abbrev pub sink_in : {E C : Type 0} {g : _} → LineLog E C g → E
 sink_in log = log.sink
 
-abbrev pub shows_addresses : {E C : Type 0} {g : _} → LineLog E C g → Bool
-shows_addresses log = log.setting.addresses
+-- which lane its lines name, and whether they show addresses
+abbrev pub lines_in : {E C : Type 0} {g : _} → LineLog E C g → LogLines
+lines_in log = record { lane = log.setting.lane; addresses = log.setting.addresses }
 
 -- one more has room
 abbrev pub has_room : {E C : Type 0} {g : _} → LineLog E C g → Bool

@@ -130,9 +130,9 @@ impl<E: LineSink, C: Clock + Drop> LineLog<E, C> {
 }
 
 impl<E: LineSink, C: Clock + Drop> LaneLog for LineLog<E, C> {
-    ghost use Rattle.lmtpd_log.specs.Lines.{shows_addresses};
+    ghost use Rattle.lmtpd_log.specs.Lines.{lines_in};
 
-    ghost addresses = { λ log. shows_addresses log };
+    ghost lines = { λ log. lines_in log };
 }
 
 impl<E: LineSink, C: Clock + Drop> Observer for LineLog<E, C> {

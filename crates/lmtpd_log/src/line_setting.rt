@@ -3,7 +3,7 @@
 ghost use Rattle.std.specs.Prelude.{◌≡◌, [], IfOk, IfSome, codes};
 ghost use Rattle.std.specs.Arc.{arc_value};
 ghost use Rattle.log.specs.declared.level.Level.TheVariants.{Info};
-ghost use Rattle.lmtpd_log.specs.Lines.{heard_by, rules_in, shows_addresses};
+ghost use Rattle.lmtpd_log.specs.Lines.{heard_by, lines_in, rules_in};
 
 use crate::lane_log::LaneLogs;
 use crate::line_log::LineLog;
@@ -35,7 +35,7 @@ impl<G: Log + Copy + Drop, C: Clock + Copy + Drop> LaneLogs for LineSetting<G, C
 
     /// It has lines where the log shows any at `info`.
     fn log(&self, alloc: Global, lane: u32) -> Result<LineLog<LogSink<G>, C>, AllocError>
-        ensures addresses { IfOk result (λ log. shows_addresses log ≡ self.now.addresses) }
+        ensures lines { IfOk result (λ log. lines_in log ≡ record { lane = lane; addresses = self.now.addresses }) }
         ensures untold { IfOk result (λ log. heard_by log ≡ []) }
         ensures rules { IfOk result (λ log. rules_in log ≡ record {
           site = arc_value self.now.site;

@@ -19,6 +19,7 @@ use Rattle.lmtp_lane.specs.TcpVisits.{IsLaneOf, IsNewcomer, connections_left, co
 use Rattle.lmtp_lane.specs.TcpVisits.{is_over, shares, told_by, was_stopped}
 use Rattle.lmtp_lane.specs.declared.tcp.visits.TcpVisits.{TcpVisits}
 use Rattle.lmtp_talk.specs.Entries.{Entry}
+use Rattle.lmtpd_log.specs.LaneLogs.{LogLines, lines_from}
 use Rattle.lmtpd_output.specs.Output.{IsListed, pair_texts}
 use Rattle.lmtpd_serve.specs.declared.conversations.Conversations.{Conversations}
 use Rattle.lmtpd_serve.specs.declared.lines.Trouble.{Trouble}
@@ -90,10 +91,11 @@ pub record Serving (L E : Type 0) : Type 0 where
 abbrev pub LoggedVisits : Type 0 → Type 0 → Type 0 → Type 0
 LoggedVisits L E G = Watched (TcpVisits L E) G
 
--- The log of each of these lanes was told nothing yet, and its lines show addresses just where that is asked for.
-pub record HaveLogs {L E G : Type 0} (told : G → Option (List Entry)) (shows : G → Bool) (addresses : Bool)
+-- The log of each of these lanes was told nothing yet; its lines name that lane by its number, counted from 0, and show
+-- addresses just where that is asked for.
+pub record HaveLogs {L E G : Type 0} (told : G → Option (List Entry)) (shows : G → LogLines) (addresses : Bool)
     (visits : List (LoggedVisits L E G)) : Type 0 where
-  pub shown : AllByRecursion (λ v. shows v.observer ≡ addresses) visits
+  pub shown : map (λ v. shows v.observer) visits ≡ lines_from addresses 0 (length visits)
   pub untold : AllByRecursion (λ v. IfSome (told v.observer) (λ entries. entries ≡ [])) visits
 
 -- The clients of the lanes are those of this listener, within the bounds and until the curfew of the conversations,
@@ -106,14 +108,14 @@ pub record AreLanesFor {L E G : Type 0} (listener : L) (conversations : Conversa
   pub share : map (λ v. connections_left v.inner) visits ≡ shares conversations.count conversations.lanes
 
 -- A server ran for the site with what it was to be run with, over clients of its listener, of whom it is told how many
--- were handed back, and these spools; each lane has a log, `told` says what one was told and `shows` whether its lines
--- show addresses, and a lane's log was told the entries of its conversations, as the observer of each spool was of its
+-- were handed back, and these spools; each lane has a log, `told` says what one was told and `shows` which lane
+-- its lines name and whether they show addresses, and a lane's log was told the entries of its conversations, as the observer of each spool was of its
 -- turns; what is told of each mailbox is what its worker counted, and the server is faulty exactly where a worker is,
 -- whose last turn broke; it failed exactly where its listener can't tell where it listens or a lane's accept failed,
 -- and was stopped exactly where a lane was; and where it listens and what was stored was said, up to a write that
 -- failed.
 pub record IsServerRun {L E S G : Type 0} (site : Site) (view : SpoolsView S)
-    (told : G → Option (List Entry)) (shows : G → Bool) (serving : Serving L E) (spools : List S)
+    (told : G → Option (List Entry)) (shows : G → LogLines) (serving : Serving L E) (spools : List S)
     (before after : Option (List ℕ)) (served : Served) : Type 0 where
   pub visits : List (LoggedVisits L E G)
   pub back : HandedBack (LoggedVisits L E G) S

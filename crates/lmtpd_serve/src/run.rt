@@ -60,7 +60,7 @@ where
     ensures sized { let count = length spools.items in
         (result ≡ Err HouseFault.Size) ⊎ IsSize (arc_value site) sizes conversations.lanes count count }
     ensures ran { IfOk result (IsServerRun (arc_value site) (spools_view S.state S.MayFind S.MayRefuse T.told)
-        G.Log.told G.Log.addresses
+        G.Log.told G.Log.lines
         (record {
           sizes = sizes;
           conversations = conversations;
@@ -134,7 +134,7 @@ where
         IsSize (arc_value house.site) house.sizes clients.conversations.lanes count count }
     ensures sized { result ≡ Err HouseFault.Size → ⊥ }
     ensures ran { IfOk result (IsServerRun (arc_value house.site)
-        (spools_view S.state S.MayFind S.MayRefuse T.told) G.Log.told G.Log.addresses
+        (spools_view S.state S.MayFind S.MayRefuse T.told) G.Log.told G.Log.lines
         (record {
           sizes = house.sizes;
           conversations = clients.conversations;
@@ -186,7 +186,7 @@ where
     ensures none_out { IfOk result
         (λ prepared. AllByRecursion (λ v. is_out v.inner ≡ false) prepared.visits.items) }
     ensures logs { IfOk result
-        (λ prepared. HaveLogs G.Log.told G.Log.addresses (G.addresses logs.now) prepared.visits.items) }
+        (λ prepared. HaveLogs G.Log.told G.Log.lines (G.addresses logs.now) prepared.visits.items) }
     ensures announced { IfOk result
         (λ prepared. IsAnnounced prepared.announced.is_unknown (W.contents writer.old) (W.contents writer.new)
         prepared.announced.is_cut) }
@@ -277,7 +277,7 @@ fn visits_of<L: Drop, E: Drop, G: LaneLogs>(
     ensures none_ended { IfOk result
         (λ visits. AllByRecursion (λ v. conversations_ended v.inner ≡ 0) visits.items) }
     ensures none_out { IfOk result (λ visits. AllByRecursion (λ v. is_out v.inner ≡ false) visits.items) }
-    ensures logs { IfOk result (λ visits. HaveLogs G.Log.told G.Log.addresses (G.addresses logs.now) visits.items) }
+    ensures logs { IfOk result (λ visits. HaveLogs G.Log.told G.Log.lines (G.addresses logs.now) visits.items) }
 {
     let Conversations {
         lanes,

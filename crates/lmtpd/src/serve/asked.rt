@@ -50,7 +50,7 @@ where
     requires { words.now.check_words ≡ false }
     ensures { MatchResult result
         (IsServedAsAsked H (⟦<LineLog<LogSink<ServerLog<H>>, H> as Observer>⟧.told)
-        (⟦<LineLog<LogSink<ServerLog<H>>, H> as LaneLog>⟧.addresses)
+        (⟦<LineLog<LogSink<ServerLog<H>>, H> as LaneLog>⟧.lines)
         (spools_view (⟦<WaitingMailbox<H> as Spool>⟧.state) (⟦<WaitingMailbox<H> as Spool>⟧.MayFind)
         (⟦<WaitingMailbox<H> as Spool>⟧.MayRefuse) (⟦<MailboxLog<LogSink<ServerLog<H>>> as TurnObserver>⟧.told))
         held_as words.now
@@ -95,7 +95,7 @@ where
     requires addresses { setup.logs.addresses ≡ words.now.log_addresses }
     ensures { MatchResult result
         (IsServedAsAsked H (⟦<LineLog<LogSink<ServerLog<H>>, H> as Observer>⟧.told)
-        (⟦<LineLog<LogSink<ServerLog<H>>, H> as LaneLog>⟧.addresses)
+        (⟦<LineLog<LogSink<ServerLog<H>>, H> as LaneLog>⟧.lines)
         (spools_view (⟦<WaitingMailbox<H> as Spool>⟧.state) (⟦<WaitingMailbox<H> as Spool>⟧.MayFind)
         (⟦<WaitingMailbox<H> as Spool>⟧.MayRefuse) (⟦<MailboxLog<LogSink<ServerLog<H>>> as TurnObserver>⟧.told))
         held_as words.now

@@ -50,7 +50,7 @@ where
     ensures { MatchResult result
         (IsServeDone (IsFilled P.File.remaining)
         (λ asked after. IsServedAsAsked H (⟦<LineLog<LogSink<ServerLog<H>>, H> as Observer>⟧.told)
-        (⟦<LineLog<LogSink<ServerLog<H>>, H> as LaneLog>⟧.addresses)
+        (⟦<LineLog<LogSink<ServerLog<H>>, H> as LaneLog>⟧.lines)
         (spools_view (⟦<WaitingMailbox<H> as Spool>⟧.state) (⟦<WaitingMailbox<H> as Spool>⟧.MayFind)
         (⟦<WaitingMailbox<H> as Spool>⟧.MayRefuse) (⟦<MailboxLog<LogSink<ServerLog<H>>> as TurnObserver>⟧.told))
         held_as asked (W.contents writer) (W.contents after)) words.entry)

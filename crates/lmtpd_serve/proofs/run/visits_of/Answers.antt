@@ -29,5 +29,7 @@ returns-clause-none_out g c =
 
 pub returns-clause-logs : goal.returns-clause-logs
 returns-clause-logs g c =
-    have_logs g.G.Log.Observer.told g.G.Log.LaneLog.addresses (g.G.LaneLogs.addresses c.args.logs.now) c.in_ok-logged.logged.items c.in_ok-logs.logs.items
-    c.in_ok-logged.ensures.observers c.in_ok-logs.ensures.addresses c.in_ok-logs.ensures.untold
+    let made = c.in_ok-logged.logged.items in
+    let count = sym (length-map made (λ w. w.inner)) ∙ ap length c.in_ok-logged.ensures.things ∙ c.in_ok-visits.ensures.count in
+    have_logs g.G.Log.Observer.told g.G.Log.LaneLog.lines (g.G.LaneLogs.addresses c.args.logs.now) c.args.conversations.lanes made c.in_ok-logs.logs.items
+    c.in_ok-logged.ensures.observers count c.in_ok-logs.ensures.lines c.in_ok-logs.ensures.untold
