@@ -28,6 +28,7 @@ INSTALLED = [
     "usr/sbin/lmtpd",
     "usr/sbin/lmtpd-metrics",
     "usr/sbin/lmtpd-run",
+    "usr/sbin/lmtpd-two-hosts",
     "usr/share/bash-completion/completions/lmtpd",
     *(f"usr/share/doc/lmtpd/{name}" for name in PAGES),
     "usr/share/man/man8/lmtpd.8.gz",
