@@ -17,6 +17,7 @@ INSTALLED = [
     "usr/lib/lmtpd/leases",
     "usr/lib/lmtpd/served",
     "usr/lib/lmtpd/start",
+    "usr/lib/ocf/resource.d/sentzopar/lmtpd",
     "usr/lib/systemd/system/lmtpd-metrics.service",
     "usr/lib/systemd/system/lmtpd-metrics.timer",
     "usr/lib/systemd/system/lmtpd.service",
