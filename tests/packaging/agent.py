@@ -24,14 +24,15 @@ PROGRAMS = {
         esac""",
     "crm_attribute": """
         [ "$*" = "--type crm_config --name stonith-enabled --query --quiet --default true" ] && echo $STONITH""",
-    # as drbd-utils 9.22 prints a resource
+    # as drbd-utils 9.22 prints what it would do
     "drbdadm": """
-        [ "$2" = r0 ] || { echo "'$2' not defined in your config (for this host)." >&2; exit 1; }
-        case $1 in
-        dump) printf '# resource r0 on one:\\nresource r0 {\\n    net {\\n        protocol C;\\n'
-              [ -z "$FENCING" ] || printf '        fencing          %s;\\n' "$FENCING"
-              printf '    }\\n}\\n' ;;
-        sh-dev) echo $SITE/drbd0 ;;
+        case $* in
+        '--dry-run up r0')
+            echo 'drbdsetup new-resource r0 0'
+            echo "drbdsetup new-peer r0 1 --_name=two${FENCING:+ --fencing=$FENCING} --protocol=C"
+            echo 'drbdsetup attach 0 /dev/sda1 /dev/sda1 internal' ;;
+        'sh-dev r0') echo $SITE/drbd0 ;;
+        *) echo "'r1' not defined in your config (for this host)." >&2; exit 1 ;;
         esac""",
     "findmnt": """[ "$*" = "-n -o SOURCE --target $SITE/mail" ] && echo $SITE/$MOUNTED""",
 }
