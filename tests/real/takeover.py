@@ -66,7 +66,7 @@ def look_at(there, device):
     make_pair(there, device)
     there.send("before", 90)
     there.wait(there.is_sent)
-    with there.client("beside", 1200, 0.005):
+    with there.client("beside", 3_000, 0.002, ["anna"]):
         time.sleep(2)
         # the other host isn't fenced yet, and has the file system
         status, said = there.machines[SECOND].run(f"{ACT} start")

@@ -13,6 +13,7 @@ ANNA = "anna@mx.example {}\n"
 BEN = "ben@mx.example lmtp:inet:192.0.2.12:2003\n"
 CARLA = "carla@mx.example lmtp:inet:192.0.2.{}:2003\n"
 SILENT = 30  # seconds that a host is so
+KILLS = 5
 KILL = "systemctl kill --kill-who=main --signal=KILL lmtpd"
 OWN = ANNA.format("lmtp:inet:192.0.2.11:2003")
 
@@ -66,7 +67,7 @@ def user_at_two_hosts(there):
 @case
 def silent_and_killed_hosts(folder):
     """three hosts behind one Postfix: one drops all packets for a while, and its users' letters wait while others' are
-    sent; a server is killed three times under load; each letter is there, and none bounced"""
+    sent; a server is killed five times under load; each letter is there, and none bounced"""
     with site(folder) as there:
         quiet = others_sent(there, "quiet")
         there.wait(there.is_sent)
@@ -80,11 +81,10 @@ def silent_and_killed_hosts(folder):
         since = time.monotonic()
         there.wait(there.is_sent)
         after = time.monotonic() - since
-        with there.client("killed", 3_000, 0.003, ["carla"]):
-            for _ in range(3):
-                time.sleep(1)
-                # it begins again five seconds after
-                there.type(13, f"until {KILL} 2> /dev/null; do sleep 0.1; done")
+        with there.client("killed", 4_000, 0.003, ["carla"]):
+            for _ in range(KILLS):
+                # it begins again after five seconds, with the letters that came meanwhile
+                there.type(13, f"until systemctl is-active --quiet lmtpd; do sleep 0.1; done; sleep 0.3; {KILL}")
         there.type(RELAY, "postqueue -f")
         there.wait(there.is_sent)
         found = there.equal_all(HOSTS)
