@@ -201,12 +201,12 @@ def a_host_that_goes_away(folder):
     need_names()
     for number in [signal.SIGTERM, signal.SIGINT, signal.SIGHUP]:
         hosts = [begun(folder, name) for name in ["one", "two"]]
-        wait_for(folder, 5)
+        wait_for(folder, ".mbox")
         hosts[0].send_signal(number)
         equal(ended(*hosts), [fault("stopped"), fault("the other host went away")])
         equal(left(folder), [])
     alone = begun(folder, "three")
-    wait_for(folder, 1)
+    wait_for(folder, "lmtpd-two-hosts.")
     alone.kill()
     ended(alone)
     there = left(folder)
@@ -215,10 +215,10 @@ def a_host_that_goes_away(folder):
     equal(left(folder), there)
 
 
-def wait_for(folder, count):
-    """Until so many files are there."""
+def wait_for(folder, text):
+    """Until a file with that in its name is there."""
     until = time.monotonic() + 20
-    while len(left(folder)) < count:
+    while not any(text in name for name in left(folder)):
         assert time.monotonic() < until, left(folder)
         time.sleep(0.01)
 
