@@ -5,6 +5,7 @@ import os
 import pathlib
 import re
 import subprocess
+import time
 
 from cases import Absent, case, equal
 from hosts import Network, typed
@@ -67,11 +68,14 @@ def glusterfs(folder):
         stores = " ".join(f"192.0.2.{number}:/tmp/store/mail" for number in NUMBERS)
         typed(first, "for number in 12 13; do gluster peer probe 192.0.2.$number; done; sleep 3")
         typed(first, f"gluster --mode=script volume create mail replica 3 {stores} force; gluster volume start mail")
-        equal((tried(machines, "defaults")[0], "as it comes"), (1, "as it comes"))
+        status, faults = tried(machines, "defaults")
+        equal((status, faults), (1, faults))
         for cache in CACHES:
             typed(first, f"gluster volume set mail performance.{cache} off")
-        said = [tried(machines, TIMEOUTS) for _ in range(3)]
-        equal(said, [(0, "keeps\n")] * 3)
+        since = time.monotonic()
+        equal([tried(machines, TIMEOUTS) for _ in range(3)], [(0, "keeps\n")] * 3)
+        took = (time.monotonic() - since) / 3
+    return f"as it comes: {'; '.join(faults.splitlines())}; with that {took:.0f} s a time"
 
 
 glusterfs.seconds = 600
