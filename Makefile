@@ -51,6 +51,8 @@ install:
 	$(PLACED) packaging/lmtpd.run > $(DESTDIR)$(PREFIX)/sbin/lmtpd-run
 	chmod 0755 $(DESTDIR)$(PREFIX)/sbin/lmtpd-run
 	install -m 0755 packaging/lmtpd.metrics $(DESTDIR)$(PREFIX)/sbin/lmtpd-metrics
+	install -m 0755 packaging/lmtpd.two-hosts $(DESTDIR)$(PREFIX)/sbin/lmtpd-two-hosts
+	install -D -m 0755 packaging/lmtpd.agent $(DESTDIR)$(PREFIX)/lib/ocf/resource.d/sentzopar/lmtpd
 	install -d $(DESTDIR)$(PREFIX)/share/man/man8
 	gzip -9n < packaging/lmtpd.8 > $(DESTDIR)$(PREFIX)/share/man/man8/lmtpd.8.gz
 	chmod 0644 $(DESTDIR)$(PREFIX)/share/man/man8/lmtpd.8.gz

@@ -5,6 +5,7 @@ done there. Its processes, its network, of which it has loopback alone, and its 
 as well.
 """
 
+import itertools
 import os
 import pathlib
 import subprocess
@@ -46,6 +47,7 @@ umount -l old
 rmdir old
 exec env -i PATH="$3" container=other "$4" --unit=basic.target
 """
+NUMBERS = itertools.count()  # of this process's machines
 APART = ["--mount", "--pid", "--net", "--uts", "--ipc", "--cgroup"]
 
 
@@ -60,7 +62,7 @@ class Machine(Started):
         self.log = folder / "machine.log"
         self.files = folder / "machine"
         self.files.mkdir()
-        self.group = control_groups() / f"lmtpd-test-{os.getpid()}"
+        self.group = control_groups() / f"lmtpd-test-{os.getpid()}-{next(NUMBERS)}"
         self.nsenter = program("nsenter", "util-linux")
 
     def start(self):

@@ -40,12 +40,16 @@ import readers_delete  # noqa: F401
 import service_words  # noqa: F401
 import reload_goes_back  # noqa: F401
 import reload_names  # noqa: F401
+import resource_agent  # noqa: F401
 import several_servers  # noqa: F401
+import shared_folders  # noqa: F401
 import start_fails  # noqa: F401
 import site_mailboxes  # noqa: F401
 import site_that_grows  # noqa: F401
 import soak  # noqa: F401
+import takeover  # noqa: F401
 import ten_lines  # noqa: F401
+import three_hosts  # noqa: F401
 import torn_writes_read  # noqa: F401
 import watched  # noqa: F401
 import with_postfix  # noqa: F401

@@ -13,13 +13,15 @@
 # needs the harm to be done that the word is for.
 #
 # A case of what a service does runs the unit of `make deb` as it is installed, in a machine of its own whose first
-# process is systemd (in_a_machine.py, service.py; debian.py; with `make install` those that type SETUP's ten lines). By
-# hand, as `lmtpd serve`, these run it:
+# process is systemd (in_a_machine.py, service.py; debian.py; with `make install` those that type SETUP's ten lines).
+# Those of several hosts have a machine for each, and a network of their own (hosts.py). By hand, as `lmtpd serve`, these
+# run it:
 # - those that look at what other programs make of a mailbox or a reply, whoever started the server: readers_agree,
 #   other_mailboxes, postfix_delivers, exim_delivers, opensmtpd_delivers, odd_clients, marks_of_senders, malformed;
 # - those that look at the process or at its disk from outside, while it runs: soak (its memory, by the second),
 #   power_cut (copies of its disk), read_only (a mailbox on a file system of its own, which goes read-only),
 #   torn_writes_read (a library that ends it within a write);
+# - those of folders that two hosts share (shared_folders), and of a large map: no server at all;
 # - those of what the unit never does: a Unix socket that the server makes itself (hundred_restarts), a server that is
 #   root (mailbox_of_user), a folder of the case's own as /var/mail (lease_in_var_mail).
 # usage: tests/real/run.sh [NAME..]: the cases whose text has one of these words, or all. LMTPD names a program that
