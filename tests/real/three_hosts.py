@@ -83,8 +83,9 @@ def silent_and_killed_hosts(folder):
         after = time.monotonic() - since
         with there.client("killed", 4_000, 0.003, ["carla"]):
             for _ in range(KILLS):
-                # it begins again after five seconds, with the letters that came meanwhile
-                there.type(13, f"until systemctl is-active --quiet lmtpd; do sleep 0.1; done; sleep 0.3; {KILL}")
+                # it begins again after five seconds, with the letters that came meanwhile; systemd may not know yet that
+                # the one before is gone
+                there.type(13, f"until systemctl is-active --quiet lmtpd && sleep 0.3 && {KILL}; do sleep 0.1; done")
         there.type(RELAY, "postqueue -f")
         there.wait(there.is_sent)
         found = there.equal_all(HOSTS)
