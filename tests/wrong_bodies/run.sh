@@ -11,5 +11,5 @@
 set -euo pipefail
 cd "$(dirname "$0")/../.."
 . tests/needs python3
-python3 -B tests/wrong_bodies/apply.py . > /dev/null
+said=$(python3 -B tests/wrong_bodies/apply.py .) || { printf '%s\n' "$said" >&2; exit 1; }
 exec python3 -B tests/wrong_bodies/try.py . "${JOBS:-$(nproc)}" "$@"

@@ -38,4 +38,4 @@ pub record IsCopiedAsAsked {F T : Type 0} (source : F → FileState) (unread : F
     (target : T → TargetState) (words : CopyWords) (copied : Copied) : Type 0 where
   pub file : copied.file.now ≡ words.file.now
   pub to : copied.to.now ≡ words.to.now
-  pub done : copied.fault ≡ None → HasCopiedFile source unread target
+  pub done : copied.fault ≡ None → HasCopiedFile source unread target words.to.now

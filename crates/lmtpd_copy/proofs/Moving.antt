@@ -5,7 +5,7 @@ use Rattle.std.proofs.KnownBytes.{Appends-trans, Consumes-trans}
 use Rattle.mbox_file.specs.MailboxFile.{FileState, IsHeld}
 use Rattle.mbox_rd.specs.Turn.{HasLetGo}
 use Rattle.lmtpd_copy.specs.Copied.{Copies, HasCopiedFile, IsCopied, StaysLocked, StaysMade}
-use Rattle.lmtpd_copy.specs.Target.{TargetState}
+use Rattle.lmtpd_copy.specs.Target.{HasSamePath, TargetState}
 
 -- what was read since was written since
 pub record HasMoved (unread left before after : Option (List ℕ)) : Type 0 where
@@ -52,15 +52,21 @@ made_then s t u x y = y ∙ ap (λ (v : TargetState). record v { bytes = u.bytes
 
 -- what is left of a copy where only bytes are known
 pub copied_file : {F T U E : Type 0} (r : Result U E) (a : Bool) (s : F → FileState) (u : F → Option (List ℕ)) (b : Bool) (t : T → TargetState) (f g : F) (x y : T)
-    → OnOk r (IsCopied a s u b t f g x y) → OnOk r (HasCopiedFile s u t)
-copied_file (Ok v) a s u b t f g x y h =
+    → HasSamePath (t x) (t y) → OnOk r (IsCopied a s u b t f g x y) → OnOk r (HasCopiedFile s u t (t x).path)
+copied_file (Ok v) a s u b t f g x y same h =
     let filled = h.copied.filled in record {
       first = filled.first;
       held = subst IsHeld (sym filled.same) h.stands.held;
       made = h.copied.made;
       after = y;
+      there = same;
       copied = filled.copied;
       last = g;
       let_go = subst (λ (v : FileState). HasLetGo v (s g)) filled.stays h.let_go;
     }
-copied_file (Err e) a s u b t f g x y h = tt
+copied_file (Err e) a s u b t f g x y same h = tt
+
+-- the same, where its path is said otherwise
+pub made_at : {F T U E : Type 0} (r : Result U E) (s : F → FileState) (u : F → Option (List ℕ)) (t : T → TargetState) (p q : List ℕ)
+    → p ≡ q → OnOk r (HasCopiedFile s u t p) → OnOk r (HasCopiedFile s u t q)
+made_at r s u t p q same h = subst (λ path. OnOk r (HasCopiedFile s u t path)) same h

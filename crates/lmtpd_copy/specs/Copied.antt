@@ -67,14 +67,16 @@ module _ {F T : Type 0} (is_known : Bool) (source : F → FileState) (unread : F
     pub copied : IsMadeAndFilled locked done to_old to_new
     pub let_go : HasLetGo (source done) (source from_new)
 
--- Some mailbox's file and the copy's, of which only the bytes may be known: both locks were held, on the file that the
--- path names, as all that the one had left was written to the other after it was made. Then they were given back.
+-- Some mailbox's file and the copy's, which is made at the path `to`, and of which only the bytes may be known: both
+-- locks were held, on the file that the path names, as all that the one had left was written to the other after it was
+-- made. Then they were given back.
 pub record HasCopiedFile {F T : Type 0} (source : F → FileState) (unread : F → Option (List ℕ))
-    (target : T → TargetState) : Type 0 where
+    (target : T → TargetState) (to : List ℕ) : Type 0 where
   pub first : F
   pub held : IsHeld (source first)
   pub made : T
   pub after : T
+  pub there : (target after).path ≡ to
   pub copied : Copies (unread first) (target made).bytes (target after).bytes
   pub last : F
   pub let_go : HasLetGo (source first) (source last)

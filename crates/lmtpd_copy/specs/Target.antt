@@ -3,6 +3,8 @@ use Rattle.std.specs.Prelude.{◌≡◌, ◌⊎◌, ℕ, Bool, true, false, List
 use Rattle.mail_world.specs.Failures.{Rises}
 
 pub record TargetState : Type 0 where
+  -- the path that it is made at
+  pub path : List ℕ
   -- what it holds, where that is known
   pub bytes : Option (List ℕ)
   -- what of it a crash leaves, by its name
@@ -32,9 +34,13 @@ HasFailed old new = new ≡ record old { bytes = new.bytes; kept = new.kept }
 pub record HasRemoved (old new : TargetState) : Type 0 where
   pub removed : (new.is_made ≡ false) ⊎ Rises old.unremoved new.unremoved
 
--- of a file of which only the bytes are known
-abbrev pub untold : Option (List ℕ) → TargetState
-untold bytes = record { bytes = bytes; kept = None; is_made = false; unremoved = 0 }
+-- of a file of which only the path and the bytes are known
+abbrev pub untold : List ℕ → Option (List ℕ) → TargetState
+untold path bytes = record { path = path; bytes = bytes; kept = None; is_made = false; unremoved = 0 }
+
+-- it is made at the same path
+abbrev pub HasSamePath : TargetState → TargetState → Type 0
+HasSamePath old new = new.path ≡ old.path
 
 -- what the file holds that is open, if there is one
 abbrev pub bytes_of : {F : Type 0} → (F → Option (List ℕ)) → Option F → Option (List ℕ)

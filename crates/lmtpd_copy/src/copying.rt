@@ -5,7 +5,7 @@ ghost use Rattle.std.specs.Io.KnownBytes.{Appends, Keeps, ReadConsumes};
 ghost use Rattle.mbox_file.specs.MailboxFile.{IsHeld};
 ghost use Rattle.lmtpd_copy.specs.Copied.{Copies, IsCopied, IsFilled, IsFree, IsGone, IsMadeAndFilled};
 ghost use Rattle.lmtpd_copy.specs.Copied.{StandsLocked, StaysLocked, StaysMade};
-ghost use Rattle.lmtpd_copy.specs.Target.{HasMade};
+ghost use Rattle.lmtpd_copy.specs.Target.{HasMade, HasSamePath};
 ghost use Rattle.mbox_rd.specs.Turn.{HasMissed};
 
 use crate::fault::CopyFault;
@@ -31,6 +31,7 @@ pub fn copy_mailbox<F: MailboxSource, T: CopyTarget, C: Clock>(
     ensures copied { OnOk result (IsCopied F.is_known F.state F.unread T.tells T.state
         source.old source.new target.old target.new) }
     ensures free { OnErr result (IsFree (F.state source.old) (F.state source.new)) }
+    ensures path { HasSamePath (T.state target.old) (T.state target.new) }
     ensures gone { T.tells ≡ true → (T.state target.old).is_made ≡ false
         → OnErr result (IsGone (T.state target.old) (T.state target.new)) }
 {
@@ -52,6 +53,7 @@ fn make_copy<F: MailboxSource, T: CopyTarget, C: Clock>(
     ensures filled { OnOk result (IsMadeAndFilled F.is_known F.state F.unread T.tells T.state
         source.old source.new target.old target.new) }
     ensures locked { StaysLocked (F.state source.old) (F.state source.new) }
+    ensures path { HasSamePath (T.state target.old) (T.state target.new) }
     ensures gone { T.tells ≡ true → (T.state target.old).is_made ≡ false
         → OnErr result (IsGone (T.state target.old) (T.state target.new)) }
 {
@@ -77,6 +79,7 @@ fn copy_and_keep<F: MailboxSource, T: CopyTarget, C: Clock>(
     ensures filled { OnOk result (IsFilled F.is_known F.state F.unread T.tells T.state
         source.old source.new (T.state target.old) target.new) }
     ensures locked { StaysLocked (F.state source.old) (F.state source.new) }
+    ensures path { HasSamePath (T.state target.old) (T.state target.new) }
     ensures made { T.tells ≡ true → StaysMade (T.state target.old) (T.state target.new) }
 {
     rewind(source)?;
@@ -98,6 +101,7 @@ fn copy_all<F: MailboxSource, T: CopyTarget, C: Clock>(
         (T.state target.new).bytes) }
     ensures same { OnOk result (F.state source.new ≡ F.state source.old) }
     ensures locked { StaysLocked (F.state source.old) (F.state source.new) }
+    ensures path { HasSamePath (T.state target.old) (T.state target.new) }
     ensures made { T.tells ≡ true → StaysMade (T.state target.old) (T.state target.new) }
 {
     let mut renewed = now(clock);
@@ -180,6 +184,7 @@ fn renew<F: MailboxSource>(source: &mut F) -> Result<(), CopyFault>
 }
 
 fn make<T: CopyTarget>(target: &mut T) -> Result<(), CopyFault>
+    ensures path { HasSamePath (T.state target.old) (T.state target.new) }
     ensures fresh { T.tells ≡ true → OnOk result (HasMade (T.state target.old) (T.state target.new)) }
     ensures same { T.tells ≡ true → OnErr result (T.state target.new ≡ T.state target.old) }
 {
@@ -191,6 +196,7 @@ fn make<T: CopyTarget>(target: &mut T) -> Result<(), CopyFault>
 
 fn write<T: CopyTarget>(target: &mut T, bytes: &[u8]) -> Result<(), CopyFault>
     ensures bytes { OnOk result (Appends (T.state target.old).bytes (T.state target.new).bytes bytes.now) }
+    ensures path { HasSamePath (T.state target.old) (T.state target.new) }
     ensures made { T.tells ≡ true → StaysMade (T.state target.old) (T.state target.new) }
 {
     match target.write(bytes) {
@@ -202,6 +208,7 @@ fn write<T: CopyTarget>(target: &mut T, bytes: &[u8]) -> Result<(), CopyFault>
 fn keep<T: CopyTarget>(target: &mut T) -> Result<(), CopyFault>
     ensures bytes { OnOk result (Keeps (T.state target.old).bytes (T.state target.new).bytes) }
     ensures kept { T.tells ≡ true → OnOk result ((T.state target.new).kept ≡ (T.state target.new).bytes) }
+    ensures path { HasSamePath (T.state target.old) (T.state target.new) }
     ensures made { T.tells ≡ true → StaysMade (T.state target.old) (T.state target.new) }
 {
     match target.keep() {

@@ -27,7 +27,7 @@ pub fn copy_file<R: Files + Clock + Copy + Drop>(
 where
     R::File: RangeLock + Writeback,
     ensures { OnOk result (HasCopiedFile (⟦<StdMailboxFile<R> as MailboxFile>⟧.state)
-        (⟦<StdMailboxFile<R> as MailboxSource>⟧.unread) (⟦<TargetFile<'static, R> as CopyTarget>⟧.state)) }
+        (⟦<StdMailboxFile<R> as MailboxSource>⟧.unread) (⟦<TargetFile<'static, R> as CopyTarget>⟧.state) to.now) }
 {
     let mut buffer = vec![in alloc; 0u8; BUFFER_SIZE]?;
     let mut source = StdMailboxFile::existing(rt, alloc, from).map_err(fault_of)?;
@@ -42,7 +42,7 @@ fn copy_opened<F: MailboxSource, T: CopyTarget, C: Clock>(
     buffer: &mut [u8],
 ) -> Result<(), CopyFault>
     requires { 0 < length buffer.old }
-    ensures { OnOk result (HasCopiedFile F.state F.unread T.state) }
+    ensures { OnOk result (HasCopiedFile F.state F.unread T.state (T.state target.old).path) }
 {
     copy_mailbox(source, target, clock, buffer)
 }

@@ -1,4 +1,6 @@
 //! The file of a copy in the file system.
+ghost use Rattle.std.specs.Prelude.{◌≡◌};
+
 use crate::target::CopyTarget;
 use mbox_rd::{remove_open, sync_folder};
 use std::fs::{Files, OpenFile, OpenOptions};
@@ -9,7 +11,7 @@ use std::os::unix::fs::OpenOptionsExt;
 /// Its owner reads and writes it, and nobody else.
 const MODE: u32 = 0o600;
 
-/// The file at a path, once it was made. It tells contracts its bytes alone, where its file system's files do.
+/// The file at a path, once it was made. It tells contracts its path, and its bytes where its file system's files do.
 pub struct TargetFile<'a, R: Files> {
     rt: &'a R,
     path: &'a str,
@@ -28,7 +30,9 @@ impl<R: Files> Drop for TargetFile<'_, R> {
 
 impl<'a, R: Files> TargetFile<'a, R> {
     /// At that path, where nothing is made yet.
-    pub fn new(rt: &'a R, path: &'a str) -> TargetFile<'a, R> {
+    pub fn new(rt: &'a R, path: &'a str) -> TargetFile<'a, R>
+        ensures { result.path.now ≡ path.now }
+    {
         TargetFile {
             rt,
             path,
@@ -43,7 +47,7 @@ impl<R: Files> CopyTarget for TargetFile<'_, R> {
 
     ghost tells = { false };
 
-    ghost state = { λ s. untold (bytes_of R.File.contents s.made) };
+    ghost state = { λ s. untold s.path.now (bytes_of R.File.contents s.made) };
 
     /// A symbolic link of that name is there, wherever it leads.
     fn make(&mut self) -> io::Result<()> {
