@@ -2,7 +2,8 @@
 there, and it reckons the sum of each crate below anew for each way that leads there in crates.txt: below the program
 there are thousands. Here what rt reckoned for a crate stands as long as the files of it, and of those below, are those
 that they were, by their times, sizes and numbers. And beside each `rt try` a check of the crate over the sources of all
-below it goes on, for a hint of reserved names alone, which `rt check` and `rt ci` refuse themselves: it isn't begun."""
+below it goes on, for a hint of reserved names alone, which `rt check` and `rt ci` refuse themselves: it isn't begun. The first build of a
+program keeps nothing of what it checked, which takes more than it saves where all is new."""
 
 import os
 
@@ -38,3 +39,15 @@ def hasten(rtlib):
             rtlib.RATTLE = checker
 
     rtlib.Crate.try_unproved = try_unproved
+
+    compile_it = rtlib.Crate.compile
+
+    def compile_once(crate, *words, **named):
+        kept, is_first = rtlib.KEPT, not (crate.has_kept() or os.path.exists(f"{crate.folder}/out/{crate.name}"))
+        rtlib.KEPT = [] if is_first else kept
+        try:
+            return compile_it(crate, *words, **named)
+        finally:
+            rtlib.KEPT = kept
+
+    rtlib.Crate.compile = compile_once

@@ -4,9 +4,10 @@
 `rt all check` gives each crate one process, and our crates are one long chain: most of the time it goes on with one or
 two of them. Here the crate with the longest chain above it, by the processor time that each took here last (out/seconds)
 or elsewhere (building/seconds), is proved by as many processes as there are cores, up to four, and the others fill what
-it leaves, by one or two processes each and at a lower priority. As rt holds the folders of all crates below the one that it works in, each works in a room of its own,
-which has the crates below by hard links; what it kept is moved to the crate's own folder then, where `rt run` takes it,
-which proves the program itself. A crate that isn't proved ends this with status 1, and what it said is printed.
+it leaves, by one or two processes each and at a lower priority. A library's first check here makes one of statements
+alone, as `rt ci` does, and keeps nothing else: from nothing that takes least. A later one keeps what it checked, so that
+the next has less to do. Each gets the stamp by which `rt run` takes it, which proves the program itself. A crate that
+isn't proved ends this with status 1, and what it said is printed.
 usage: building/prove.py, at the top of the repository
 """
 
@@ -20,11 +21,13 @@ import sys
 import tempfile
 import time
 
-BUILDING = pathlib.Path(__file__).resolve().parent
+sys.path.insert(0, os.path.dirname(os.path.realpath(shutil.which("rt"))))
+import rtlib
+from hasten import hasten
+
 CRATES = pathlib.Path("crates")
 SECONDS = pathlib.Path("building/seconds")
 PARTS = ["src", "specs", "proofs"]
-ROOMS = ".proving-"
 MOST_JOBS = 4  # of the first check: more have nothing to do
 FILLING_JOBS = 2  # of one that alone fills what the first leaves; of several each has one, as each process reads all
 JOB_KIB = 2_500_000  # of memory that a process may take
@@ -32,10 +35,10 @@ LOWER = 10  # the niceness of those that fill what the first leaves
 
 
 class Crate:
-    def __init__(self, row):
-        """The row is its line of crates.txt."""
-        self.row = row
+    def __init__(self, row, known):
+        """The row is its line of crates.txt; `known` has each crate as rt knows it, by its name."""
         self.name = row.replace(":", " ").split()[0]
+        self.known = known[self.name]
         self.folder = CRATES / self.name
         self.libraries = [it for it in row.partition(":")[2].split() if (CRATES / it).is_dir()]
         self.below = []
@@ -62,7 +65,8 @@ def rows_of(path):
 
 def read_crates():
     """All libraries of crates.txt by name, each with all crates below it and its chain."""
-    crates = {it.name: it for it in map(Crate, rows_of(pathlib.Path("crates.txt")))}
+    known = {it.name: it for it in rtlib.crates_below(str(CRATES.resolve()))}
+    crates = {it.name: it for it in (Crate(row, known) for row in rows_of(pathlib.Path("crates.txt")))}
     crates = {name: it for name, it in crates.items() if not (it.folder / "src/main.rt").exists()}
     seconds = {name: int(count) for name, count in map(str.split, rows_of(SECONDS))}
     usual = sum(seconds.values()) // len(seconds)  # of a crate that has no row
@@ -85,27 +89,21 @@ def read_crates():
 
 
 class Check:
-    """One crate's check, in a room of its own."""
+    """One crate's check, which makes its library."""
 
-    def __init__(self, crate, room, jobs, niceness):
-        self.crate, self.since = crate, time.monotonic()
-        self.room = room / crate.name
-        self.folder = self.room / "crates" / crate.name
-        self.folder.parent.mkdir(parents=True)
-        shutil.copy("HANDLES", self.room)
-        (self.room / "crates.txt").write_text("".join(f"{it.row}\n" for it in [crate, *crate.below]))
-        for it in [crate, *crate.below]:
-            without = shutil.ignore_patterns("out" if it == crate else "incremental")
-            shutil.copytree(it.folder, self.room / it.folder, copy_function=os.link, ignore=without)
-        if (crate.folder / "out").exists():
-            os.rename(crate.folder / "out", self.folder / "out")
-        self.said = (self.room / "said").open("w+b")
-        # rt lib makes a crate into a library for those above
-        words = [sys.executable, "-B", BUILDING / "rt", "lib", "--jobs", str(jobs)]
+    def __init__(self, crate, jobs, niceness):
+        self.crate, self.since, self.stamp = crate, time.monotonic(), crate.known.stamp()
+        made = crate.folder / "out/rlib"
+        is_first = not (made / "stamp").exists() and not crate.known.has_kept()
+        shutil.rmtree(made, ignore_errors=True)
+        made.mkdir(parents=True)
+        self.said = tempfile.TemporaryFile("w+b")
+        kept = ["--statements"] if is_first else rtlib.KEPT
+        words = [rtlib.RATTLE, "build", *crate.known.words(["--jobs", str(jobs)]), *kept, "-o", crate.known.rlib]
         # a group of processes, and no session: the kernel weighs niceness within a session alone
         begin = lambda: (os.setpgrp(), os.nice(niceness))  # noqa: E731
         ends = {"stdin": subprocess.DEVNULL, "stdout": self.said, "stderr": subprocess.STDOUT}
-        self.process = subprocess.Popen(words, cwd=self.folder, preexec_fn=begin, **ends)
+        self.process = subprocess.Popen(words, cwd=crate.folder, preexec_fn=begin, **ends)
         self.seconds = 0  # of processor time, once it has ended
 
     def has_ended(self):
@@ -125,13 +123,14 @@ class Check:
             pass
 
     def finish(self):
-        """Hands back what was kept, and says whether the crate is proved."""
+        """Stamps the library that was made, and says whether the crate is proved."""
         if self.process.poll() is None:
             os.killpg(self.process.pid, signal.SIGKILL)
             self.process.wait()
-        if (self.folder / "out").exists():
-            os.rename(self.folder / "out", self.crate.folder / "out")
-        if self.process.returncode == 0:
+        # after an edit meanwhile nobody can tell what was proved
+        is_proved = self.process.returncode == 0 and self.stamp == self.crate.known.stamp()
+        if is_proved:
+            (self.crate.folder / "out/rlib/stamp").write_text(self.stamp)
             (self.crate.folder / "out/seconds").write_text(f"{self.seconds}\n")
             told = f"{time.monotonic() - self.since:.0f} s, {self.seconds} s of processor time"
             print(f"{self.crate.name} proved in {told}", flush=True)
@@ -140,8 +139,7 @@ class Check:
             sys.stdout.flush()
             sys.stdout.buffer.write(self.said.read())
             print(f"{self.crate.name} NOT PROVED", flush=True)
-        shutil.rmtree(self.room)
-        return self.process.returncode == 0
+        return is_proved
 
 
 def proved_as_they_stand(crates):
@@ -162,7 +160,7 @@ def memory():
     return 0
 
 
-def next_check(left, proved, running, room):
+def next_check(left, proved, running):
     """Begins the ready crate with the longest chain, where cores and memory have room for it; None where not."""
     cores = len(os.sched_getaffinity(0))
     ready = [it for it in left if all(below.name in proved for below in it.below)]
@@ -176,16 +174,16 @@ def next_check(left, proved, running, room):
     filling = FILLING_JOBS if len(ready) + len(running) == 2 else 1
     jobs = max(1, min(MOST_JOBS if leads else filling, cores, fits))
     left.remove(crate)
-    return Check(crate, room, jobs, 0 if leads else LOWER)
+    return Check(crate, jobs, 0 if leads else LOWER)
 
 
-def prove(crates, room):
+def prove(crates):
     proved = proved_as_they_stand(crates)
     left = [it for it in crates.values() if it.name not in proved]
     running = []
     try:
         while left or running:
-            while begun := next_check(left, proved, running, room):
+            while begun := next_check(left, proved, running):
                 running.append(begun)
             if not running:
                 return False
@@ -211,13 +209,10 @@ def hold(crates):
 
 def main():
     signal.signal(signal.SIGTERM, lambda *_: sys.exit(1))
+    hasten(rtlib)
     crates = read_crates()
     hold(crates)
-    for left in pathlib.Path(".").glob(f"{ROOMS}*"):  # by a run that was killed
-        shutil.rmtree(left)
-    # hard links and renames stay within one file system
-    with tempfile.TemporaryDirectory(prefix=ROOMS, dir=".") as room:
-        return 0 if prove(crates, pathlib.Path(room).resolve()) else 1
+    return 0 if prove(crates) else 1
 
 
 if __name__ == "__main__":
