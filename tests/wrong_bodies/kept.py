@@ -7,7 +7,7 @@ import os
 import pathlib
 import subprocess
 
-JUDGE = ["apply.py", "kept.py", "place.py", "told.py", "try.py"]
+JUDGE = ["apply.py", "kept.py", "place.py", "stamps.py", "told.py", "try.py"]
 PARTS = ["src", "specs", "proofs"]
 # of a library that was made: what those above it see
 SEEN = ["interface/lang", "lang"]

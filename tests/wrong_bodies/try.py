@@ -24,12 +24,11 @@ import time
 
 import apply
 import kept
+import stamps
 import told
 from place import Place, places_of
 
-sys.path.insert(0, os.path.dirname(os.path.realpath(shutil.which("rt"))))
-import rtlib
-
+RT = [sys.executable, "-B", pathlib.Path(__file__).resolve().parent.parent.parent / "building/rt"]
 MOST = 20  # of wrong bodies that are tried at once
 ROUNDS = 3  # of trying without answers, each of which may show further names that are gone
 FOLDERS = {"--own": "must-fail", "--gate": "must-fail-at-once"}  # of a crate, by the word that asks for them
@@ -63,14 +62,12 @@ class Room:
             left, to = shutil.ignore_patterns("must-fail*", "out"), self.top / "crates" / it
             shutil.copytree(root / "crates" / it, to, copy_function=os.link, ignore=left)
             shutil.copytree(root / "crates" / it / "out/rlib", to / "out/rlib", copy_function=os.link)
-        # rattle itself: `rt check` looks through all sources below at each check, and proves anew what `rt ci` made
-        made = next(it for it in rtlib.crates_below(str(self.top)) if it.name == name)
-        self.words = [rtlib.RATTLE, "check", *made.words(["--jobs", "1"]), *rtlib.KEPT]
+        stamps.write(self.top, below)
 
     def check(self, *words):
         """How a check of the crate as it stands now ended, and what it said."""
         how = {"cwd": self.crate, "stdin": subprocess.DEVNULL, "stderr": subprocess.STDOUT, "errors": "replace"}
-        ran = subprocess.run([*self.words, *words], stdout=subprocess.PIPE, check=False, **how)
+        ran = subprocess.run([*RT, "check", "--jobs", "1", *words], stdout=subprocess.PIPE, check=False, **how)
         return ran.returncode, ran.stdout
 
     def said_with(self, texts, places=()):
