@@ -22,6 +22,7 @@ import mailbox_of_user  # noqa: F401
 import malformed  # noqa: F401
 import many_clients_one_mailbox  # noqa: F401
 import many_mailboxes  # noqa: F401
+import map_elsewhere  # noqa: F401
 import marks_of_senders  # noqa: F401
 import moved_users  # noqa: F401
 import named_as_users  # noqa: F401
