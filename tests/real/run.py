@@ -18,6 +18,7 @@ import killed_under_load  # noqa: F401
 import lease_in_var_mail  # noqa: F401
 import leases_are_told  # noqa: F401
 import log_keeps_lines  # noqa: F401
+import long_run  # noqa: F401
 import mailbox_of_user  # noqa: F401
 import malformed  # noqa: F401
 import many_clients_one_mailbox  # noqa: F401
