@@ -7,10 +7,11 @@ import os
 import re
 import subprocess
 import sys
+import tempfile
 import time
 
 import letters
-from cases import equal
+from cases import Absent, equal
 from in_a_machine import installed
 from packages import install, program
 from pages import PAGES
@@ -18,18 +19,31 @@ from pages import PAGES
 RELAY = 10  # the last number of its address
 HOSTS = {"anna": 11, "ben": 12, "carla": 13}  # the host of each user of the page
 MAP = "/etc/postfix/hosts"
-# Hands over so many letters, to each of these users in turn, and says the user and the name of each that was taken.
+# Hands over so many letters, to each of these users in turn, and says the user and the name of each that was taken, and
+# how often it was put off before: it tries again after so many seconds, by a new connection, where these aren't 0.
 CLIENT = r"""
 import smtplib, sys, time
-first, count, pause, *users = sys.argv[1:]
-with smtplib.SMTP("127.0.0.1", 25, local_hostname="client.example", timeout=60) as client:
-    for number in range(int(count)):
-        user, name = users[number % len(users)], f"{first}-{number}"
-        head = f"Subject: {name}\r\nMessage-ID: <{name}@a.example>\r\n\r\n"
-        text = "".join(f"{name} line {line}\r\n" for line in range(number % 50))
-        client.sendmail("carl@a.example", [f"{user}@mx.example"], f"{head}{text}end of {name}\r\n".encode())
-        print(user, name, flush=True)
-        time.sleep(float(pause))
+first, count, pause, again, *users = sys.argv[1:]
+client = None
+for number in range(int(count)):
+    user, name, put_off = users[number % len(users)], f"{first}-{number}", 0
+    head = f"Subject: {name}\r\nMessage-ID: <{name}@a.example>\r\n\r\n"
+    text = "".join(f"{name} line {line}\r\n" for line in range(number % 50))
+    letter = f"{head}{text}end of {name}\r\n".encode()
+    while True:
+        client = client or smtplib.SMTP("127.0.0.1", 25, local_hostname="client.example", timeout=60)
+        try:
+            client.sendmail("carl@a.example", [f"{user}@mx.example"], letter)
+            break
+        except smtplib.SMTPRecipientsRefused as refused:
+            if not float(again) or any(code != 451 for code, _ in refused.recipients.values()):
+                raise
+            client.close()
+            client, put_off = None, put_off + 1
+            time.sleep(float(again))
+    print(user, name, put_off)
+    time.sleep(float(pause))
+client.quit()
 """
 
 # Says what the relay answers to a recipient.
@@ -90,10 +104,10 @@ def typed(machine, lines, seconds=60):
 
 class Site:
     """The machines, by the last numbers of their addresses; letters that the relay took are `told`, as pairs of a user
-    and a name."""
+    and a name; `put_off` is how often one was before."""
 
     def __init__(self, network, machines):
-        self.network, self.machines, self.told = network, machines, []
+        self.network, self.machines, self.told, self.put_off = network, machines, [], 0
         self.relay = machines[RELAY]
         for number in HOSTS.values():
             [host, relay] = blocks("## Which host")
@@ -118,17 +132,21 @@ class Site:
         self.type(RELAY, f"cat > {MAP} << 'END'\n{text}END\npostmap lmdb:{MAP}; postfix reload")
 
     @contextlib.contextmanager
-    def client(self, first, count, pause, users=tuple(HOSTS)):
+    def client(self, first, count, pause, users=tuple(HOSTS), again=0, seconds=120):
         """Hands over letters until the end of a `with`, which waits for the last one."""
-        words = [sys.executable, "-c", CLIENT, first, str(count), str(pause), *users]
-        process = self.relay.begin(words, stdout=subprocess.PIPE, stderr=subprocess.PIPE, text=True)
-        try:
-            yield
-        finally:
-            said, errors = process.communicate(timeout=120)
-        equal((process.returncode, errors), (0, ""))
-        equal(len(said.splitlines()), count)
-        self.told += [tuple(line.split()) for line in said.splitlines()]
+        words = [sys.executable, "-c", CLIENT, first, str(count), str(pause), str(again), *users]
+        with tempfile.TemporaryFile("w+") as said:  # a pipe that nobody reads holds it up once it is full
+            process = self.relay.begin(words, stdout=said, stderr=subprocess.STDOUT)
+            try:
+                yield
+            finally:
+                ended = process.wait(timeout=seconds)
+                said.seek(0)
+                lines = said.read().splitlines()
+        equal((ended, len(lines), lines[-1:] if ended else []), (0, count, []))
+        taken = [line.split() for line in lines]
+        self.told += [(user, name) for user, name, _ in taken]
+        self.put_off += sum(int(times) for _, _, times in taken)
 
     def send(self, first, count, users=tuple(HOSTS)):
         """So many letters, at once."""
@@ -138,7 +156,8 @@ class Site:
     def is_sent(self, users=tuple(HOSTS)):
         """Whether each letter told of these users was handed over."""
         sent = collections.Counter(re.findall(r"to=<(\w+)@mx\.example>.* status=sent ", self.log()))
-        return all(sent[user] == sum(told == user for told, _ in self.told) for user in users)
+        told = collections.Counter(user for user, _ in self.told)
+        return all(sent[user] == told[user] for user in users)
 
     def found(self, user, number, file="mbox"):
         """How often each letter stands there, whole, in that user's mailbox."""
@@ -160,16 +179,20 @@ class Site:
     def equal_all(self, hosts):
         """Each letter that was told is in its user's mailbox on that host, once, or more often where it may be; nothing
         bounced, and the queue is empty."""
-        log, unsure = self.log(), self.may_be_twice()
-        equal("status=bounced" in log, False)
         self.wait(lambda: self.type(RELAY, "postqueue -p") == "Mail queue is empty\n")
+        unsure, all_told = self.may_be_twice(), collections.defaultdict(set)
+        equal("status=bounced" in self.log(), False)
+        for user, name in self.told:
+            all_told[user].add(name)
         twice = 0
         for user, number in hosts.items():
-            found, told = self.found(user, number), {name for whose, name in self.told if whose == user}
+            found, told = self.found(user, number), all_told[user]
             equal((user, sorted(set(found) - told), sorted(told - set(found))), (user, [], []))
             equal((user, [it for it in found if found[it] > 1 + unsure[it]]), (user, []))
             twice += sum(found.values()) - len(told)
-            self.type(number, f"lmtpd check /var/mail/lmtpd/{user}.mbox")
+        for number in set(hosts.values()):
+            boxes = " ".join(f"{user}.mbox" for user in hosts if hosts[user] == number)
+            self.type(number, f"cd /var/mail/lmtpd; lmtpd check {boxes}")
         return f"{len(self.told)} letters, {twice} twice of {sum(unsure.values())} that may be"
 
     def open_ssh(self, source, target):
@@ -189,10 +212,18 @@ def known(there, user):
         return int(process.communicate(timeout=60)[0])
 
 
+def need_maps(kind):
+    """Postfix's maps of that kind, from their package."""
+    install(f"postfix-{kind}")
+    said = subprocess.run([program("postconf", "postfix"), "-m"], check=True, capture_output=True, text=True)
+    if kind not in said.stdout.split():
+        raise Absent(f"Postfix has no maps by {kind} (package postfix-{kind})")
+
+
 @contextlib.contextmanager
 def site(folder, *more):
     """It is made, and its users are known where the page has them; a machine for each further number has none."""
-    install("postfix-lmdb")
+    need_maps("lmdb")
     program("dropbear", "dropbear-bin")
     install("openssh-sftp-server")
     with contextlib.ExitStack() as stack:

@@ -18,10 +18,12 @@ import killed_under_load  # noqa: F401
 import lease_in_var_mail  # noqa: F401
 import leases_are_told  # noqa: F401
 import log_keeps_lines  # noqa: F401
+import long_run  # noqa: F401
 import mailbox_of_user  # noqa: F401
 import malformed  # noqa: F401
 import many_clients_one_mailbox  # noqa: F401
 import many_mailboxes  # noqa: F401
+import map_elsewhere  # noqa: F401
 import marks_of_senders  # noqa: F401
 import moved_users  # noqa: F401
 import named_as_users  # noqa: F401

@@ -9,8 +9,9 @@
 # deliveries draw the server's memory there; RESTARTS is how many restarts a server has beside clients, 100 without it,
 # and POSTFIX_RESTARTS how many beside Postfix with letters of each size, 30 without it; READERS_SECONDS how long
 # readers delete, 60 without it; LETTERS_UNDER_THE_UNIT how many letters come beside a Dovecot that takes the lock file,
-# 3,000 without it. With DAMAGE=yes the cases of malformed letters run the server without --refuse-malformed, and each
-# needs the harm to be done that the word is for.
+# 3,000 without it; LONG_RUN_LETTERS how many letters come in a long run of three hosts, which isn't there without it
+# (long_run.py has its other numbers). With DAMAGE=yes the cases of malformed letters run the server without
+# --refuse-malformed, and each needs the harm to be done that the word is for.
 #
 # A case of what a service does runs the unit of `make deb` as it is installed, in a machine of its own whose first
 # process is systemd (in_a_machine.py, service.py; debian.py; with `make install` those that type SETUP's ten lines).
