@@ -110,6 +110,9 @@ def kill(there):
         for it in SERVERS.split():
             begun = f"systemctl is-active --quiet {it} && sleep 0.3"
             there.type(KILLED, f"until {begun} && {signal} {it}; do sleep 0.1; done")
+    for it in SERVERS.split():
+        there.type(KILLED, f"until systemctl is-active --quiet {it}; do sleep 0.1; done")
+        equal((it, there.type(KILLED, f"systemctl show -p NRestarts --value {it}")), (it, f"{KILLS}\n"))
 
 
 def move(there):
