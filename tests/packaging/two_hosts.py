@@ -201,7 +201,9 @@ def a_host_that_goes_away(folder):
     need_names()
     for number in [signal.SIGTERM, signal.SIGINT, signal.SIGHUP]:
         hosts = [begun(folder, name) for name in ["one", "two"]]
-        wait_for(folder, ".mbox")
+        # each has met the other by then: one that is stopped before leaves the other waiting for any host
+        for made in [".0.new", ".1.new"]:
+            wait_for(folder, made)
         hosts[0].send_signal(number)
         equal(ended(*hosts), [fault("stopped"), fault("the other host went away")])
         equal(left(folder), [])
