@@ -42,11 +42,12 @@ def hasten(rtlib):
 
     compile_it = rtlib.Crate.compile
 
-    def compile_once(crate, *words, **named):
-        kept, is_first = rtlib.KEPT, not (crate.has_kept() or os.path.exists(f"{crate.folder}/out/{crate.name}"))
-        rtlib.KEPT = [] if is_first else kept
+    def compile_once(crate, flags, *words, **named):
+        kept, is_built = rtlib.KEPT, os.path.exists(f"{crate.folder}/out/{crate.name}")
+        # where it is told no number of jobs rt looks itself at what is kept
+        rtlib.KEPT = kept if is_built or crate.has_kept() or "--jobs" not in flags else []
         try:
-            return compile_it(crate, *words, **named)
+            return compile_it(crate, flags, *words, **named)
         finally:
             rtlib.KEPT = kept
 
