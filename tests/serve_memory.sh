@@ -13,7 +13,9 @@ cd "$(dirname "$0")/.."
 . tests/needs cc rustc
 . tests/built_program
 . tests/processes
-folder=$(mktemp -d)
+# in memory, where there is such a file system: on a disk that others use a turn may take half a second, and then its
+# mailbox is told as busy
+folder=$(mktemp -d -p /dev/shm 2> /dev/null || mktemp -d)
 server='' tracer='' status=0
 trap 'kill $tracer $server 2> /dev/null || true; wait; rm -rf "$folder"' EXIT
 LANES=4 BOXES=10
