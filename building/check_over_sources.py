@@ -5,7 +5,7 @@ the libraries that a gate made here or in another clone (LIBRARIES: its top). Wi
 crates is checked too; with --only MODULE, for each module of CRATE, those alone that it reaches. Where nothing below
 changed CHANGED is none.
 usage: LIBRARIES=/path/to/clone building/check_over_sources.py CRATE CHANGED,CHANGED.. [words for `rattle check`]
-as in: building/check_over_sources.py box_worker mbox_record,mail_post --only worker --short-goals
+as in: building/check_over_sources.py box_worker mbox_record,mail_post --only thread --short-goals
 """
 
 import os

@@ -2,7 +2,7 @@
 # Wrong bodies that types alone refuse: tried on a copy of the crates, none compiles, and the compiler says why.
 # - Only the keeper's module can make a NoRoom, so a depot can only hand on the keeper's.
 # - A hold is split and released without the depot's lock: that asks for a runtime that may wait, and neither has one.
-# - A worker tells a lane of a copy only once it has given the copy's hold back, and tells it then: a body that tells
+# - A worker thread tells a lane of a copy only once it has given the copy's hold back, and tells it then: a body that tells
 #   first, one that sends a slip past `tell`, and one that doesn't tell.
 set -euo pipefail
 cd "$(dirname "$0")/.."
@@ -36,9 +36,9 @@ locked='let _keeper = self.keeper.lock(&());'
 refuses msg_depot depot 'hold::split_one(&self.board, hold)' "$locked hold::split_one(&self.board, hold)" 'Wait'
 refuses msg_depot depot 'hold::release(&self.board, hold)' "$locked hold::release(&self.board, hold)" 'Wait'
 
-refuses box_worker worker 'release(rt, depot, txn, place, hold)' 'crate::release::Released { txn, place }' \
+refuses box_worker kept 'release(rt, depot, txn, place, hold)' 'crate::release::Released { txn, place }' \
     'txn.*Released.*private'
-told=$'self.slips\n            .tell::<Brand, N, R>(rt, released, end.outcome(), receiver)'
-refuses box_worker worker "$told" 'self.slips.senders.pop()' \
+told='slips.tell::<Brand, N, R>(rt, released, self.number, end.outcome(), receiver)'
+refuses box_worker kept "$told" 'slips.senders.pop()' \
     'senders.*SlipSenders.*private'
-refuses box_worker worker "$told;" '' 'released.*let go.*Drop'
+refuses box_worker kept "$told;" '' 'released.*let go.*Drop'

@@ -7,3 +7,9 @@ pub mod OneTurn
 pub mod Turning
 pub mod Handling
 pub mod Working
+pub mod Shares
+pub mod Many
+pub mod Within
+pub mod Passing
+pub mod Gives
+pub mod OwnSlips

@@ -5,4 +5,5 @@ pub mod Turned
 pub mod TurnEnds
 pub mod TurnTimes
 pub mod Worked
-pub mod Between
+pub mod Shares
+pub mod Passing

@@ -1,5 +1,5 @@
 -- What a worker tells the lanes of the copies that it took.
-use Rattle.std.specs.Prelude.{ℕ, ◌==◌, Bool, true, false, List, [], ◌∷◌, filter}
+use Rattle.std.specs.Prelude.{ℕ, ◌==◌, Bool, true, false, List, filter}
 use Rattle.mail_world.specs.declared.Txn.{Txn}
 use Rattle.mail_world.specs.declared.Note.{Note}
 use Rattle.mail_world.specs.declared.Outcome.{Outcome}
@@ -7,11 +7,6 @@ use Rattle.mail_world.specs.declared.Outcome.TheVariants.{Stored, OverQuota}
 use Rattle.mail_world.specs.declared.Slip.{Slip}
 use Rattle.mail_world.specs.Slips.{slips_from}
 use Rattle.mail_post.specs.Channel.{Sender}
-
--- the number of the worker whose senders these are
-abbrev pub worker_of : List (Sender Slip) → ℕ
-worker_of [] = 0
-worker_of (sender ∷ senders) = sender.number
 
 -- the slip that names the transaction and the place, and the worker that gives it
 abbrev pub slip_by : Txn → ℕ → Outcome → Sender Slip → Slip

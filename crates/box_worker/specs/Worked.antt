@@ -31,17 +31,6 @@ pub record WorkerState : Type 0 where
   pub lost : Bool
   pub told : Option (List TurnEnd)
 
--- what a worker hands back: its receiver, what it came to, and its gate
-pub record WorkerBack (G : Type 0) : Type 0 where
-  pub receiver : Inbox Note
-  pub worker : WorkerState
-  pub gate : G
-
--- the same of a worker between two copies, where its channel may have been found gone besides
-abbrev pub worker_back : {G : Type 0} → Inbox Note → WorkerState → G → Bool → WorkerBack G
-worker_back receiver worker gate gone =
-    record { receiver = receiver; worker = record worker { lost = worker.lost || gone }; gate = gate }
-
 -- its mailbox, with what it counts there
 abbrev pub counted_of : WorkerState → Option Limit → CountedMailbox
 counted_of worker limit = record { mailbox = worker.mailbox; limit = limit; in_use = worker.in_use }

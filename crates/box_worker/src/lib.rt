@@ -1,22 +1,24 @@
-//! The worker of one mailbox: it takes copies from the lanes, stores each as a record, and tells the lane what became
-//! of it.
+//! The worker thread of some mailboxes: it takes copies from the lanes, stores each in its mailbox as a record, and
+//! tells the lane what became of it.
 //!
-//! A server's threads use `worker_run`: each copy that it takes has one outcome, which a slip tells, and its record
-//! where that is Stored. A `TurnObserver` is told how each copy's turn ended, and a `Gate` may hold a worker before and
-//! after a copy. It never knows of a conversation or of
-//! another mailbox.
+//! A server's threads use `thread_run`. To each of its mailboxes (`Kept`) a thread is a worker of the mailbox's own:
+//! each copy that it takes for it has one outcome, which a slip tells, and its record where that is Stored. A
+//! `TurnObserver` is told how each copy's turn ended, and a `Gate` may hold the thread before and after a copy. It
+//! never knows of a conversation or of another thread's mailboxes.
 #![tactic(auto)]
 
 mod gate;
+mod kept;
 mod limit;
 mod mailbox;
 mod release;
 mod report;
 mod store;
+mod thread;
 mod turn;
-mod worker;
 
 pub use gate::{Gate, OpenGate};
-pub use report::WorkerReport;
+pub use kept::Kept;
+pub use report::{MailboxReport, ThreadReport};
+pub use thread::thread_run;
 pub use turn::{TurnEnd, TurnObserver};
-pub use worker::worker_run;

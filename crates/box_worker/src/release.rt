@@ -2,8 +2,8 @@
 //! fields that are private to this module, so that no slip goes out for a copy that is still held.
 
 ghost use Rattle.std.specs.Prelude.{◌≡◌, ◌<◌, Bool, length};
-ghost use Rattle.mail_post.specs.Offered.{IsOffered, any_gone};
-ghost use Rattle.box_worker.specs.Told.{slip_by};
+ghost use Rattle.mail_post.specs.Offered.{IsOffered, HaveNumber, any_gone};
+ghost use Rattle.mail_post.specs.WorkerThreads.{worker_thread};
 
 use mail_post::{Moment, Receiver, SlipSender};
 use mail_world::{Outcome, Slip, Txn};
@@ -29,13 +29,20 @@ pub(crate) fn release<N: DepotName, R: Wait>(
     requires { hold.weight ≡ 1 }
     ensures { (result.txn ≡ txn) × (result.place ≡ place) }
 {
-    if let Some(spent) = depot.release(hold) {
-        depot.reclaim(rt, spent);
-    }
+    let_go(rt, depot, hold);
     Released { txn, place }
 }
 
-/// A worker's senders of slips, one for each lane. What they send is for a copy that was released. Contracts see the
+/// The same of a copy that no lane is told of.
+pub(crate) fn let_go<N: DepotName, R: Wait>(rt: &R, depot: &Depot<N>, hold: Hold<N>)
+    requires { hold.weight ≡ 1 }
+{
+    if let Some(spent) = depot.release(hold) {
+        depot.reclaim(rt, spent);
+    }
+}
+
+/// A thread's senders of slips, one for each lane. What they send is for a copy that was released. Contracts see the
 /// list of them.
 #[derive(Drop)]
 pub(crate) struct SlipSenders {
@@ -59,25 +66,28 @@ impl SlipSenders {
         SlipSenders { senders }
     }
 
-    /// Gives the copy's lane a slip, after the picked time, which may be the receiver's. One that comes back is
-    /// dropped, and its sender says that it did.
+    /// Gives the copy's lane a slip of the mailbox of that number, after the picked time, which may be the receiver's.
+    /// One that comes back is dropped, and its sender says that it did.
     pub(crate) fn tell<K: Moment, N: DepotName, R: Wait>(
         &mut self,
         rt: &R,
         copy: Released,
+        worker: u32,
         outcome: Outcome,
         _receiver: &Receiver<N>,
     )
-        requires { copy.txn.lane < length self.old }
-        ensures { (accepted : Bool)
-            × IsOffered K.after copy.txn.lane (slip_by copy.txn copy.place outcome) accepted self.old self.new }
+        requires lane { copy.txn.lane < length self.old }
+        requires thread { HaveNumber (worker_thread worker) self.old }
+        ensures { (accepted : Bool) × IsOffered K.after copy.txn.lane
+            (λ sender. record { txn = copy.txn; place = copy.place; worker = worker; outcome = outcome }) accepted
+            self.old self.new }
     {
         let Released { txn, place } = copy;
         let sender = &mut self.senders[txn.lane as usize];
         let slip = Slip {
             txn,
             place,
-            worker: sender.number(),
+            worker,
             outcome,
         };
         let _ = sender.offer::<K, R>(rt, slip);

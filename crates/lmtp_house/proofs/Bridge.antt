@@ -72,20 +72,20 @@ pub record IsSettledAs {M : Type 0} (lane : M → ℕ) (n capacity : ℕ) (sent 
   pub got_is : taken inbox ≡ got
   pub took_at_is : inbox.took_at ≡ took_at
 
--- the same, where what was sent is said otherwise
-pub said_otherwise : {M : Type 0} (lane : M → ℕ) (n capacity : ℕ) (sent sent' : ℕ → List M) (sent_at : ℕ → List ℕ) (got : List M) (took_at : List ℕ)
-    → ((k : ℕ) → k < n → sent k ≡ sent' k) → IsSettledAs lane n capacity sent sent_at got took_at
-    → IsSettledAs lane n capacity sent' sent_at got took_at
-said_otherwise lane n capacity sent sent' sent_at got took_at same c = record {
+-- the same, where it is said otherwise
+pub said_otherwise : {M : Type 0} (lane : M → ℕ) (n capacity : ℕ) (sent sent' : ℕ → List M) (sent_at sent_at' : ℕ → List ℕ) (got got' : List M)
+    (took_at took_at' : List ℕ) → ((k : ℕ) → k < n → sent k ≡ sent' k) → ((k : ℕ) → k < n → sent_at k ≡ sent_at' k) → got ≡ got' → took_at ≡ took_at'
+    → IsSettledAs lane n capacity sent sent_at got took_at → IsSettledAs lane n capacity sent' sent_at' got' took_at'
+said_otherwise lane n capacity sent sent' sent_at sent_at' got got' took_at took_at' same same_at same_got same_took c = record {
   inbox = c.inbox;
   closed = c.closed;
   passed = c.passed;
   capacity_is = c.capacity_is;
   count = c.count;
   sent_is = λ k low. c.sent_is k low ∙ (λ i. Some (same k low i));
-  sent_at_is = c.sent_at_is;
-  got_is = c.got_is;
-  took_at_is = c.took_at_is;
+  sent_at_is = λ k low. c.sent_at_is k low ∙ (λ i. Some (same_at k low i));
+  got_is = c.got_is ∙ same_got;
+  took_at_is = c.took_at_is ∙ same_took;
 }
 
 -- its moments

@@ -5,6 +5,9 @@ pub mod NamedOnce
 pub mod HeardAll
 pub mod SlipRoom
 pub mod HouseSettled
+pub mod Taken
+pub mod BoxMail
+pub mod BoxSlips
 pub mod HouseEnd
 pub mod RunOfModel
 pub mod Bridge

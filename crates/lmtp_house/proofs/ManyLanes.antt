@@ -1,12 +1,12 @@
 -- A server with any number of lanes: what its threads did, at times that rise, is an orderly run of the model.
-use Rattle.std.proofs.Common.{◌≡◌, ℕ, ◌<◌, List, length, refl, sym, ◌∙◌, subst, arith}
+use Rattle.std.proofs.Common.{◌≡◌, ℕ, ◌<◌, List, length, sym, ◌∙◌, subst, arith}
 use Rattle.std.specs.Prelude.{flat_map}
 use Rattle.std.specs.List.{AllByRecursion}
 use Rattle.mail_world.specs.declared.Note.{Note}
 use Rattle.mail_world.specs.declared.limits.TheConstants.{RECIPIENT_LIMIT}
 use Rattle.mail_world.specs.Site.{Site}
 use Rattle.mail_world.specs.Conversation.{Conversation}
-use Rattle.mail_world.specs.Lists.{copies, copies_owed, due, transactions}
+use Rattle.mail_world.specs.Lists.{copies, copies_owed, of_lane, transactions}
 use Rattle.mail_runs.specs.Deeds.{turns_of}
 use Rattle.mail_runs.specs.Courses.{Server, outcomes_in}
 use Rattle.mail_runs.specs.Histories.{Threads}
@@ -22,12 +22,7 @@ use Rattle.lmtp_threads.specs.Works.{SpoolsView, LaneWork, BoxWork}
 use Rattle.lmtp_house.specs.Handed.{HandedIn, HandedBack}
 use Rattle.lmtp_house.specs.RunOfModel.{courses_of, server_of, threads_of, IsRunOfModel}
 use Rattle.lmtp_house.proofs.RunOfModel.{HaveExchanged, is_course}
-use Rattle.lmtp_house.proofs.Bridge.{IsSettledAs, said_otherwise, AreJoined, joined_in_order}
-use Rattle.lmtp_house.proofs.BridgeRows.{AreSettledAs, settled_as}
-
-due_is : (site : Site) (k b : ℕ) (cs : List Conversation) → due site k b cs ≡ copies_owed k b (transactions site 0 cs)
-unfolding due
-due_is site k b cs = refl
+use Rattle.lmtp_house.proofs.Bridge.{IsSettledAs, AreJoined, joined_in_order}
 
 -- all that lanes and workers did, with its times, and what was settled of their channels
 pub record HaveDeeds (site : Site) (n_lanes n_boxes capacity : ℕ) (lanes : ℕ → LaneWork) (boxes : ℕ → BoxWork) : Type 0 where
@@ -38,11 +33,14 @@ pub record HaveDeeds (site : Site) (n_lanes n_boxes capacity : ℕ) (lanes : ℕ
   pub of_workers : (b : ℕ) → b < n_boxes → AreWorkerDeeds (turns_of b (boxes b).taken (outcomes_in (boxes b).turns)) (worker_deeds b)
   pub exchanges : (k : ℕ) → k < n_lanes
       → AreExchanges RECIPIENT_LIMIT k (transactions site 0 (conversations_of (lanes k).visits)) (whats (lane_deeds k))
-  pub mail : AreSettledAs (λ note. note.txn.lane) n_lanes n_boxes (λ b. capacity) (λ k b. due site k b (conversations_of (lanes k).visits))
-      (λ k b. times (those (gives_to b) (lane_deeds k))) (λ b. (boxes b).taken) (λ b. times (those is_taken (worker_deeds b)))
+  pub mail : (b : ℕ) → b < n_boxes → IsSettledAs (λ note. note.txn.lane) n_lanes capacity
+      (λ k. copies_owed k b (transactions site 0 (conversations_of (lanes k).visits)))
+      (λ k. times (those (gives_to b) (lane_deeds k))) (boxes b).taken (times (those is_taken (worker_deeds b)))
+  pub took : (k b : ℕ) → k < n_lanes → b < n_boxes → of_lane k (boxes b).taken ≡ copies_owed k b (transactions site 0 (conversations_of (lanes k).visits))
   pub slip_room : ℕ → ℕ
-  pub slips : AreSettledAs (λ slip. slip.worker) n_boxes n_lanes slip_room (λ b k. owed_to b (outcomes_in (boxes b).turns) k (boxes b).taken)
-      (λ b k. times (those (tells_to k) (worker_deeds b))) (λ k. (lanes k).heard) (λ k. times (those is_heard (lane_deeds k)))
+  pub slips : (k : ℕ) → k < n_lanes → IsSettledAs (λ slip. slip.worker) n_boxes (slip_room k)
+      (λ b. owed_to b (outcomes_in (boxes b).turns) k (boxes b).taken)
+      (λ b. times (those (tells_to k) (worker_deeds b))) (lanes k).heard (times (those is_heard (lane_deeds k)))
 
 module _ {V S : Type 0} (site : Site) (spools : SpoolsView S) (lanes : ℕ → LaneWork) (boxes : ℕ → BoxWork)
     (old : HandedIn V S) (new : HandedBack V S) (h : HaveExchanged site spools lanes boxes old new)
@@ -64,22 +62,11 @@ module _ {V S : Type 0} (site : Site) (spools : SpoolsView S) (lanes : ℕ → L
     for_boxes = λ k low.
         let P : ℕ → Type 0 = λ n. AllByRecursion (λ (note : Note). note.mailbox < n) (flat_map (copies k) (transactions site 0 (held_by k))) in
         subst P (sym each_box) (lane_known site (omega (arith, each_box, some_boxes)) k (held_by k));
-    taken = λ k b low below. h.owed k b low below ∙ due_is site k b (held_by k);
+    taken = d.took;
     taken_only = h.owed_only;
     heard = h.told;
     heard_only = h.told_only;
   }
-
-  mail_at : (b : ℕ) → b < length old.spools → IsSettledAs (λ note. note.txn.lane) (length old.visits) old.capacity
-      (λ k. copies_owed k b (transactions site 0 (held_by k)))
-      (λ k. times (those (gives_to b) (d.lane_deeds k))) (boxes b).taken (times (those is_taken (d.worker_deeds b)))
-  mail_at b below =
-      said_otherwise (λ note. note.txn.lane) (length old.visits) old.capacity (λ k. due site k b (held_by k))
-      (λ k. copies_owed k b (transactions site 0 (held_by k)))
-      (λ k. times (those (gives_to b) (d.lane_deeds k))) (boxes b).taken (times (those is_taken (d.worker_deeds b)))
-      (λ k low. due_is site k b (held_by k))
-      (settled_as (λ note. note.txn.lane) (length old.visits) (length old.spools) (λ c. old.capacity) (λ k c. due site k c (held_by k))
-      (λ k c. times (those (gives_to c) (d.lane_deeds k))) (λ c. (boxes c).taken) (λ c. times (those is_taken (d.worker_deeds c))) d.mail b below)
 
   joined : AreJoined RECIPIENT_LIMIT old.capacity server threads
   joined = record {
@@ -89,11 +76,9 @@ module _ {V S : Type 0} (site : Site) (spools : SpoolsView S) (lanes : ℕ → L
     lanes = d.of_lanes;
     workers = d.of_workers;
     exchanges = d.exchanges;
-    mail = mail_at;
+    mail = d.mail;
     slip_room = d.slip_room;
-    slips = settled_as (λ slip. slip.worker) (length old.spools) (length old.visits) d.slip_room
-        (λ b j. owed_to b (outcomes_in (boxes b).turns) j (boxes b).taken)
-        (λ b j. times (those (tells_to j) (d.worker_deeds b))) (λ j. (lanes j).heard) (λ j. times (those is_heard (d.lane_deeds j))) d.slips;
+    slips = d.slips;
   }
 
   pub all_lanes_run : IsRunOfModel site spools.state lanes boxes old

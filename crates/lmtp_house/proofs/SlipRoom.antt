@@ -1,7 +1,6 @@
--- A lane's channel of slips, which is empty when it is closed, has room for the closing marks of all workers.
+-- A lane's channel of slips, which is empty when it is closed, has room for the closing marks of all worker threads.
 use Rattle.std.proofs.Common.{◌≤◌, lit≤}
-use Rattle.mail_world.specs.declared.limits.TheConstants.{BOX_LIMIT}
-use Rattle.mail_post.specs.declared.kinds.TheConstants.{SLIP_CAPACITY}
+use Rattle.mail_post.specs.declared.kinds.TheConstants.{SLIP_CAPACITY, WORKER_THREADS}
 
-pub marks_fit : BOX_LIMIT ≤ SLIP_CAPACITY
+pub marks_fit : WORKER_THREADS ≤ SLIP_CAPACITY
 marks_fit = lit≤ tt

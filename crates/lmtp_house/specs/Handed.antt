@@ -3,7 +3,7 @@ use Rattle.std.specs.Prelude.{ℕ, List, Option}
 use Rattle.lmtp_threads.specs.declared.tally.Tally.{Tally}
 
 -- what is handed in: clients by lane, spools by mailbox, both with their observers, how many copies may wait for a
--- mailbox's worker, and the limit of bytes for each mailbox
+-- worker thread, and the limit of bytes for each mailbox
 pub record HandedIn (V S : Type 0) : Type 0 where
   pub visits : List V
   pub spools : List S

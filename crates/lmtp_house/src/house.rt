@@ -1,4 +1,4 @@
-//! A server: its lanes and its workers, each in a thread.
+//! A server: its lanes, each in a thread, and its mailboxes' workers in theirs.
 
 mod channels;
 pub mod fault;

@@ -1,4 +1,4 @@
-//! An LMTP server (RFC 2033): its lanes and its workers, each in a thread.
+//! An LMTP server (RFC 2033): its lanes, each in a thread, and its mailboxes' workers in theirs.
 //!
 //! The programs use `run_house`: where it returns Ok, each mailbox got of each lane what its conversations owe it, what
 //! the threads did is a run of the model, and each observer was told of it. The names of `lmtp_talk` and `lmtp_lane`

@@ -26,7 +26,7 @@ use Rattle.mail_runs.specs.Deeds.{Gave, Heard}
 use Rattle.mail_post.specs.Channel.{taken}
 use Rattle.mail_post.specs.Offered.{any_gone}
 use Rattle.mail_post.proofs.Offered.{sent_nothing}
-use Rattle.lmtp_lane.specs.LaneExchange.{LaneEnds, for_box, HasExchangedBy, Episode, joined, IsEpisode, sent_as}
+use Rattle.lmtp_lane.specs.LaneExchange.{LaneEnds, for_thread, HasExchangedBy, Episode, joined, IsEpisode, sent_as}
 use Rattle.mail_world.specs.Counts.{counted}
 use Rattle.lmtp_lane.proofs.Doing.{done_nothing}
 use Rattle.lmtp_lane.proofs.Turns.{exchanges_none, exchanged_whole}
@@ -329,7 +329,7 @@ offered_none site May ends =
         accepted = [];
         left = [];
         first = refl;
-        offered = sent_nothing (λ box. for_box box []) ends.senders (λ box. refl);
+        offered = sent_nothing (λ t. for_thread t []) ends.senders (λ t. refl);
         all = λ none. refl;
         whole = λ none. none;
         tells = λ fresh. sym (ap (λ g. any_gone ends.senders || is_some g) fresh ∙ or_false (any_gone ends.senders));

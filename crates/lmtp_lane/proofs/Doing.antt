@@ -16,6 +16,7 @@ use Rattle.mail_runs.specs.Known.{is_of_lanes}
 use Rattle.mail_post.specs.Channel.{Sender, Inbox, IsAccepted, IsTimed}
 use Rattle.mail_post.specs.Offered.{IsOffered}
 use Rattle.mail_post.specs.InTime.{Ends, clock_of, AreInTime}
+use Rattle.mail_post.specs.WorkerThreads.{worker_thread}
 use Rattle.mail_post.proofs.InTime.{deed, none_done, gave_more, gone_keeps_time, took_more, took_none}
 use Rattle.lmtp_lane.specs.LaneExchange.{LaneEnds, thread_of, lane_sorts, is_ok, HasDone}
 
@@ -38,12 +39,13 @@ only_more deeds d all is = subst (AllByRecursion (λ what. is_of_lanes what ≡ 
 module _ (accepted : List Note) (came : List Slip) (old now : LaneEnds) where
   -- one more copy was accepted
   pub done_offered : (note : Note) (next : List (Sender Note)) (x : HasDone accepted came old now)
-      → IsOffered (lane_clock now) note.mailbox (λ sender. note) true now.senders next
+      → IsOffered (lane_clock now) (worker_thread note.mailbox) (λ sender. note) true now.senders next
       → (y : HasDone (accepted ++ note ∷ []) came old (record now { senders = next })) × (whats y.deeds ≡ whats x.deeds ++ Gave note ∷ [])
   done_offered note next x o =
       let d : TimedDeed = deed (Gave note) o.when in
-      let in_time = gave_more lane_sorts x.deeds (thread_of old) (thread_of now) note.mailbox o.when o.sender note (Gave note) x.in_time o.is o.later
-      (eq-eqb note.mailbox note.mailbox refl) (λ c away. other_byte note.mailbox c (λ e. away (sym e))) refl in (
+      let at : ℕ = worker_thread note.mailbox in
+      let in_time = gave_more lane_sorts x.deeds (thread_of old) (thread_of now) at o.when o.sender note (Gave note) x.in_time o.is o.later
+      (eq-eqb at at refl) (λ c away. other_byte at c (λ e. away (sym e))) refl in (
         record {
           deeds = x.deeds ++ d ∷ [];
           gave = part_more given_in x.deeds d ∙ ap (λ l. l ++ note ∷ []) x.gave;
@@ -57,10 +59,10 @@ module _ (accepted : List Note) (came : List Slip) (old now : LaneEnds) where
 
   -- one was handed back
   pub done_gone : (note : Note) (next : List (Sender Note)) → HasDone accepted came old now
-      → IsOffered (lane_clock now) note.mailbox (λ sender. note) false now.senders next
+      → IsOffered (lane_clock now) (worker_thread note.mailbox) (λ sender. note) false now.senders next
       → HasDone accepted came old (record now { senders = next; gone = true })
   done_gone note next x o =
-      let in_time = gone_keeps_time lane_sorts x.deeds (thread_of old) (thread_of now) note.mailbox o.when o.sender note x.in_time o.is in
+      let in_time = gone_keeps_time lane_sorts x.deeds (thread_of old) (thread_of now) (worker_thread note.mailbox) o.when o.sender note x.in_time o.is in
       record {
         deeds = x.deeds;
         gave = x.gave;

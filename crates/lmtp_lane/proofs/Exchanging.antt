@@ -16,9 +16,10 @@ use Rattle.mail_runs.specs.Timed.{whats}
 use Rattle.mail_post.specs.Channel.{Sender, Inbox, taken, IsTimed, HasSameTimes}
 use Rattle.mail_post.specs.Gathering.{HasGathered}
 use Rattle.mail_post.specs.Offered.{any_gone, IsOffered}
+use Rattle.mail_post.specs.WorkerThreads.{worker_thread}
 use Rattle.mail_post.proofs.Offered.{OwesOneMore, sent_more, sent_no_more, gone_now, gone_as_before}
 use Rattle.lmtp_lane.proofs.Doing.{lane_clock, done_offered, done_gone, done_heard, done_none}
-use Rattle.lmtp_lane.specs.LaneExchange.{LaneEnds, Sending, found_gone, slips_gone, IsAmong, for_box, own_slip_of, IsOwnSlip, Episode, joined, HasExchanged}
+use Rattle.lmtp_lane.specs.LaneExchange.{LaneEnds, Sending, found_gone, slips_gone, IsAmong, for_thread, own_slip_of, IsOwnSlip, Episode, joined, HasExchanged}
 use Rattle.lmtp_lane.specs.LaneExchange.{HasExchangedBy, IsTimely, IsEpisode, IsUnderWay, IsOffering, GathersOne, Continues}
 use Rattle.lmtp_lane.proofs.Turns.{gave_last, heard_last}
 
@@ -108,15 +109,17 @@ or_true : (b : Bool) → (b || true) ≡ true
 or_true true = refl
 or_true false = refl
 
--- the copies for each mailbox, with one more
-owed_more : (notes : List Note) (note : Note) → OwesOneMore (λ box. for_box box notes) (λ box. for_box box (notes ++ note ∷ [])) note.mailbox note
+-- the copies for each worker thread, with one more
+owed_more : (notes : List Note) (note : Note)
+    → OwesOneMore (λ t. for_thread t notes) (λ t. for_thread t (notes ++ note ∷ [])) (worker_thread note.mailbox) note
 owed_more notes note =
-    let owed : (box : ℕ) → for_box box (notes ++ note ∷ []) ≡ for_box box notes ++ cond (note.mailbox == box) (note ∷ []) [] =
-    λ box. filter-append (λ (x : Note). x.mailbox == box) notes (note ∷ []) in
+    let at : ℕ = worker_thread note.mailbox in
+    let owed : (t : ℕ) → for_thread t (notes ++ note ∷ []) ≡ for_thread t notes ++ cond (at == t) (note ∷ []) [] =
+    λ t. filter-append (λ (x : Note). worker_thread x.mailbox == t) notes (note ∷ []) in
     record {
-      here = owed note.mailbox ∙ ap (λ t. for_box note.mailbox notes ++ cond t (note ∷ []) []) (eq-eqb note.mailbox note.mailbox refl);
-      other = λ box away. owed box ∙ ap (λ t. for_box box notes ++ cond t (note ∷ []) []) (other_byte note.mailbox box (λ e. away (sym e)))
-          ∙ append-nil (for_box box notes);
+      here = owed at ∙ ap (λ b. for_thread at notes ++ cond b (note ∷ []) []) (eq-eqb at at refl);
+      other = λ t away. owed t ∙ ap (λ b. for_thread t notes ++ cond b (note ∷ []) []) (other_byte at t (λ e. away (sym e)))
+          ∙ append-nil (for_thread t notes);
     }
 
 -- these ends with other senders, or another channel of slips
@@ -126,25 +129,25 @@ with_senders ends senders = record { lane = ends.lane; senders = senders; inbox 
 abbrev pub with_inbox : LaneEnds → Inbox Slip → LaneEnds
 with_inbox ends inbox = record { lane = ends.lane; senders = ends.senders; inbox = inbox; gone = ends.gone }
 
-abbrev for_boxes : List Note → ℕ → List Note
-for_boxes all box = for_box box all
+abbrev for_threads : List Note → ℕ → List Note
+for_threads all t = for_thread t all
 
 module _ (notes : List Note) (e : Episode) (old now : LaneEnds) (x : HasExchanged notes e old now) where
   -- one more copy that its channel accepted
   pub offered_more : (note : Note) (next : List (Sender Note)) → any_gone now.senders ≡ false
-      → IsOffered (lane_clock now) note.mailbox (λ sender. note) true now.senders next
+      → IsOffered (lane_clock now) (worker_thread note.mailbox) (λ sender. note) true now.senders next
       → (y : HasExchanged (notes ++ note ∷ []) e old (with_senders now next)) × (whats y.done.deeds ≡ whats x.done.deeds ++ Gave note ∷ [])
   offered_more note next none o =
       let empty : x.left ≡ [] = x.all none in
       let done = done_offered x.accepted e.came old now note next x.done o in
-      let same : any_gone next ≡ any_gone now.senders = gone_as_before (lane_clock now) note.mailbox (λ sender. note) now.senders next o in (
+      let same : any_gone next ≡ any_gone now.senders = gone_as_before (lane_clock now) (worker_thread note.mailbox) (λ sender. note) now.senders next o in (
         record {
           lane = x.lane;
           accepted = x.accepted ++ note ∷ [];
           left = [];
           first = ap (λ l. l ++ note ∷ []) (x.first ∙ ap (λ l. x.accepted ++ l) empty ∙ append-nil x.accepted) ∙ sym (append-nil (x.accepted ++ note ∷ []));
-          offered = sent_more (lane_clock now) note.mailbox (λ sender. note) old.senders now.senders next (for_boxes x.accepted)
-              (for_boxes (x.accepted ++ note ∷ [])) note x.offered o refl (owed_more x.accepted note);
+          offered = sent_more (lane_clock now) (worker_thread note.mailbox) (λ sender. note) old.senders now.senders next (for_threads x.accepted)
+              (for_threads (x.accepted ++ note ∷ [])) note x.offered o refl (owed_more x.accepted note);
           all = λ sound. refl;
           whole = λ sound. same ∙ x.whole sound;
           tells = λ fresh. x.tells fresh ∙ ap (λ b. b || slips_gone now) (sym same);
@@ -174,19 +177,19 @@ module _ (notes : List Note) (e : Episode) (old now : LaneEnds) (x : HasExchange
   left_first note = ap (λ l. l ++ note ∷ []) x.first ∙ append_assoc x.accepted x.left (note ∷ [])
 
   -- one more copy that was handed back
-  pub gone_keeps_time : (note : Note) (next : List (Sender Note)) → IsOffered (lane_clock now) note.mailbox (λ sender. note) false now.senders next
+  pub gone_keeps_time : (note : Note) (next : List (Sender Note)) → IsOffered (lane_clock now) (worker_thread note.mailbox) (λ sender. note) false now.senders next
       → (y : HasExchanged (notes ++ note ∷ []) e old (found_gone (with_senders now next))) × IsAmong note y.left
   gone_keeps_time note next o =
-      let box_gone : any_gone next ≡ true = gone_now (lane_clock now) note.mailbox (λ sender. note) now.senders next o in (
+      let thread_gone : any_gone next ≡ true = gone_now (lane_clock now) (worker_thread note.mailbox) (λ sender. note) now.senders next o in (
         record {
           lane = x.lane;
           accepted = x.accepted;
           left = x.left ++ note ∷ [];
           first = left_first note;
-          offered = sent_no_more (lane_clock now) note.mailbox (λ sender. note) old.senders now.senders next (for_boxes x.accepted) x.offered o;
-          all = λ none. let bad : true ≡ false = sym box_gone ∙ none in cc;
+          offered = sent_no_more (lane_clock now) (worker_thread note.mailbox) (λ sender. note) old.senders now.senders next (for_threads x.accepted) x.offered o;
+          all = λ none. let bad : true ≡ false = sym thread_gone ∙ none in cc;
           whole = λ none. cc;
-          tells = λ fresh. sym (ap (λ b. b || slips_gone now) box_gone);
+          tells = λ fresh. sym (ap (λ b. b || slips_gone now) thread_gone);
           channel = x.channel;
           lanes = x.lanes;
           took = x.took;
@@ -200,14 +203,14 @@ module _ (notes : List Note) (e : Episode) (old now : LaneEnds) (x : HasExchange
 
   -- one more copy that wasn't offered, since one was handed back before
   pub unoffered_more : (note : Note) → any_gone now.senders ≡ true → (y : HasExchanged (notes ++ note ∷ []) e old now) × IsAmong note y.left
-  unoffered_more note box_gone = (
+  unoffered_more note thread_gone = (
     record {
       lane = x.lane;
       accepted = x.accepted;
       left = x.left ++ note ∷ [];
       first = left_first note;
       offered = x.offered;
-      all = λ none. let bad : true ≡ false = sym box_gone ∙ none in cc;
+      all = λ none. let bad : true ≡ false = sym thread_gone ∙ none in cc;
       whole = x.whole;
       tells = x.tells;
       channel = x.channel;
@@ -313,7 +316,7 @@ LeavesCopy note now next = (notes : List Note) (e : Episode) (old : LaneEnds) �
 module _ (notes : List Note) (gave : List Deed) (txn : Txn) (n : ℕ) (past : Episode) (old : LaneEnds) (now : Sending)
     (x : IsUnderWay notes gave txn n past old now) where
   pub way_offered : (note : Note) (next : List (Sender Note)) → any_gone now.ends.senders ≡ false → (now.ends.gone ≡ false → x.now.heard ≡ [])
-      → IsOffered (lane_clock now.ends) note.mailbox (λ sender. note) true now.ends.senders next
+      → IsOffered (lane_clock now.ends) (worker_thread note.mailbox) (λ sender. note) true now.ends.senders next
       → IsOffering (notes ++ note ∷ []) (gave ++ map Gave (note ∷ [])) txn n past old (sending (with_senders now.ends next) now.gather)
   way_offered note next none unheard o =
       let y = offered_more notes (joined past x.now) old now.ends x.exchanged.exchanged note next none o in
@@ -437,18 +440,18 @@ left_way slip note now next ends taken_so here is leaves went same takes notes g
     (left_by note now ends next.gather taken_so here leaves went (subst T is takes) notes gave n past old x)
 
 pub leaves_gone : (mailbox : ℕ) (note : Note) (now : LaneEnds) (next : List (Sender Note)) → note.mailbox ≡ mailbox
-    → IsOffered (lane_clock now) mailbox (λ sender. note) false now.senders next
+    → IsOffered (lane_clock now) (worker_thread mailbox) (λ sender. note) false now.senders next
     → LeavesCopy note now (found_gone (with_senders now next))
 leaves_gone mailbox note now next is o notes e old x =
-    let P : ℕ → Type 0 = λ b. IsOffered (lane_clock now) b (λ sender. note) false now.senders next in
+    let P : ℕ → Type 0 = λ b. IsOffered (lane_clock now) (worker_thread b) (λ sender. note) false now.senders next in
     gone_keeps_time notes e old now x note next (subst P (sym is) o)
 
 pub leaves_unoffered : (note : Note) (now : LaneEnds) → any_gone now.senders ≡ true → LeavesCopy note now now
-leaves_unoffered note now box_gone notes e old x = unoffered_more notes e old now x note box_gone
+leaves_unoffered note now thread_gone notes e old x = unoffered_more notes e old now x note thread_gone
 
 pub offered_way : (mailbox : ℕ) (note : Note) (now : Sending) (next : List (Sender Note)) → note.mailbox ≡ mailbox → any_gone now.ends.senders ≡ false
-    → IsOffered (lane_clock now.ends) mailbox (λ sender. note) true now.ends.senders next
+    → IsOffered (lane_clock now.ends) (worker_thread mailbox) (λ sender. note) true now.ends.senders next
     → Continues note.txn (note ∷ []) now (sending (with_senders now.ends next) now.gather)
 offered_way mailbox note now next is none o notes gave n past old x =
-    let P : ℕ → Type 0 = λ b. IsOffered (lane_clock now.ends) b (λ sender. note) true now.ends.senders next in
+    let P : ℕ → Type 0 = λ b. IsOffered (lane_clock now.ends) (worker_thread b) (λ sender. note) true now.ends.senders next in
     way_offered notes gave note.txn n past old now x.way note next none x.none_heard (subst P (sym is) o)

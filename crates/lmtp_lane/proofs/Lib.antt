@@ -1,3 +1,4 @@
+pub mod WorkerThreads
 pub mod Turns
 pub mod Doing
 pub mod Exchanging

@@ -1,4 +1,4 @@
--- What a lane gave to the mailboxes' channels, and what it heard of the copies.
+-- What a lane gave to the worker threads' channels, and what it heard of the copies.
 use Rattle.std.specs.Prelude.{◌≡◌, ◌⊎◌, ℕ, ◌==◌, Bool, true, false, ◌||◌, List, [], ◌∷◌, ◌++◌}
 use Rattle.std.specs.Prelude.{filter, map, flat_map, length, None, is_some, Result, Ok, Err}
 use Rattle.std.specs.List.{AllByRecursion}
@@ -11,11 +11,12 @@ use Rattle.mail_world.specs.Lists.{Transaction, copies_from}
 use Rattle.mail_world.specs.Slips.{times_named, Gather, own_slip, txn_of, IsMerged}
 use Rattle.mail_runs.specs.Deeds.{Deed, Gave, Heard, given_in, heard_in}
 use Rattle.mail_runs.specs.Known.{is_heard, is_of_lanes}
-use Rattle.mail_runs.specs.Timed.{TimedDeed, whats, gives_to}
+use Rattle.mail_runs.specs.Timed.{TimedDeed, whats}
 use Rattle.mail_post.specs.Channel.{Sender, Inbox, taken}
 use Rattle.mail_post.specs.InTime.{Ends, Sorts, AreInTime}
 use Rattle.mail_post.specs.Gathering.{HasGathered}
 use Rattle.mail_post.specs.Offered.{any_gone, HaveSent}
+use Rattle.mail_post.specs.WorkerThreads.{worker_thread}
 use Rattle.lmtp_lane.specs.declared.exchange.Exchange.{Exchange}
 
 -- a lane's ends of the channels
@@ -29,8 +30,13 @@ pub record LaneEnds : Type 0 where
 abbrev pub thread_of : LaneEnds → Ends Note Slip
 thread_of ends = record { senders = ends.senders; inbox = ends.inbox }
 
+-- the deed gives to that worker thread's channel
+abbrev pub gives_to_thread : ℕ → Deed → Bool
+gives_to_thread t (Gave note) = worker_thread note.mailbox == t
+gives_to_thread t _ = false
+
 abbrev pub lane_sorts : Sorts
-lane_sorts = record { gives = gives_to; takes = is_heard }
+lane_sorts = record { gives = gives_to_thread; takes = is_heard }
 
 -- What a lane did, in its order and with times that rise: it gave these copies to their channels, and heard these
 -- slips.
@@ -60,7 +66,7 @@ found_gone ends = record { lane = ends.lane; senders = ends.senders; inbox = end
 abbrev pub slips_gone : LaneEnds → Bool
 slips_gone ends = is_some ends.inbox.gone
 
--- a channel is gone: a mailbox's handed a copy back, or the channel of slips is gone
+-- a channel is gone: a worker thread's handed a copy back, or the channel of slips is gone
 abbrev pub is_gone : LaneEnds → Bool
 is_gone ends = any_gone ends.senders || slips_gone ends
 
@@ -97,9 +103,9 @@ abbrev pub IsAmong : Note → List Note → Type 0
 IsAmong note [] = ⊥
 IsAmong note (x ∷ xs) = (note ≡ x) ⊎ IsAmong note xs
 
--- the copies for a mailbox
-abbrev pub for_box : ℕ → List Note → List Note
-for_box box notes = filter (λ note. note.mailbox == box) notes
+-- the copies for the mailboxes of a worker thread
+abbrev pub for_thread : ℕ → List Note → List Note
+for_thread t notes = filter (λ note. worker_thread note.mailbox == t) notes
 
 -- the slip that a lane makes itself of a copy
 abbrev pub own_slip_of : ℕ → Note → Slip
@@ -135,7 +141,7 @@ pub record HasExchanged (notes : List Note) (e : Episode) (old new : LaneEnds) :
   pub accepted : List Note
   pub left : List Note
   pub first : notes ≡ accepted ++ left
-  pub offered : HaveSent (λ box. for_box box accepted) old.senders new.senders
+  pub offered : HaveSent (λ t. for_thread t accepted) old.senders new.senders
   pub all : any_gone new.senders ≡ false → left ≡ []
   pub whole : new.gone ≡ false → any_gone new.senders ≡ false
   pub tells : old.inbox.gone ≡ None → new.gone ≡ is_gone new

@@ -56,10 +56,10 @@ lane_end k back = lane_state back.conversations back.finished back.over back.tol
     (record { lane = k; senders = back.senders; inbox = back.slips; gone = back.gone })
 
 -- A lane served these clients: each conversation's replies are those to its inputs, the observer was told the entries
--- of all conversations, the senders gave the mailboxes what these owe them, up to a copy that was handed back, the
--- outcomes are those of the slips that were heard, and each moment is one that the clock may answer. Without a gone
--- channel it ended because there were no more clients, and it sent one message after the other: it gave all copies of a
--- message, and then heard slips until each was answered.
+-- of all conversations, the senders gave the worker threads what these owe their mailboxes, up to a copy that was
+-- handed back, the outcomes are those of the slips that were heard, and each moment is one that the clock may answer.
+-- Without a gone channel it ended because there were no more clients, and it sent one message after the other: it gave
+-- all copies of a message, and then heard slips until each was answered.
 pub record HasServed (by : Terms) (May : ℕ → Type 0) (MayCome : PeerState → Type 0) (old new : LaneState) : Type 0 where
   pub visits : List Visit
   pub visited : HasVisited by MayCome old.finished new.finished visits

@@ -5,6 +5,7 @@ ghost use Rattle.mail_world.specs.declared.limits.TheConstants.{NUMBER_LIMIT};
 ghost use Rattle.mail_head.specs.Texts.{text_of};
 ghost use Rattle.mail_post.specs.Gathering.{IsDone};
 ghost use Rattle.mail_post.specs.Offered.{any_gone};
+ghost use Rattle.mail_post.specs.WorkerThreads.{threads_for};
 ghost use Rattle.lmtp_lane.specs.LaneExchange.{ends_of, sent_as};
 ghost use Rattle.lmtp_lane.specs.LaneAccount.{AgreesWith, HasOffered, IsComing, told_by, Delivers};
 
@@ -42,7 +43,7 @@ pub struct LaneDelivery<'a, N: DepotName, C: Clock, R: Wait, S: LaneStart> {
     ghost limited: { (limit ≡ S.site.message_limit) × (limit < 2 ^ 32) },
     ghost refusing: { refuses_malformed ≡ S.site.refuses_malformed },
     ghost of_lane: { exchange.lane ≡ S.ends.lane },
-    ghost count: { length exchange.senders.items ≡ length S.site.boxes },
+    ghost count: { length exchange.senders.items ≡ threads_for (length S.site.boxes) },
     ghost none_missing: { IsDone exchange.gather.gather },
 }
 
@@ -56,7 +57,7 @@ impl<'a, N: DepotName, C: Clock, R: Wait, S: LaneStart> LaneDelivery<'a, N, C, R
         site: &Site,
     ) -> LaneDelivery<'a, N, C, R, S>
         requires here { site.now ≡ S.site }
-        requires count { length exchange.senders.items ≡ length S.site.boxes }
+        requires count { length exchange.senders.items ≡ threads_for (length S.site.boxes) }
         requires none_missing { IsDone exchange.gather.gather }
         requires start { ends_of exchange ≡ record S.ends { gone = any_gone S.ends.senders } }
         ensures begun { HasOffered S.site S.May result.accepted S.ends (ends_of result.exchange) 0 [] }

@@ -1,4 +1,4 @@
-//! A lane's ends of the channels: copies go out to the mailboxes, and slips come back.
+//! A lane's ends of the channels: copies go out to the threads of their mailboxes, and slips come back.
 
 ghost use Rattle.std.specs.Prelude.{◌≡◌, ◌≤◌, true};
 ghost use Rattle.mail_world.specs.declared.limits.TheConstants.{RECIPIENT_LIMIT};
@@ -28,15 +28,16 @@ pub struct Postmark {
 pub struct Exchange<N: DepotName> {
     alloc: Global,
     pub lane: u32,
+    /// One to each worker thread, in their order.
     pub senders: Vec<Sender<N>>,
     pub slips: SlipReceiver,
     pub gather: Gather,
-    /// A mailbox's channel handed a copy back, so no more are offered.
-    pub box_gone: bool,
+    /// A worker thread's channel handed a copy back, so no more are offered.
+    pub thread_gone: bool,
     /// A channel was found gone.
     pub gone: bool,
     ghost of_lane: { HaveNumber lane senders.items },
     ghost room: { RECIPIENT_LIMIT ≤ gather.limit },
-    ghost gone_is_told: { box_gone ≡ any_gone senders.items },
-    ghost tells: { box_gone ≡ true → gone ≡ true },
+    ghost gone_is_told: { thread_gone ≡ any_gone senders.items },
+    ghost tells: { thread_gone ≡ true → gone ≡ true },
 }

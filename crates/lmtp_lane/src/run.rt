@@ -5,6 +5,7 @@ ghost use Rattle.lmtp_talk.specs.Peer.{PeerState};
 ghost use Rattle.lmtp_talk.specs.Served.{terms};
 ghost use Rattle.mail_post.specs.Gathering.{IsDone};
 ghost use Rattle.mail_post.specs.Offered.{HaveNumber, any_gone};
+ghost use Rattle.mail_post.specs.WorkerThreads.{threads_for};
 ghost use Rattle.lmtp_lane.specs.LaneAccount.{AgreesWith, HasOffered};
 ghost use Rattle.lmtp_lane.specs.LaneExchange.{ends_of};
 ghost use Rattle.lmtp_lane.specs.LaneRun.{lane_start, lane_end, lane_state, HasServed};
@@ -26,8 +27,8 @@ use std::marker::Brand;
 use std::sync::Wait;
 
 /// Serves clients, one after another, until there are no more, or a channel is found gone: then until that conversation
-/// ends. The senders are the lane's, one for each mailbox in the site's order. The observer is told of each reply, and
-/// of each end once the client was handed back. It takes no memory.
+/// ends. The senders are the lane's, one to each worker thread, in the threads' order. The observer is told of each
+/// reply, and of each end once the client was handed back. It takes no memory.
 pub fn lane_run<N: DepotName, V: Visits, C: Clock, O: Observer, R: Wait>(
     rt: &R,
     lane: u32,
@@ -41,7 +42,7 @@ pub fn lane_run<N: DepotName, V: Visits, C: Clock, O: Observer, R: Wait>(
     observer: O,
 ) -> LaneReport<N, V, O>
     requires site { desk.dialogue.session.site ≡ site.now }
-    requires count { length senders.items ≡ length site.now.boxes }
+    requires count { length senders.items ≡ threads_for (length site.now.boxes) }
     requires lane { HaveNumber lane senders.items }
     requires none_out { V.out visits ≡ false }
     ensures { HasServed (terms site.now READ_LIMIT) (C.May clock.now) (V.MayGive visits)
@@ -68,7 +69,7 @@ pub fn lane_run_at<N: DepotName, V: Visits, C: Clock, O: Observer, R: Wait>(
     reads: u32,
 ) -> LaneReport<N, V, O>
     requires site { desk.dialogue.session.site ≡ site.now }
-    requires count { length senders.items ≡ length site.now.boxes }
+    requires count { length senders.items ≡ threads_for (length site.now.boxes) }
     requires lane { HaveNumber lane senders.items }
     requires none_out { V.out visits ≡ false }
     ensures { HasServed (terms site.now reads) (C.May clock.now) (V.MayGive visits)
@@ -107,7 +108,7 @@ fn lane_at<S: LaneStart, N: DepotName, V: Visits, C: Clock, O: Observer, R: Wait
     observer: O,
 ) -> LaneReport<N, V, O>
     requires here { bounded.dialogue.session.site ≡ S.site }
-    requires count { length exchange.senders.items ≡ length S.site.boxes }
+    requires count { length exchange.senders.items ≡ threads_for (length S.site.boxes) }
     requires start { ends_of exchange ≡ record S.ends { gone = any_gone S.ends.senders } }
     requires none_missing { IsDone exchange.gather.gather }
     requires clock { AgreesWith (C.May clock.now) S.May }

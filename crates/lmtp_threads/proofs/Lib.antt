@@ -3,5 +3,9 @@ pub mod MovedLists
 pub mod Pairs
 pub mod ChannelRows
 pub mod Filling
+pub mod ByThread
+pub mod InTurn
+pub mod KeptBoxes
 pub mod ServedAll
 pub mod WorkedAll
+pub mod ThreadBacks

@@ -42,3 +42,7 @@ neither true true c is off = absurd (true≢false (sym is ∙ off))
 pub each_more : {X : Type 0} (P : X → Type 0) (xs : List X) (x : X) → AllByRecursion P xs → P x → AllByRecursion P (xs ++ x ∷ [])
 each_more P [] x all p = (p, tt)
 each_more P (y ∷ ys) x all p = (all.0, each_more P ys x all.1 p)
+
+pub each_both : {X : Type 0} (P Q : X → Type 0) (xs : List X) → AllByRecursion P xs → AllByRecursion Q xs → AllByRecursion (λ x. P x × Q x) xs
+each_both P Q [] all each = tt
+each_both P Q (x ∷ xs) all each = ((all.0, each.0), each_both P Q xs all.1 each.1)

@@ -7,15 +7,14 @@ use Rattle.std.proofs.lemmas.Option.{slice_get_within}
 use Rattle.mail_world.specs.declared.Note.{Note}
 use Rattle.mail_world.specs.declared.Slip.{Slip}
 use Rattle.mail_world.specs.Site.{Site}
-use Rattle.mail_world.specs.Conversation.{Conversation}
-use Rattle.mail_world.specs.Lists.{due, copies, transactions}
+use Rattle.mail_world.specs.Lists.{copies, transactions}
 use Rattle.mail_world.specs.Slips.{IsMerged}
 use Rattle.mail_runs.specs.Timed.{TimedDeed, whats}
 use Rattle.mail_runs.specs.Ordered.{AreExchanges}
 use Rattle.mail_post.specs.InTime.{AreInTime}
 use Rattle.mail_post.specs.Channel.{Channel, Sender, Inbox, taken}
 use Rattle.mail_post.proofs.Offered.{none_gone}
-use Rattle.lmtp_lane.specs.LaneExchange.{for_box, lane_sorts}
+use Rattle.lmtp_lane.specs.LaneExchange.{for_thread, lane_sorts}
 use Rattle.mail_world.specs.declared.limits.TheConstants.{READ_LIMIT, RECIPIENT_LIMIT}
 use Rattle.lmtp_talk.specs.Entries.{Entry}
 use Rattle.lmtp_talk.specs.Served.{terms}
@@ -94,10 +93,6 @@ merged_none came [] h = h.0
 merged_none came (slip ∷ heard) (inl h) = h.1 ∙ ap (λ l. slip ∷ l) (merged_none h.0 heard h.2)
 merged_none came (slip ∷ heard) (inr h) = let bad : [] ≡ slip ∷ h.0 = h.1 in absurd (cc)
 
-due_is : (site : Site) (lane b : ℕ) (cs : List Conversation) → for_box b (flat_map (copies lane) (transactions site 0 cs)) ≡ due site lane b cs
-unfolding due
-due_is site lane b cs = refl
-
 -- what is told of a lane that handed this back
 abbrev told_by : VisitsTold → Option (List Entry) → LaneBack → LaneTold
 told_by before earlier r = record {
@@ -156,7 +151,7 @@ module _ {V C : Type 0} (May : C → ℕ → Type 0) (view : VisitsView V) where
       inbox_is : slice_get given.inboxes k ≡ Some inbox
       report_is : slice_get reports k ≡ Some report
       served : IsServedLane site (May clock) (view.MayGive visit) k (works k) (told_by (view.finished visit) (view.told visit) report)
-      given_out : HasGiven (λ b. due site k b (conversations_of (works k).visits)) row report.senders
+      given_out : HasGiven (λ t. for_thread t (flat_map (copies k) (transactions site 0 (conversations_of (works k).visits)))) row report.senders
       heard : TookSlips (works k).heard inbox report.slips
       in_time : AreInTime lane_sorts (deeds_of k) (record { senders = row; inbox = inbox }) (record { senders = report.senders; inbox = report.slips })
       did : LaneDid (flat_map (copies k) (transactions site 0 (conversations_of (works k).visits))) (works k).heard (deeds_of k)
@@ -176,7 +171,8 @@ module _ {V C : Type 0} (May : C → ℕ → Type 0) (view : VisitsView V) where
         x.first ∙ (ap (λ l. x.accepted ++ l) (x.all (x.whole no)) ∙ append-nil x.accepted) in
         let Served : LaneTask V C → LaneWork → Type 0 = λ j w.
         IsServedLane j.site (May j.clock) (view.MayGive j.visits) j.lane w (told_by (view.finished j.visits) (view.told j.visits) p.right) in
-        let Given : LaneTask V C → LaneDone → Type 0 = λ j d. HasGiven (λ b. due j.site j.lane b (conversations_of d.work.visits)) j.senders p.right.senders in
+        let Given : LaneTask V C → LaneDone → Type 0 =
+        λ j d. HasGiven (λ t. for_thread t (flat_map (copies j.lane) (transactions j.site 0 (conversations_of d.work.visits)))) j.senders p.right.senders in
         let Heard : LaneTask V C → LaneDone → Type 0 = λ j d. TookSlips d.work.heard j.slips (p.right.slips) in
         let InTime : LaneTask V C → LaneDone → Type 0 =
         λ j d. AreInTime lane_sorts d.deeds (record { senders = j.senders; inbox = j.slips }) (record { senders = p.right.senders; inbox = p.right.slips }) in
@@ -196,11 +192,9 @@ module _ {V C : Type 0} (May : C → ℕ → Type 0) (view : VisitsView V) where
         } in
         let given_out : Given p.left (lane_done p.left p.right h) = record {
           as_many = h.exchanged.offered.as_many;
-          each = λ b before after e f.
-              let o = x.offered.each b before after e f in
-              let sent : for_box b x.accepted ≡ due p.left.site p.left.lane b (conversations_of h.visits) =
-              ap (for_box b) (sym notes_due) ∙ due_is p.left.site p.left.lane b (conversations_of h.visits) in
-              (o.channel, o.number, o.sent ∙ ap (λ l. before.sent ++ l) sent, none_gone (p.right.senders) b after (x.whole no) f);
+          each = λ t before after e f.
+              let o = x.offered.each t before after e f in
+              (o.channel, o.number, o.sent ∙ ap (λ l. before.sent ++ for_thread t l) (sym notes_due), none_gone (p.right.senders) t after (x.whole no) f);
         } in
         let heard : Heard p.left (lane_done p.left p.right h) = record {
           channel = h.exchanged.channel;
@@ -270,14 +264,16 @@ module _ {V C : Type 0} (May : C → ℕ → Type 0) (view : VisitsView V) where
             inbox_is = at_column parts.inbox reports columns.inboxes of.inboxes k l.report l.report_is;
             are = l.in_time;
           };
-      rows_are = rows_given (length given.visits) channels (λ k b. due site k b (conversations_of (works k).visits)) given.rows columns.rows are
+      rows_are = rows_given (length given.visits) channels
+          (λ k t. for_thread t (flat_map (copies k) (transactions site 0 (conversations_of (works k).visits)))) given.rows columns.rows are
           (column_count parts.row reports columns.rows of.rows ∙ reports_count)
           (λ k row row' a b.
           let l = lane_is k (omega (arith, are.count, slice_get_within given.rows k row a)) in
           let new_is : l.report.senders ≡ row' =
           same_at columns.rows k l.report.senders row' (at_column parts.row reports columns.rows of.rows k l.report l.report_is) b in
           let old_is : l.row ≡ row = same_at given.rows k l.row row l.row_is a in
-          let Given : List (Sender Note) → List (Sender Note) → Type 0 = λ x y. HasGiven (λ b. due site k b (conversations_of (works k).visits)) x y in
+          let Given : List (Sender Note) → List (Sender Note) → Type 0 =
+          λ x y. HasGiven (λ t. for_thread t (flat_map (copies k) (transactions site 0 (conversations_of (works k).visits)))) x y in
           subst (λ y. Given row y) new_is (subst (λ x. Given x l.report.senders) old_is l.given_out));
       heard = λ k old new a b.
           let l = lane_is k (omega (arith, inboxes_count, slice_get_within given.inboxes k old a)) in

@@ -5,3 +5,6 @@ pub mod Columns
 pub mod Works
 pub mod Reports
 pub mod Tasks
+pub mod ByThread
+pub mod ThreadWork
+pub mod BroughtBack

@@ -1,12 +1,12 @@
 -- What the threads of a server are given, and what their reports say.
-use Rattle.std.specs.Prelude.{◌≡◌, ℕ, ◌+◌, ◌<◌, Bool, true, false, List, [], ◌∷◌, ◌++◌, length, flat_map, slice_get}
-use Rattle.std.specs.Prelude.{Option, Some}
+use Rattle.std.specs.Prelude.{◌≡◌, ◌==◌, ℕ, ◌+◌, ◌<◌, Bool, true, false, List, [], ◌∷◌, ◌++◌, length, filter, flat_map}
+use Rattle.std.specs.Prelude.{slice_get, Option, Some}
 use Rattle.std.specs.List.{AllByRecursion}
 use Rattle.mail_world.specs.declared.Note.{Note}
 use Rattle.mail_world.specs.declared.Slip.{Slip}
 use Rattle.mail_world.specs.declared.limits.TheConstants.{READ_LIMIT, RECIPIENT_LIMIT}
 use Rattle.mail_world.specs.Site.{Site}
-use Rattle.mail_world.specs.Lists.{due, copies, transactions, VerdictsFit}
+use Rattle.mail_world.specs.Lists.{copies, transactions, VerdictsFit}
 use Rattle.mail_runs.specs.Courses.{outcomes_in}
 use Rattle.mail_runs.specs.Deeds.{given_in, heard_in, turns_of}
 use Rattle.mail_runs.specs.Timed.{TimedDeed, whats}
@@ -15,18 +15,20 @@ use Rattle.mail_runs.specs.Ordered.{AreExchanges}
 use Rattle.mail_post.specs.InTime.{Ends, Sorts, AreInTime}
 use Rattle.mail_post.specs.Channel.{Channel, Sender, Inbox, taken}
 use Rattle.mail_post.specs.Offered.{HaveNumber}
+use Rattle.mail_post.specs.Parcels.{of}
+use Rattle.mail_post.specs.WorkerThreads.{worker_thread, threads_for}
 use Rattle.mail_post.specs.declared.channel.Gone.TheVariants.{Closed}
-use Rattle.box_worker.specs.Told.{worker_of, owed_to}
+use Rattle.box_worker.specs.Shares.{for_box, by_box, ends_for, AreFresh}
+use Rattle.box_worker.specs.Told.{owed_to}
 use Rattle.box_worker.specs.TurnEnds.{TellsTurns}
 use Rattle.box_worker.specs.TurnTimes.{worker_sorts}
-use Rattle.box_worker.specs.Worked.{WorkerState, idle}
 use Rattle.lmtp_threads.specs.declared.tally.Tally.{Tally}
 use Rattle.lmtp_talk.specs.Entries.{with_entries}
 use Rattle.lmtp_talk.specs.Peer.{PeerState}
 use Rattle.lmtp_talk.specs.Served.{terms}
 use Rattle.mail_world.specs.Counts.{counted}
 use Rattle.lmtp_lane.specs.LaneAccount.{IsAnswered}
-use Rattle.lmtp_lane.specs.LaneExchange.{lane_sorts}
+use Rattle.lmtp_lane.specs.LaneExchange.{for_thread, lane_sorts}
 use Rattle.lmtp_lane.specs.LaneRun.{LaneState}
 use Rattle.lmtp_lane.specs.Visits.{HasVisited, conversations_of, lane_entries}
 use Rattle.lmtp_threads.specs.Channels.{AreRows, none}
@@ -67,7 +69,7 @@ module _ {V C : Type 0} where
   -- a lane may run
   pub record IsLaneReady (out : V → Bool) (task : LaneTask V C) : Type 0 where
     pub site : task.desk_site ≡ task.site
-    pub count : length task.senders ≡ length task.site.boxes
+    pub count : length task.senders ≡ threads_for (length task.site.boxes)
     pub lane : HaveNumber task.lane task.senders
     pub none_out : out task.visits ≡ false
 
@@ -81,34 +83,51 @@ lane_before view task = record {
   conversations = 0;
 }
 
--- what a worker is given
-pub record BoxTask (S : Type 0) : Type 0 where
-  pub share : WorkerShare
-  pub receiver : Inbox Note
-  pub slips : List (Sender Slip)
+-- a mailbox's spool, and the mailbox's number
+pub record Numbered (S : Type 0) : Type 0 where
+  pub number : ℕ
   pub spool : S
 
+-- what a worker thread is given: the mailboxes that it owns, and its ends of the channels
+pub record ThreadTask (S : Type 0) : Type 0 where
+  pub share : WorkerShare
+  pub thread : ℕ
+  pub receiver : Inbox Note
+  pub slips : List (Sender Slip)
+  pub boxes : List (Numbered S)
+
 module _ {S : Type 0} where
-  abbrev pub box_task : WorkerShare → Inbox Note → List (Sender Slip) → S → BoxTask S
-  box_task share receiver slips spool = record { share = share; receiver = receiver; slips = slips; spool = spool }
+  -- the spools with their mailboxes' numbers, from that one on
+  abbrev pub numbered : ℕ → List S → List (Numbered S)
+  numbered b [] = []
+  numbered b (spool ∷ spools) = record { number = b; spool = spool } ∷ numbered (b + 1) spools
 
-  -- the tasks of the workers, in the mailboxes' order
-  abbrev pub box_tasks : WorkerShare → List (Inbox Note) → List (List (Sender Slip)) → List S → List (BoxTask S)
-  box_tasks share [] rows spools = []
-  box_tasks share (inbox ∷ inboxes) [] spools = []
-  box_tasks share (inbox ∷ inboxes) (row ∷ rows) [] = []
-  box_tasks share (inbox ∷ inboxes) (row ∷ rows) (spool ∷ spools) =
-      box_task share inbox row spool ∷ box_tasks share inboxes rows spools
+  -- those of a worker thread
+  abbrev pub boxes_of : ℕ → List S → List (Numbered S)
+  boxes_of t spools = filter (λ box. worker_thread box.number == t) (numbered 0 spools)
 
-  -- a worker may run
-  pub record IsBoxReady (task : BoxTask S) : Type 0 where
-    pub fresh : taken task.receiver ≡ []
+  abbrev pub thread_task : WorkerShare → ℕ → Inbox Note → List (Sender Slip) → List S → ThreadTask S
+  thread_task share t receiver slips spools = record {
+    share = share;
+    thread = t;
+    receiver = receiver;
+    slips = slips;
+    boxes = boxes_of t spools;
+  }
+
+  -- the tasks of the worker threads from number t on
+  abbrev pub thread_tasks : WorkerShare → ℕ → List (Inbox Note) → List (List (Sender Slip)) → List S
+      → List (ThreadTask S)
+  thread_tasks share t [] rows spools = []
+  thread_tasks share t (inbox ∷ inboxes) [] spools = []
+  thread_tasks share t (inbox ∷ inboxes) (row ∷ rows) spools =
+      thread_task share t inbox row spools ∷ thread_tasks share (t + 1) inboxes rows spools
+
+  -- a worker thread may run
+  pub record IsThreadReady (task : ThreadTask S) : Type 0 where
+    pub fresh : AreFresh task.slips task.receiver
     pub lanes : length task.slips ≡ task.receiver.lanes
-    pub worker : HaveNumber (worker_of task.slips) task.slips
-
--- where its worker begins
-abbrev pub box_before : {S : Type 0} → SpoolsView S → BoxTask S → WorkerState
-box_before view task = idle task.slips (view.state task.spool) (view.told task.spool)
+    pub thread : HaveNumber task.thread task.slips
 
 -- as IsLaneWork, with the outcomes as they were gathered
 pub record IsServedLane (site : Site) (May : ℕ → Type 0) (MayCome : PeerState → Type 0) (k : ℕ) (work : LaneWork)
@@ -158,7 +177,8 @@ pub record LanesGiven (V : Type 0) : Type 0 where
   pub rows : List (List (Sender Note))
   pub inboxes : List (Inbox Slip)
 
--- what workers are given: their receivers, a row of senders for each, their spools, and the limit of bytes for each
+-- what worker threads are given: their receivers, a row of senders for each, and by mailbox the spools, and the limit of
+-- bytes for each
 pub record WorkersGiven (S : Type 0) : Type 0 where
   pub inboxes : List (Inbox Note)
   pub rows : List (List (Sender Slip))
@@ -174,8 +194,8 @@ pub record HaveServed {V : Type 0} (site : Site) (May : ℕ → Type 0) (view : 
   pub served : (k count : ℕ) (before after : V) → slice_get old.visits k ≡ Some before
       → slice_get new.lent k ≡ Some after → slice_get new.tallies k ≡ Some count
       → IsServedLane site May (view.MayGive before) k (works k) (lane_told view before after count)
-  pub rows_are : AreRows (length old.visits) channels (λ k b. due site k b (conversations_of (works k).visits))
-      new.rows
+  pub rows_are : AreRows (length old.visits) channels
+      (λ k t. for_thread t (flat_map (copies k) (transactions site 0 (conversations_of (works k).visits)))) new.rows
   pub heard : (k : ℕ) (before after : Inbox Slip) → slice_get old.inboxes k ≡ Some before
       → slice_get new.inboxes k ≡ Some after → TookSlips (works k).heard before after
   -- its deeds, message by message, and that their times rise and are those that its ends were told
@@ -188,28 +208,47 @@ pub record HaveServed {V : Type 0} (site : Site) (May : ℕ → Type 0) (view : 
   pub in_time : (k : ℕ) → k < length old.visits
       → IsInTime lane_sorts k old.rows new.rows old.inboxes new.inboxes (deeds k)
 
--- All workers have ended, and none found a channel gone.
+-- Mailbox b did these deeds at its thread's ends, of which its own are what the thread took and gave for it, at times
+-- that rise.
+pub record IsBoxInTime (b : ℕ) (rows rows' : List (List (Sender Slip))) (inboxes inboxes' : List (Inbox Note))
+    (deeds : List TimedDeed) : Type 0 where
+  pub old : Ends Slip Note
+  pub new : Ends Slip Note
+  pub row_was : slice_get rows (worker_thread b) ≡ Some old.senders
+  pub row_is : slice_get rows' (worker_thread b) ≡ Some new.senders
+  pub inbox_was : slice_get inboxes (worker_thread b) ≡ Some old.inbox
+  pub inbox_is : slice_get inboxes' (worker_thread b) ≡ Some new.inbox
+  pub are : AreInTime worker_sorts deeds (ends_for b old) (ends_for b new)
+
+-- All worker threads have ended, and none found a channel gone: what each mailbox did, and what its thread took and gave.
 pub record HaveWorked {S : Type 0} (site : Site) (view : SpoolsView S) (channels : List (Channel Slip))
     (old : WorkersGiven S) (new : WorkerColumns S) : Type 0 where
   pub works : ℕ → BoxWork
   pub as_many : (length new.lent ≡ length old.spools) × (length new.tallies ≡ length old.spools)
-      × (length new.inboxes ≡ length old.spools)
+      × (length new.inboxes ≡ length old.inboxes)
   pub stored : (b : ℕ) (before after : S) (tally : Tally) → slice_get old.spools b ≡ Some before
       → slice_get new.lent b ≡ Some after → slice_get new.tallies b ≡ Some tally
       → IsBoxWork (setting_of (share_of site old.quota) b) view.manner (works b) (view.state before)
       (view.state after) tally
   pub observed : (b : ℕ) (before after : S) → slice_get old.spools b ≡ Some before → slice_get new.lent b ≡ Some after
       → TellsTurns (works b).turns (view.told before) (view.told after)
-  pub rows_are : AreRows (length old.spools) channels
-      (λ b k. owed_to b (outcomes_in (works b).turns) k (works b).taken) new.rows
-  pub took : (b : ℕ) (before after : Inbox Note) → slice_get old.inboxes b ≡ Some before
-      → slice_get new.inboxes b ≡ Some after → TookAllNotes (works b).taken before after
+  -- what each thread took, and gave each lane
+  pub took : ℕ → List Note
+  pub gave : ℕ → ℕ → List Slip
+  pub rows_are : AreRows (length old.inboxes) channels gave new.rows
+  pub took_all : (t : ℕ) (before after : Inbox Note) → slice_get old.inboxes t ≡ Some before
+      → slice_get new.inboxes t ≡ Some after → TookAllNotes (took t) before after
+  -- of that, what is a mailbox's; and it gave nothing but its mailboxes' slips
+  pub took_for : (b : ℕ) → b < length old.spools → of for_box b (took (worker_thread b)) ≡ (works b).taken
+  pub gave_for : (b k : ℕ) → b < length old.spools → k < length channels
+      → of by_box b (gave (worker_thread b) k) ≡ owed_to b (outcomes_in (works b).turns) k (works b).taken
+  pub gave_only : (t k : ℕ) → t < length old.inboxes → k < length channels
+      → AllByRecursion (λ slip. slip.worker < length old.spools) (gave t k)
   -- its deeds, a turn for each copy, and that their times rise and are those that its ends were told
   pub deeds : ℕ → List TimedDeed
   pub did : (b : ℕ) → b < length old.spools
       → whats (deeds b) ≡ turns_of b (works b).taken (outcomes_in (works b).turns)
-  pub in_time : (b : ℕ) → b < length old.spools
-      → IsInTime worker_sorts b old.rows new.rows old.inboxes new.inboxes (deeds b)
+  pub in_time : (b : ℕ) → b < length old.spools → IsBoxInTime b old.rows new.rows old.inboxes new.inboxes (deeds b)
 
 -- whatever these tasks were made of, all lanes have ended
 abbrev pub HaveServedAll : {V C : Type 0} → (C → ℕ → Type 0) → VisitsView V → List (LaneTask V C) → LaneColumns V
@@ -220,9 +259,9 @@ HaveServedAll {V} {C} May view tasks new =
     → AreRows (length old.visits) channels none old.rows → HaveServed site (May clock) view channels old new
 
 -- whatever these tasks were made of, all workers have ended
-abbrev pub HaveWorkedAll : {S : Type 0} → SpoolsView S → List (BoxTask S) → WorkerColumns S → Type 0
+abbrev pub HaveWorkedAll : {S : Type 0} → SpoolsView S → List (ThreadTask S) → WorkerColumns S → Type 0
 HaveWorkedAll {S} view tasks new =
     (site : Site) (channels : List (Channel Slip)) (old : WorkersGiven S)
-    → tasks ≡ box_tasks (share_of site old.quota) old.inboxes old.rows old.spools
-    → length old.inboxes ≡ length old.spools
-    → 0 < length channels → AreRows (length old.spools) channels none old.rows → HaveWorked site view channels old new
+    → tasks ≡ thread_tasks (share_of site old.quota) 0 old.inboxes old.rows old.spools
+    → length old.inboxes ≡ threads_for (length old.spools)
+    → AreRows (length old.inboxes) channels none old.rows → HaveWorked site view channels old new

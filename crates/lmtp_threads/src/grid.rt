@@ -1,6 +1,7 @@
 //! Lists of lists, turned about their diagonal.
 
-ghost use Rattle.std.specs.Prelude.{◌≡◌, ◌<◌, ◌≤◌, [], length, vec_len, vec_capacity, map, IfOk};
+ghost use Rattle.std.specs.Prelude.{◌≡◌, ◌<◌, ◌≤◌, [], ◌∷◌, ◌++◌, length, vec_len, vec_capacity, map, IfOk, OnOk};
+ghost use Rattle.std.specs.Prelude.{get_or, slice_set};
 ghost use Rattle.std.specs.List.{All};
 ghost use Rattle.lmtp_threads.specs.Grid.{IsTransposed, lists, zip_push};
 
@@ -21,6 +22,18 @@ pub fn empty_rows<T: Drop>(
         all.push(Vec::with_capacity(alloc, room)?)?;
     }
     Ok(all)
+}
+
+/// One more element for the row at that place.
+pub fn push_at<T: Drop>(rows: &mut Vec<Vec<T>>, at: usize, x: T) -> Result<(), AllocError>
+    requires { at < vec_len rows.old }
+    ensures len { vec_len rows.new ≡ vec_len rows.old }
+    ensures items { OnOk result (lists rows.new.items
+        ≡ slice_set (lists rows.old.items) at (get_or (lists rows.old.items) at [] ++ x ∷ [])) }
+{
+    let row = &mut rows[at];
+    row.push(x)?;
+    Ok(())
 }
 
 // Each element goes to the end of its row.

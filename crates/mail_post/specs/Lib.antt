@@ -9,3 +9,4 @@ pub mod Order
 pub mod Copies
 pub mod Gathering
 pub mod Places
+pub mod WorkerThreads

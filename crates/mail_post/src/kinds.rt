@@ -1,5 +1,5 @@
-//! The two kinds of channel: a mailbox's, from the lanes to its worker, and a lane's, from the workers that give it
-//! slips.
+//! The two kinds of channel: a worker thread's, from the lanes to the mailboxes that it owns, and a lane's, from the
+//! threads whose mailboxes give it slips.
 
 ghost use Rattle.std.specs.Prelude.{◌≡◌, ◌<◌, [], IfOk};
 ghost use Rattle.mail_post.specs.Channel.{new_senders, new_inbox, AreSenders, AreSendersOf, sent_by, sent_at_by};
@@ -18,33 +18,38 @@ impl<N: DepotName> FromSender for Post<N> {
     ghost sender = { λ post. post.txn.lane };
 }
 
-/// A slip is of the worker that gives it.
+/// The most threads that serve the mailboxes of a server: mailbox b is one of thread b mod 256.
+pub const WORKER_THREADS: u32 = 256;
+
+/// A slip is of the thread of the mailbox whose worker gives it.
 impl FromSender for Slip {
-    ghost sender = { λ slip. slip.worker };
+    ghost use Rattle.mail_post.specs.WorkerThreads.{worker_thread};
+
+    ghost sender = { λ slip. worker_thread slip.worker };
 }
 
 /// The slips that wait for a lane: one for each recipient of a message.
 pub const SLIP_CAPACITY: usize = RECIPIENT_LIMIT;
 
-/// A lane's end of a mailbox's channel.
+/// A lane's end of a worker thread's channel.
 pub type Sender<N> = ChannelSender<Post<N>>;
 
-/// The worker's end of a mailbox's channel.
+/// The thread's end of it.
 pub type Receiver<N> = ChannelReceiver<Post<N>>;
 
-/// All lanes' ends of a mailbox's channel, once it is closed.
+/// All lanes' ends of it, once it is closed.
 pub type Closed<N> = ChannelClosed<Post<N>>;
 
-/// A worker's end of a lane's channel of slips.
+/// A worker thread's end of a lane's channel of slips.
 pub type SlipSender = ChannelSender<Slip>;
 
 /// The lane's end of its channel of slips.
 pub type SlipReceiver = ChannelReceiver<Slip>;
 
-/// All workers' ends of a lane's channel of slips, once it is closed.
+/// All threads' ends of a lane's channel of slips, once it is closed.
 pub type SlipsClosed = ChannelClosed<Slip>;
 
-/// The channel of one mailbox, which has room for that many copies: a sender for each lane, and the receiver.
+/// The channel of one worker thread, which has room for that many copies: a sender for each lane, and the receiver.
 pub fn mail_line<N: DepotName>(
     alloc: Global,
     capacity: usize,
@@ -69,16 +74,16 @@ pub fn close<N: DepotName, R: Wait>(senders: Vec<Sender<N>>, rt: &R) -> Closed<N
     close_channel::<Post<N>, R>(senders, rt)
 }
 
-/// The channel of one lane's slips: a sender for each worker, and the receiver.
-pub fn slip_line(alloc: Global, workers: u32) -> Result<(Vec<SlipSender>, SlipReceiver), AllocError>
-    requires { 0 < workers }
-    ensures senders { IfOk result (λ ends. ends.0.items ≡ new_senders ends.1.channel workers) }
-    ensures receiver { IfOk result (λ ends. ends.1 ≡ new_inbox ends.1.channel SLIP_CAPACITY workers) }
+/// The channel of one lane's slips: a sender for each worker thread, and the receiver.
+pub fn slip_line(alloc: Global, threads: u32) -> Result<(Vec<SlipSender>, SlipReceiver), AllocError>
+    requires { 0 < threads }
+    ensures senders { IfOk result (λ ends. ends.0.items ≡ new_senders ends.1.channel threads) }
+    ensures receiver { IfOk result (λ ends. ends.1 ≡ new_inbox ends.1.channel SLIP_CAPACITY threads) }
 {
-    open_channel(alloc, SLIP_CAPACITY, workers)
+    open_channel(alloc, SLIP_CAPACITY, threads)
 }
 
-/// As `close`, for the senders of one lane's slips, in the workers' order.
+/// As `close`, for the senders of one lane's slips, in the threads' order.
 pub fn close_slips<R: Wait>(senders: Vec<SlipSender>, rt: &R) -> SlipsClosed
     requires { AreSenders senders.items }
     ensures channel { AreSendersOf result.channel senders.items }

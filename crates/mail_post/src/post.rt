@@ -60,6 +60,13 @@ impl<N: DepotName> Post<N> {
         }
     }
 
+    /// The number of its mailbox.
+    pub fn mailbox(&self) -> u32
+        ensures { result ≡ self.now.mailbox }
+    {
+        self.mailbox
+    }
+
     /// What it was made of.
     pub fn parts(self) -> Parts<N>
         ensures names { (result.txn ≡ self.txn) × (result.place ≡ self.place) × (result.mailbox ≡ self.mailbox) }

@@ -11,8 +11,8 @@ use mail_world::Slip;
 use msg_depot::DepotName;
 use std::alloc::{AllocError, Global};
 
-/// The ends of all channels: of each lane a row of senders of mail and a taker of slips, of each worker a receiver of
-/// mail and a row of senders of slips.
+/// The ends of all channels: of each lane a row of senders of mail and a taker of slips, of each worker thread a
+/// receiver of mail and a row of senders of slips.
 #[derive(Drop)]
 pub struct Channels<N: DepotName> {
     pub rows: Vec<Vec<Sender<N>>>,
@@ -22,24 +22,24 @@ pub struct Channels<N: DepotName> {
 }
 
 impl<N: DepotName> Channels<N> {
-    /// New channels between as many lanes and workers, those of mail of this capacity.
+    /// New channels between as many lanes and worker threads, those of mail of this capacity.
     pub fn open(
         alloc: Global,
         capacity: usize,
         lanes: u32,
-        boxes: u32,
+        threads: u32,
     ) -> Result<Channels<N>, AllocError>
         requires { 0 < capacity }
         ensures mail { IfOk result
-            (λ ends. AreNewChannels capacity lanes boxes (lists ends.rows.items) ends.receivers.items) }
+            (λ ends. AreNewChannels capacity lanes threads (lists ends.rows.items) ends.receivers.items) }
         ensures slips { IfOk result
-            (λ ends. AreNewChannels SLIP_CAPACITY boxes lanes (lists ends.slip_rows.items) ends.takers.items) }
+            (λ ends. AreNewChannels SLIP_CAPACITY threads lanes (lists ends.slip_rows.items) ends.takers.items) }
     {
-        let (rows, receivers) = open_channels::<Post<N>>(alloc, capacity, lanes, boxes as usize)?;
+        let (rows, receivers) = open_channels::<Post<N>>(alloc, capacity, lanes, threads as usize)?;
         let (slip_rows, takers) = open_channels::<Slip>(
             alloc,
             SLIP_CAPACITY,
-            boxes,
+            threads,
             lanes as usize,
         )?;
         Ok(Channels {
@@ -60,13 +60,13 @@ pub struct Closings<N: DepotName> {
 
 impl<N: DepotName> Closings<N> {
     /// The memory that the closing of all channels needs.
-    pub fn new(alloc: Global, lanes: u32, boxes: u32) -> Result<Closings<N>, AllocError>
-        ensures mail { IfOk result (λ c. c.mail ≡ record { lanes = lanes; count = boxes }) }
-        ensures slips { IfOk result (λ c. c.slips ≡ record { lanes = boxes; count = lanes }) }
+    pub fn new(alloc: Global, lanes: u32, threads: u32) -> Result<Closings<N>, AllocError>
+        ensures mail { IfOk result (λ c. c.mail ≡ record { lanes = lanes; count = threads }) }
+        ensures slips { IfOk result (λ c. c.slips ≡ record { lanes = threads; count = lanes }) }
     {
         Ok(Closings {
-            mail: Closing::new(alloc, lanes as usize, boxes as usize)?,
-            slips: Closing::new(alloc, boxes as usize, lanes as usize)?,
+            mail: Closing::new(alloc, lanes as usize, threads as usize)?,
+            slips: Closing::new(alloc, threads as usize, lanes as usize)?,
         })
     }
 }

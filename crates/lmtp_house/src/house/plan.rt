@@ -15,6 +15,7 @@ use box_worker::{Gate, TurnObserver};
 use lmtp_lane::{Clock, Visits};
 use lmtp_talk::Observer;
 use lmtp_threads::{Lanes, Shared, WorkerReports, Workers, settle_all};
+use mail_post::WORKER_THREADS;
 use mbox_spool::Spool;
 use msg_depot::{Depot, DepotName};
 use std::alloc::AllocError;
@@ -22,7 +23,7 @@ use std::marker::Model;
 use std::sync::{Arc, Wait};
 use std::thread::Threads;
 
-/// The lanes and workers of a server, and what closes their channels.
+/// The lanes and worker threads of a server, and what closes their channels.
 #[derive(Drop)]
 pub struct Plan<N, V, O, S, T, G, C>
 where
@@ -70,7 +71,7 @@ where
     G: Gate + Drop + Send + 'static,
     C: Clock + Send + Sync + 'static,
 {
-    /// Takes all the memory that lanes and workers need.
+    /// Takes all the memory that lanes and worker threads need.
     pub fn new(
         shared: &Shared<N, C>,
         handed: HandedIn<V, O, S, T, G>,
@@ -82,9 +83,9 @@ where
         ensures { IfOk result (IsPlanned (arc_value shared.now.site) (arc_value shared.now.clock) handed) }
     {
         let lanes = handed.visits.len() as u32;
-        let boxes = shared.site.box_count();
-        let closings = Closings::new(shared.alloc, lanes, boxes)?;
-        let channels = Channels::open(shared.alloc, handed.capacity, lanes, boxes)?;
+        let threads = shared.site.box_count().min(WORKER_THREADS);
+        let closings = Closings::new(shared.alloc, lanes, threads)?;
+        let channels = Channels::open(shared.alloc, handed.capacity, lanes, threads)?;
         let Channels {
             rows,
             receivers,
@@ -107,7 +108,7 @@ where
         })
     }
 
-    /// Runs the workers and the lanes, until the lanes have no more clients. The depot has that room.
+    /// Runs the worker threads and the lanes, until the lanes have no more clients. The depot has that room.
     pub fn run<R: Threads + Wait + Copy + Send + 'static>(
         self,
         rt: R,

@@ -26,9 +26,9 @@ use std::marker::Brand;
 use std::sync::{Arc, Wait};
 use std::thread::Threads;
 
-/// Runs a server until its lanes have no more clients: a lane for each of the visits, and for each mailbox of the site
-/// a worker with its spool and its gate, each in a thread of its own and with its observer. All memory is taken first;
-/// the messages have the blocks and slots of the sizes.
+/// Runs a server until its lanes have no more clients: a lane for each of the visits, in a thread of its own, and for
+/// each mailbox of the site a worker with its spool and its gate, in one of at most 256 threads, each with its observer.
+/// All memory is taken first; the messages have the blocks and slots of the sizes.
 pub fn run_house<V, O, S, T, G, C, R>(
     rt: R,
     alloc: Global,

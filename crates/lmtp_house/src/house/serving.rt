@@ -1,9 +1,9 @@
-//! Lanes that serve all their clients, beside the workers that take what they offer.
+//! Lanes that serve all their clients, beside the worker threads that take what they offer.
 
 ghost use Rattle.std.specs.Prelude.{◌≡◌, ◌≢◌, IfOk, Err};
 ghost use Rattle.std.specs.List.{AllByRecursion};
 ghost use Rattle.lmtp_threads.specs.Works.{visits_view, is_out};
-ghost use Rattle.lmtp_threads.specs.Tasks.{IsLaneReady, IsBoxReady, HaveServedAll};
+ghost use Rattle.lmtp_threads.specs.Tasks.{IsLaneReady, IsThreadReady, HaveServedAll};
 
 use crate::house::fault::HouseFault;
 use box_worker::{Gate, TurnObserver};
@@ -15,7 +15,7 @@ use msg_depot::DepotName;
 use std::sync::Wait;
 use std::thread::Threads;
 
-/// What lanes that have ended handed back, and the workers, which still run.
+/// What lanes that have ended handed back, and the worker threads, which still run.
 #[derive(Drop)]
 pub struct Ended<N, V, O, S, T, G>
 where
@@ -30,7 +30,7 @@ where
     pub workers: Working<N, S, T, G>,
 }
 
-/// Starts the workers and then the lanes, and waits until the lanes have no more clients. At `Err` all that had
+/// Starts the worker threads and then the lanes, and waits until the lanes have no more clients. At `Err` all that had
 /// started have ended.
 pub fn serve_all<R, N, V, O, S, T, G, C>(
     rt: R,
@@ -48,7 +48,7 @@ where
     G: Gate + Drop + Send + 'static,
     C: Clock + Send + Sync + 'static,
     requires lanes { AllByRecursion (IsLaneReady (is_out V.out)) lanes }
-    requires workers { AllByRecursion IsBoxReady workers }
+    requires workers { AllByRecursion IsThreadReady workers }
     ensures served { IfOk result (λ ended. HaveServedAll C.May
         (visits_view V.MayGive V.finished V.over O.told) lanes ended.lanes) }
     ensures working { IfOk result (λ ended. ended.workers ≡ workers) }

@@ -13,7 +13,7 @@ pub struct Sizes {
     pub blocks: u32,
     /// Messages on their way, 1 to 64.
     pub slots: u32,
-    /// Copies that wait for a mailbox's worker, 1 to 1,024.
+    /// Copies that wait for a worker thread, 1 to 1,024.
     pub capacity: u32,
     /// A limit of bytes for each mailbox, if there is one.
     pub quota: Option<u64>,

@@ -1,23 +1,24 @@
-//! A message's copies go out to the mailboxes, until a channel hands one back.
+//! A message's copies go out to the threads of their mailboxes, until a channel hands one back.
 
 ghost use Rattle.std.specs.Prelude.{◌≡◌, ◌<◌, [], ◌∷◌, length, slice_index};
 ghost use Rattle.mail_world.specs.Slips.{own_slip, txn_of};
 ghost use Rattle.mail_world.specs.Lists.{copies_from};
 ghost use Rattle.mbox_record.specs.Lengths.{lengths_of};
 ghost use Rattle.mail_post.specs.Offered.{HaveNumber, IsOffered};
+ghost use Rattle.mail_post.specs.WorkerThreads.{worker_thread, threads_for};
 ghost use Rattle.lmtp_lane.specs.LaneExchange.{sending_of, KeepsRoom, Continues, sent_as, copy_at, is_ok};
 
 use super::{Exchange, Postmark};
 use lmtp_session::Session;
-use mail_post::{Moment, Post, Sender, SlipReceiver};
+use mail_post::{Moment, Post, Sender, SlipReceiver, WORKER_THREADS};
 use mail_world::Slip;
 use mbox_record::Envelope;
 use msg_depot::{Depot, DepotName, Hold};
 use std::marker::Brand;
 use std::sync::Wait;
 
-// Offers the mailbox's channel a copy, after the picked time. The receiver is there for the pick alone, which is a time
-// after all that the lane knows.
+// Offers the channel of the mailbox's worker thread a copy, after the picked time. The receiver is there for the pick
+// alone, which is a time after all that the lane knows.
 fn offer_to<N: DepotName, K: Moment, R: Wait>(
     rt: &R,
     senders: &mut Vec<Sender<N>>,
@@ -25,11 +26,12 @@ fn offer_to<N: DepotName, K: Moment, R: Wait>(
     mailbox: u32,
     post: Post<N>,
 ) -> Result<(), Post<N>>
-    requires mailbox { mailbox < length senders.old.items }
+    requires thread { worker_thread mailbox < length senders.old.items }
     requires lane { HaveNumber post.txn.lane senders.old.items }
-    ensures { IsOffered K.after mailbox (λ sender. post) (is_ok result) senders.old.items senders.new.items }
+    ensures { IsOffered K.after (worker_thread mailbox) (λ sender. post) (is_ok result) senders.old.items
+        senders.new.items }
 {
-    senders[mailbox as usize].offer::<K, R>(rt, post)
+    senders[(mailbox % WORKER_THREADS) as usize].offer::<K, R>(rt, post)
 }
 
 impl<N: DepotName> Exchange<N> {
@@ -37,11 +39,11 @@ impl<N: DepotName> Exchange<N> {
     fn offer<R: Wait>(&mut self, rt: &R, depot: &Depot<N>, post: Post<N>, failed: Slip)
         requires lane { post.txn.lane ≡ self.old.lane }
         requires copy { failed ≡ own_slip self.old.lane post.txn.number post.place post.mailbox }
-        requires mailbox { failed.worker < length self.old.senders.items }
+        requires thread { worker_thread failed.worker < length self.old.senders.items }
         ensures room { KeepsRoom (sending_of self.old) (sending_of self.new) }
         ensures way { Continues post.txn (post ∷ []) (sending_of self.old) (sending_of self.new) }
     {
-        if self.box_gone {
+        if self.thread_gone {
             let_go(rt, depot, post);
             self.answer_failed(failed);
             return;
@@ -49,7 +51,7 @@ impl<N: DepotName> Exchange<N> {
         match offer_to::<N, Brand, R>(rt, &mut self.senders, &self.slips, failed.worker, post) {
             Ok(()) => {}
             Err(back) => {
-                self.box_gone = true;
+                self.thread_gone = true;
                 self.gone = true;
                 let_go(rt, depot, back);
                 self.answer_failed(failed);
@@ -70,7 +72,7 @@ impl<N: DepotName> Exchange<N> {
         requires place { place < length session.now.session.recipients }
         requires weight { hold.weight ≡ 1 }
         requires lengths { mark.lengths ≡ lengths_of hold.bytes }
-        requires mailboxes { length self.old.senders.items ≡ length session.now.site.boxes }
+        requires threads { length self.old.senders.items ≡ threads_for (length session.now.site.boxes) }
         ensures room { KeepsRoom (sending_of self.old) (sending_of self.new) }
         ensures way { Continues (txn_of self.old.lane mark.number)
             (copy_at self.old.lane (sent_as mark.number session.now.session mark.moment hold.bytes) place
@@ -104,7 +106,7 @@ impl<N: DepotName> Exchange<N> {
         requires some { 0 < length session.now.session.recipients }
         requires weight { hold.weight ≡ length session.now.session.recipients }
         requires lengths { mark.lengths ≡ lengths_of hold.bytes }
-        requires mailboxes { length self.old.senders.items ≡ length session.now.site.boxes }
+        requires threads { length self.old.senders.items ≡ threads_for (length session.now.site.boxes) }
         ensures room { KeepsRoom (sending_of self.old) (sending_of self.new) }
         ensures way { Continues (txn_of self.old.lane mark.number)
             (copies_from self.old.lane (sent_as mark.number session.now.session mark.moment hold.bytes) 0

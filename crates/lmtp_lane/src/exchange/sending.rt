@@ -6,6 +6,7 @@ ghost use Rattle.mail_world.specs.Slips.{own_slip, txn_of};
 ghost use Rattle.mbox_record.specs.Lengths.{lengths_of};
 ghost use Rattle.mail_post.specs.Gathering.{IsDone};
 ghost use Rattle.mail_post.specs.Offered.{HaveNumber, any_gone};
+ghost use Rattle.mail_post.specs.WorkerThreads.{threads_for};
 ghost use Rattle.lmtp_lane.specs.LaneExchange.{ends_of, sending_of, sent_as, Sends};
 
 use super::{Exchange, Postmark};
@@ -35,15 +36,15 @@ impl<N: DepotName> Exchange<N> {
         } }
         ensures gather { result.gather ≡ gather }
     {
-        let box_gone = any_sender_gone(&senders);
+        let thread_gone = any_sender_gone(&senders);
         Exchange {
             alloc,
             lane,
             senders,
             slips,
             gather,
-            box_gone,
-            gone: box_gone,
+            thread_gone,
+            gone: thread_gone,
         }
     }
 
@@ -69,7 +70,7 @@ impl<N: DepotName> Exchange<N> {
         }
     }
 
-    /// Gives each recipient's mailbox its copy of a sealed message, and waits until each copy is answered.
+    /// Gives the thread of each recipient's mailbox a copy of a sealed message, and waits until each copy is answered.
     pub fn send<R: Wait>(
         &mut self,
         rt: &R,
@@ -81,7 +82,7 @@ impl<N: DepotName> Exchange<N> {
         requires some { 0 < length session.now.session.recipients }
         requires weight { hold.weight ≡ length session.now.session.recipients }
         requires lengths { mark.lengths ≡ lengths_of hold.bytes }
-        requires mailboxes { length self.old.senders.items ≡ length session.now.site.boxes }
+        requires threads { length self.old.senders.items ≡ threads_for (length session.now.site.boxes) }
         ensures lane { self.new.lane ≡ self.old.lane }
         ensures senders { length self.new.senders.items ≡ length self.old.senders.items }
         ensures places { length self.new.gather.gather.places ≡ length session.now.session.recipients }

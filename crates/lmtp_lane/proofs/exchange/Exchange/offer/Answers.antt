@@ -1,5 +1,6 @@
 use Rattle.std.proofs.Common.{ap, sym, refl, true, false, ◌∙◌}
 use Rattle.mail_world.specs.declared.Slip.{Slip}
+use Rattle.mail_post.specs.WorkerThreads.{worker_thread}
 use Rattle.lmtp_lane.specs.LaneExchange.{sending_of, ends_of, found_gone}
 use Rattle.lmtp_lane.proofs.Exchanging.{left_way, leaves_gone, leaves_unoffered, offered_way, with_senders}
 use Rattle.mail_post.proofs.Offered.{still_numbered, gone_now, gone_as_before}
@@ -16,11 +17,11 @@ pub invariant_of-self : goal.invariant_of-self
 invariant_of-self g c =
     let self = c.args.self.now in
     record {
-      of_lane = still_numbered self.lane _ c.args.failed.worker (λ sender. c.args.post) true self.senders.items c.offer_to.new.senders.items self.of_lane
+      of_lane = still_numbered self.lane _ (worker_thread c.args.failed.worker) (λ sender. c.args.post) true self.senders.items c.offer_to.new.senders.items self.of_lane
           c.in-Ok.ensures;
       room = self.room;
       gone_is_told = self.gone_is_told
-          ∙ sym (gone_as_before _ c.args.failed.worker (λ sender. c.args.post) self.senders.items c.offer_to.new.senders.items c.in-Ok.ensures);
+          ∙ sym (gone_as_before _ (worker_thread c.args.failed.worker) (λ sender. c.args.post) self.senders.items c.offer_to.new.senders.items c.in-Ok.ensures);
       tells = self.tells;
     }
 
@@ -28,11 +29,11 @@ pub invariant_of-self-in-Err : goal.invariant_of-self-in-Err
 invariant_of-self-in-Err g c =
     let self = c.args.self.now in
     record {
-      of_lane = still_numbered self.lane _ c.args.failed.worker (λ sender. c.args.post) false self.senders.items c.offer_to.new.senders.items self.of_lane
+      of_lane = still_numbered self.lane _ (worker_thread c.args.failed.worker) (λ sender. c.args.post) false self.senders.items c.offer_to.new.senders.items self.of_lane
           c.in-Err.ensures;
       room = self.room;
-      gone_is_told = sym (gone_now _ c.args.failed.worker (λ sender. c.args.post) self.senders.items c.offer_to.new.senders.items c.in-Err.ensures);
-      tells = λ box_gone. refl;
+      gone_is_told = sym (gone_now _ (worker_thread c.args.failed.worker) (λ sender. c.args.post) self.senders.items c.offer_to.new.senders.items c.in-Err.ensures);
+      tells = λ thread_gone. refl;
     }
 
 pub returns-in-Ok-clause-way : goal.returns-in-Ok-clause-way

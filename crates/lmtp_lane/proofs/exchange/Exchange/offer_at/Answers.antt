@@ -1,8 +1,19 @@
-use Rattle.std.proofs.Common.{◌≡◌, ◌∙◌, [], ◌∷◌, refl, subst}
+use Rattle.std.proofs.Common.{ℕ, ◌≡◌, ◌<◌, ◌∙◌, [], ◌∷◌, length, refl, ap, sym, subst}
 use Rattle.std.specs.Prelude.{slice_index}
 use Rattle.mail_world.specs.declared.Note.{Note}
+use Rattle.mail_world.specs.declared.Slip.{Slip}
+use Rattle.mail_post.specs.WorkerThreads.{worker_thread}
 use Rattle.lmtp_lane.specs.LaneExchange.{sending_of, Continues, sent_as, copy_at}
+use Rattle.lmtp_lane.proofs.WorkerThreads.{thread_within}
 use Rattle.lmtp_lane.proofs.exchange.Exchange.offer_at.Goals as goal
+
+pub offer-requires-clause-thread : goal.offer-requires-clause-thread
+offer-requires-clause-thread g c =
+    let site = c.args.session.now.site in
+    let Within : ℕ → Type 0 = λ b. worker_thread b < length c.args.self.now.senders.items in
+    let Among : ℕ → Type 0 = λ n. worker_thread c.recipient-mailbox.result < n in
+    let known = subst Among (sym c.requires.threads) (thread_within c.recipient-mailbox.result (length site.boxes) c.recipient-mailbox.ensures.known) in
+    subst Within (sym (ap (λ (s : Slip). s.worker) c.failed-slip.ensures)) known
 
 pub returns-clause-way : goal.returns-clause-way
 returns-clause-way g c =
