@@ -38,12 +38,6 @@ pub(crate) fn open_or_make<R: Files>(rt: &R, path: &str, mode: u32) -> io::Resul
     }
 }
 
-/// Opens the folder that holds that path, as it is opened to be synced.
-pub(crate) fn open_folder<R: Files>(rt: &R, path: &str) -> io::Result<()> {
-    File::open(rt, folder_of(path))?;
-    Ok(())
-}
-
 /// Has the entries of the folder that holds that path kept through a crash.
 pub fn sync_folder<R: Files>(rt: &R, path: &str) -> io::Result<()> {
     File::open(rt, folder_of(path))?.sync_all()

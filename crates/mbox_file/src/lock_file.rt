@@ -22,7 +22,7 @@ impl<F: Drop> Held<F> {
         match self {
             Held::No => None,
             Held::Linked(node) => Some(*node),
-            Held::Made(own) => Some(own.node),
+            Held::Made(own) => Some(own.node()),
         }
     }
 }

@@ -35,6 +35,11 @@ pub trait MailboxFile {
     fn unlock_range(&mut self)
         ensures { state self.new ≡ record (state self.old) { has_range_lock = false } };
 
+    /// Hands back what its thread lent it for a turn. It may close the open file, so no lock on its bytes is believed in
+    /// any more.
+    fn rest(&mut self)
+        ensures { state self.new ≡ record (state self.old) { has_range_lock = false } };
+
     /// Whether the path names the open file. What isn't plain is `InUse::NotPlain`.
     fn is_named(&mut self) -> Result<bool, InUse>
         ensures ok { IfOk result (HasLooked (state self.old) (state self.new)) }

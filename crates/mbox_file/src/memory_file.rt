@@ -61,6 +61,10 @@ impl MailboxFile for MemoryFile {
         self.told.add(Step::RangeUnlocked);
     }
 
+    fn rest(&mut self) {
+        self.told.add(Step::RangeUnlocked);
+    }
+
     fn is_named(&mut self) -> Result<bool, InUse> {
         self.told.add(Step::Named);
         Ok(true)

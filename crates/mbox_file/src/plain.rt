@@ -1,10 +1,13 @@
 //! Which files a mailbox may be: plain ones, so that nobody who may write the folder has letters appended to a file
 //! that a link leads to.
+ghost use Rattle.std.specs.Prelude.{◌≡◌};
+
 use crate::file::open_or_make;
 use mbox_spool::InUse;
 use std::fs::{Files, Metadata, OpenFile, OpenOptions};
 use std::io::ErrorKind;
 use std::os::unix::fs::MetadataExt;
+use std::time::SystemTime;
 use std::{fs, io};
 
 /// Which file it is, of those that exist now.
@@ -21,11 +24,41 @@ pub(crate) fn node_of(metadata: &Metadata) -> Node {
     }
 }
 
+/// Which file it is, of all that there ever were; where no time of birth is known, of those that exist now.
+#[derive(Clone, Copy, PartialEq, Eq)]
+pub(crate) struct Identity {
+    pub node: Node,
+    pub born: Option<SystemTime>,
+}
+
+fn identity_of(metadata: &Metadata) -> Identity {
+    Identity {
+        node: node_of(metadata),
+        born: metadata.created().ok(),
+    }
+}
+
 /// A file, and which one it is. Its number isn't given to another file while it is open.
 #[derive(Drop)]
 pub(crate) struct OpenNode<F: Drop> {
     pub file: F,
-    pub node: Node,
+    pub identity: Identity,
+}
+
+impl<F: Drop> OpenNode<F> {
+    /// Of an open file.
+    pub fn of(file: F, metadata: &Metadata) -> OpenNode<F> {
+        OpenNode {
+            file,
+            identity: identity_of(metadata),
+        }
+    }
+
+    pub fn node(&self) -> Node
+        ensures { result ≡ self.now.identity.node }
+    {
+        self.identity.node
+    }
 }
 
 /// Which plain files are taken, and whether one is made where it is missing.
@@ -44,8 +77,8 @@ impl Taken {
         metadata.is_file() && metadata.nlink() <= 1 && self.takes_owner(metadata.uid())
     }
 
-    // Where nothing is there.
-    fn is_made(self) -> bool {
+    /// One's own: one is made where nothing is there.
+    pub fn is_own(self) -> bool {
         match self {
             Taken::Own(_) => true,
             Taken::Anybodys => false,
@@ -75,7 +108,7 @@ pub(crate) fn open_plain<R: Files>(
     path: &str,
     taken: Taken,
 ) -> Result<OpenNode<R::File>, InUse> {
-    if !names_plain(rt, path, taken)? && !taken.is_made() {
+    if !names_plain(rt, path, taken)? && !taken.is_own() {
         return Err(InUse::System(libc::ENOENT));
     }
     let file = taken.open(rt, path).map_err(system_fault)?;
@@ -83,10 +116,7 @@ pub(crate) fn open_plain<R: Files>(
     if !taken.is_plain(&metadata) || !names_plain(rt, path, taken)? {
         return Err(InUse::NotPlain);
     }
-    Ok(OpenNode {
-        node: node_of(&metadata),
-        file,
-    })
+    Ok(OpenNode::of(file, &metadata))
 }
 
 /// Whether the path names a plain file that is taken. False: it names nothing.

@@ -2,7 +2,7 @@
 //!
 //! Each call of the system and what is told of it stand side by side here, and nowhere else is anything told.
 ghost use Rattle.std.specs.Prelude.{◌≡◌, [], None, Some, IfOk, OnOk, OnErr};
-ghost use Rattle.mbox_file.specs.StdFile.{file_mode, file_path};
+ghost use Rattle.mbox_file.specs.StdFile.{file_mode, file_path, mode_made};
 
 use crate::entry::Entry;
 use crate::file::FileEnd;
@@ -10,6 +10,7 @@ use crate::mailbox_file::MailboxFile;
 use crate::mailbox_source::MailboxSource;
 use crate::plain::{Taken, error_of, system_fault};
 use crate::system_file::SystemFile;
+use crate::thread_files::{FileLimits, ThreadFiles};
 use crate::told::{Step, Told};
 use mail_world::limits::TAIL_SIZE;
 use mbox_locks::{RangeLock, Writeback};
@@ -17,6 +18,7 @@ use mbox_spool::InUse;
 use std::alloc::{AllocError, Global};
 use std::fs::Files;
 use std::io;
+use std::sync::Arc;
 use std::time::Clock;
 
 /// A mailbox's file that is open, or that could not be opened yet, and its lock file `PATH.lock`.
@@ -27,30 +29,24 @@ pub struct StdMailboxFile<R: Files + Clock + Drop> {
     told: Told,
 }
 
-impl<R: Files + Clock + Drop> StdMailboxFile<R>
+impl<R: Files + Clock + Copy + Drop> StdMailboxFile<R>
 where
     R::File: RangeLock + Writeback,
 {
-    ghost use Rattle.mbox_file.specs.declared.told.Step.TheVariants.{LockFileRemoved, LockFileStays};
-    ghost use Rattle.mbox_file.specs.Told.{after, at_start};
+    ghost use Rattle.mbox_file.specs.Told.{at_start};
 
-    /// Opens the plain file at that path. Where it is missing it is made with these permission bits. Neither lock is
-    /// held, and a lock file that was left behind is gone. An error says why it can't be used, of
+    /// Opens the plain file at that path, which shares nothing. Where it is missing it is made with these permission
+    /// bits. Neither lock is held, and a lock file that was left behind is gone. An error says why it can't be used, of
     /// `ErrorKind::OutOfMemory` where memory is lacking.
     pub fn open(rt: R, alloc: Global, path: &str, mode: u32) -> io::Result<StdMailboxFile<R>>
         ensures path { IfOk result (λ file. file_path file ≡ path.now) }
         ensures mode { IfOk result (λ file. file_mode file ≡ Some mode) }
         ensures state { IfOk result (λ file. ⟦<StdMailboxFile<R> as MailboxFile>⟧.state file ≡ at_start) }
     {
-        let mut system = SystemFile::new(rt, alloc, path, Taken::Own(mode))?;
-        let mut entry = Entry::unknown();
-        system.open_named(&mut entry).map_err(error_of)?;
-        let _ = system.remove_stale(&mut entry);
-        Ok(StdMailboxFile {
-            system,
-            entry,
-            told: Told::new(),
-        })
+        let mut file = StdMailboxFile::alone(rt, alloc, path, Taken::Own(mode))?;
+        file.open_first()?;
+        let _ = file.system.remove_stale_first(&mut file.entry);
+        Ok(file)
     }
 
     /// Opens the plain file at that path, whosever it is and for root too, and makes none. Neither lock is held. Its
@@ -60,37 +56,70 @@ where
         ensures mode { IfOk result (λ file. file_mode file ≡ None) }
         ensures state { IfOk result (λ file. ⟦<StdMailboxFile<R> as MailboxFile>⟧.state file ≡ at_start) }
     {
-        let mut system = SystemFile::new(rt, alloc, path, Taken::Anybodys)?;
-        let mut entry = Entry::unknown();
-        system.open_named(&mut entry).map_err(error_of)?;
-        Ok(StdMailboxFile {
-            system,
-            entry,
-            told: Told::new(),
-        })
+        let mut file = StdMailboxFile::alone(rt, alloc, path, Taken::Anybodys)?;
+        file.open_first()?;
+        Ok(file)
     }
 
-    /// The file at that path, of which nothing is touched before the first turn: each turn tries to open it, as `open`
-    /// does, until one can.
-    pub fn unopened(
+    // The file at that path, of which nothing is touched yet.
+    fn alone(
         rt: R,
         alloc: Global,
         path: &str,
-        mode: u32,
+        taken: Taken,
     ) -> Result<StdMailboxFile<R>, AllocError>
         ensures path { IfOk result (λ file. file_path file ≡ path.now) }
-        ensures mode { IfOk result (λ file. file_mode file ≡ Some mode) }
+        ensures mode { IfOk result (λ file. file_mode file ≡ mode_made taken) }
         ensures state { IfOk result (λ file. ⟦<StdMailboxFile<R> as MailboxFile>⟧.state file ≡ at_start) }
     {
+        let shared = ThreadFiles::new(rt, alloc, path, FileLimits::alone(taken.is_own()))?;
         Ok(StdMailboxFile {
-            system: SystemFile::new(rt, alloc, path, Taken::Own(mode))?,
+            system: SystemFile::new(rt, alloc, path, taken, Arc::new(alloc, shared)?, 0)?,
             entry: Entry::unknown(),
             told: Told::new(),
         })
     }
 
-    /// Looks at what the path names, which is never opened, and whether the folder can be read. An error says why no
-    /// turn can be had there.
+    // Opens it before anything is told.
+    fn open_first(&mut self) -> io::Result<()>
+        ensures path { file_path self.new ≡ file_path self.old }
+        ensures mode { file_mode self.new ≡ file_mode self.old }
+        ensures told { self.new.told ≡ self.old.told }
+    {
+        self.system.open_named(&mut self.entry).map_err(error_of)
+    }
+}
+
+impl<R: Files + Clock + Drop> StdMailboxFile<R>
+where
+    R::File: RangeLock + Writeback,
+{
+    ghost use Rattle.mbox_file.specs.declared.told.Step.TheVariants.{LockFileRemoved, LockFileStays};
+    ghost use Rattle.mbox_file.specs.Told.{after, at_start};
+
+    /// The file at that path, of which nothing is touched before the first turn: each turn tries to open it, as `open`
+    /// does, until one can. Of the mailboxes that share so it has that number.
+    pub fn unopened(
+        rt: R,
+        alloc: Global,
+        path: &str,
+        mode: u32,
+        shared: Arc<ThreadFiles<R>>,
+        place: u32,
+    ) -> Result<StdMailboxFile<R>, AllocError>
+        ensures path { IfOk result (λ file. file_path file ≡ path.now) }
+        ensures mode { IfOk result (λ file. file_mode file ≡ Some mode) }
+        ensures place { IfOk result (λ file. (file.system.place ≡ place) × (file.system.shared ≡ shared)) }
+        ensures state { IfOk result (λ file. ⟦<StdMailboxFile<R> as MailboxFile>⟧.state file ≡ at_start) }
+    {
+        Ok(StdMailboxFile {
+            system: SystemFile::new(rt, alloc, path, Taken::Own(mode), shared, place)?,
+            entry: Entry::unknown(),
+            told: Told::new(),
+        })
+    }
+
+    /// Looks at what the path names, which is never opened. An error says why no turn can be had there.
     pub fn look(&self) -> io::Result<()> {
         self.system.look().map_err(error_of)
     }
@@ -160,6 +189,11 @@ where
 
     fn unlock_range(&mut self) {
         self.system.unlock_open();
+        self.told.add(Step::RangeUnlocked);
+    }
+
+    fn rest(&mut self) {
+        self.system.rest();
         self.told.add(Step::RangeUnlocked);
     }
 

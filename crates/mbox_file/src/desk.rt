@@ -1,0 +1,267 @@
+//! What one mailbox of a thread has at hand for its turn: room for the path of its lock file, the files that others of
+//! the thread left open, and what lock files are made of.
+//!
+//! A lock file is linked from one that is made at the first turn and stays, `PATH.source.lock` of the thread's first
+//! mailbox: to make a file and write to it for each turn takes ten times as long. Where there is none to link it from
+//! it is made.
+ghost use Rattle.std.specs.Prelude.{◌≡◌};
+
+use crate::lock_file::{Held, LockSource, SourceTries};
+use crate::open_files::OpenFiles;
+use crate::plain::{Node, OpenNode, is_same, node_of, remove_node, remove_open, system_fault};
+use crate::stale::{Caution, is_stale};
+use mbox_locks::owner_text;
+use mbox_spool::InUse;
+use std::alloc::{AllocError, Global};
+use std::fs::{FileTimes, Files, Metadata, OpenFile, OpenOptions};
+use std::io::{ErrorKind, Write};
+use std::os::unix::fs::{MetadataExt, OpenOptionsExt};
+use std::time::{Clock, SystemTime};
+use std::{fs, io};
+
+/// Others read in a lock file whose it is, where the umask lets them; the service's doesn't, and they go by its age.
+const LOCK_MODE: u32 = 0o644;
+
+/// The longest path that the system takes.
+const PATH_SIZE: usize = 4_096;
+
+/// A thread's desk, which one of its mailboxes has at a time.
+pub(crate) struct Desk<R: Files + Clock + Drop> {
+    rt: R,
+    // of the mailbox that has it
+    lock_path: String,
+    owner: String,
+    source_path: String,
+    source: Option<LockSource<R::File>>,
+    source_tries: SourceTries,
+    pub open_files: OpenFiles<R::File>,
+}
+
+/// What the lock files were linked from goes with it.
+impl<R: Files + Clock + Drop> Drop for Desk<R> {
+    fn drop(self) {
+        let Desk {
+            rt,
+            lock_path: _,
+            owner: _,
+            source_path,
+            source,
+            source_tries: _,
+            open_files: _,
+        } = self;
+        if let Some(source) = source {
+            let _ = remove_node(&rt, source_path.as_str(), source.made.node());
+        }
+    }
+}
+
+impl<R: Files + Clock + Drop> Desk<R> {
+    /// For mailboxes of which the first is at that path.
+    pub fn new(
+        rt: R,
+        alloc: Global,
+        path: &str,
+        source_tries: SourceTries,
+        open_files: OpenFiles<R::File>,
+    ) -> Result<Desk<R>, AllocError> {
+        Ok(Desk {
+            rt,
+            lock_path: String::with_capacity(alloc, PATH_SIZE)?,
+            owner: owner_text(alloc)?,
+            source_path: format!(in alloc; "{path}.source.lock")?,
+            source: None,
+            source_tries,
+            open_files,
+        })
+    }
+
+    /// It is that mailbox's now.
+    pub fn serve(&mut self, path: &str) -> Result<(), AllocError> {
+        self.lock_path.clear();
+        self.lock_path.push_str(path)?;
+        self.lock_path.push_str(".lock")
+    }
+
+    // Makes the file that lock files are linked from. One that was left behind goes; where a server has one, or it
+    // can't be made, there is none for this one, until a later try.
+    fn have_source(&mut self, caution: &mut Caution) {
+        if self.source.is_some() {
+            return;
+        }
+        if self.source_tries.begin(self.rt.monotonic())
+            && self.remove_left_source(caution).is_ok()
+        {
+            self.source = self.make_source().ok();
+        }
+    }
+
+    fn remove_left_source(&self, caution: &mut Caution) -> io::Result<()> {
+        let path = self.source_path.as_str();
+        let Ok(found) = fs::symlink_metadata(&self.rt, path) else {
+            return Ok(());
+        };
+        if is_stale(&self.rt, path, &found, self.owner.as_str(), caution) {
+            remove_node(&self.rt, path, node_of(&found))?;
+        }
+        Ok(())
+    }
+
+    // What it says is kept through a crash before anything is linked from it, since a lock file that says nothing has to
+    // grow old.
+    fn make_source(&self) -> io::Result<LockSource<R::File>> {
+        let made = self.make_file(self.source_path.as_str())?;
+        match made.file.sync_data() {
+            Ok(()) => Ok(LockSource::of(made)),
+            Err(error) => {
+                remove_open(&self.rt, self.source_path.as_str(), &made.file);
+                Err(error)
+            }
+        }
+    }
+
+    // Makes a file that says whose it is. Where that can't be written there is none afterwards.
+    fn make_file(&self, path: &str) -> io::Result<OpenNode<R::File>> {
+        let mut file = OpenOptions::new()
+            .write(true)
+            .create_new(true)
+            .mode(LOCK_MODE)
+            .open(&self.rt, path)?;
+        let made = match file.metadata() {
+            Ok(metadata) => match file.write_all(self.owner.as_bytes()) {
+                Ok(()) => Ok(metadata),
+                Err(error) => Err(error),
+            },
+            Err(error) => Err(error),
+        };
+        match made {
+            Ok(metadata) => Ok(OpenNode::of(file, &metadata)),
+            Err(error) => {
+                remove_open(&self.rt, path, &file);
+                Err(error)
+            }
+        }
+    }
+
+    // Links the lock file from the source, whose time is that of now.
+    fn link_lock_file(&mut self) -> Link {
+        let Some(source) = &mut self.source else {
+            return Link::None;
+        };
+        if source.renew(&self.rt).is_err() {
+            return Link::None;
+        }
+        match fs::hard_link(&self.rt, self.source_path.as_str(), self.lock_path.as_str()) {
+            Ok(()) if has_two_names(&source.made.file) => Link::Made(source.made.node()),
+            Ok(()) => {
+                // another server's source stands in the place of this one's
+                let _ = self.remove_link();
+                Link::None
+            }
+            Err(error) if error.kind() == ErrorKind::AlreadyExists => Link::Others,
+            Err(_) => Link::None,
+        }
+    }
+
+    // Removes the lock file where it is still what it was linked from: what the path of the source names.
+    fn remove_link(&self) -> io::Result<()> {
+        let linked = fs::symlink_metadata(&self.rt, self.source_path.as_str())?;
+        remove_node(&self.rt, self.lock_path.as_str(), node_of(&linked))
+    }
+
+    /// Makes the lock file, unless there is one, which is `Held::No`. What it is linked from is made where the mailbox's
+    /// own file `is_open`.
+    pub fn make_lock_file(
+        &mut self,
+        is_open: bool,
+        caution: &mut Caution,
+    ) -> Result<Held<R::File>, InUse> {
+        if is_open {
+            self.have_source(caution);
+        }
+        match self.link_lock_file() {
+            Link::Made(node) => return Ok(Held::Linked(node)),
+            Link::Others => return Ok(Held::No),
+            Link::None => self.source = None,
+        }
+        match self.make_file(self.lock_path.as_str()) {
+            Ok(made) => Ok(Held::Made(made)),
+            Err(error) if error.kind() == ErrorKind::AlreadyExists => Ok(Held::No),
+            Err(error) => Err(system_fault(error)),
+        }
+    }
+
+    /// What the lock file's path names now, where it names something.
+    pub fn find_lock_file(&self) -> io::Result<Option<Metadata>> {
+        match fs::symlink_metadata(&self.rt, self.lock_path.as_str()) {
+            Ok(found) => Ok(Some(found)),
+            Err(error) if error.kind() == ErrorKind::NotFound => Ok(None),
+            Err(error) => Err(error),
+        }
+    }
+
+    /// Whether the lock file that was found was left behind.
+    pub fn is_left(&self, found: &Metadata, caution: &mut Caution) -> bool {
+        let path = self.lock_path.as_str();
+        is_stale(&self.rt, path, found, self.owner.as_str(), caution)
+    }
+
+    /// Removes the lock file that was found, where it is still that one. True: there is none now.
+    pub fn remove_found(&self, found: &Metadata) -> io::Result<bool> {
+        match self.find_lock_file()? {
+            Some(again) if is_same(&again, found) => {}
+            Some(_) => return Ok(false),
+            None => return Ok(true),
+        }
+        match fs::remove_file(&self.rt, self.lock_path.as_str()) {
+            Err(error) if error.kind() != ErrorKind::NotFound => Err(error),
+            _ => Ok(true),
+        }
+    }
+
+    /// Removes the lock file, where it is still that one.
+    pub fn remove_lock_file(&self, node: Node) -> io::Result<()> {
+        remove_node(&self.rt, self.lock_path.as_str(), node)
+    }
+
+    /// Sets the time of the lock file that is its own to now.
+    pub fn renew(&self, own: &Held<R::File>) -> io::Result<()> {
+        let now = SystemTime::now(&self.rt)?;
+        let times = FileTimes::new().set_modified(now);
+        match (own, &self.source) {
+            (Held::Made(own), _) => own.file.set_times(times),
+            (Held::Linked(_), Some(source)) => source.made.file.set_times(times),
+            _ => Err(none_open()),
+        }
+    }
+
+    /// Has the next lock file linked from another source, since this one's time is also that of a lock file which
+    /// couldn't be removed.
+    pub fn leave_source(&mut self) {
+        if let Some(source) = self.source.take() {
+            let _ = remove_node(&self.rt, self.source_path.as_str(), source.made.node());
+            self.source_tries = SourceTries::NotYet;
+        }
+    }
+}
+
+// What came of a link.
+enum Link {
+    // The lock file is another name of that file.
+    Made(Node),
+    // There is a lock file already.
+    Others,
+    // There is no source, or no link is possible.
+    None,
+}
+
+fn has_two_names<F: OpenFile>(file: &F) -> bool {
+    match file.metadata() {
+        Ok(metadata) => metadata.nlink() == 2,
+        Err(_) => false,
+    }
+}
+
+/// What a call says for which nothing is open.
+pub(crate) fn none_open() -> io::Error {
+    io::Error::from_raw_os_error(libc::EBADF)
+}

@@ -1,0 +1,76 @@
+//! What the mailboxes of a thread share for their turns.
+ghost use Rattle.std.specs.Prelude.{◌≡◌};
+
+use crate::desk::Desk;
+use crate::lock_file::SourceTries;
+use crate::open_files::OpenFiles;
+use std::alloc::{AllocError, Global};
+use std::fs::Files;
+use std::sync::Mutex;
+use std::time::Clock;
+
+/// How many files the mailboxes of a thread may have open.
+#[derive(Clone, Copy, Debug, PartialEq, Eq)]
+pub struct FileLimits {
+    /// So many stay open between turns, OPEN_FILES at most.
+    pub open_files: usize,
+    /// One more does, from which lock files are linked.
+    pub has_source: bool,
+}
+
+impl FileLimits {
+    /// Of a mailbox that shares nothing.
+    pub(crate) fn alone(has_source: bool) -> FileLimits
+        ensures { result ≡ record { open_files = 1; has_source = has_source } }
+    {
+        FileLimits {
+            open_files: 1,
+            has_source,
+        }
+    }
+}
+
+/// What the mailboxes of a thread share: a desk, which the mailbox has whose turn it is. One that asks for a turn while
+/// another one has the desk finds itself locked.
+#[derive(Drop)]
+pub struct ThreadFiles<R: Files + Clock + Drop> {
+    desk: Mutex<Option<Box<Desk<R>>>>,
+}
+
+impl<R: Files + Clock + Drop> ThreadFiles<R> {
+    /// For mailboxes of which the first is at that path: beside it stands what lock files are linked from. From here on
+    /// it takes no memory.
+    pub fn new(
+        rt: R,
+        alloc: Global,
+        path: &str,
+        limits: FileLimits,
+    ) -> Result<ThreadFiles<R>, AllocError> {
+        let source_tries = if limits.has_source {
+            SourceTries::NotYet
+        } else {
+            SourceTries::Never
+        };
+        let open_files = OpenFiles::new(alloc, limits.open_files)?;
+        let desk = Desk::new(rt, alloc, path, source_tries, open_files)?;
+        Ok(ThreadFiles {
+            desk: Mutex::new(Some(Box::new(alloc, desk)?)),
+        })
+    }
+
+    /// The desk, unless another mailbox has it.
+    pub(crate) fn take(&self) -> Option<Box<Desk<R>>> {
+        self.desk.try_lock()?.take()
+    }
+
+    /// Puts the desk back. Some: it can't be now.
+    pub(crate) fn put_back(&self, desk: Box<Desk<R>>) -> Option<Box<Desk<R>>> {
+        match self.desk.try_lock() {
+            Some(mut place) => {
+                *place = Some(desk);
+                None
+            }
+            None => Some(desk),
+        }
+    }
+}
