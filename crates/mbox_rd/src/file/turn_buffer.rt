@@ -66,7 +66,7 @@ impl TurnBuffer {
     pub fn end(&mut self, shared: &SharedBuffer)
         ensures { self.new ≡ [] }
     {
-        self.bytes.clear();
+        self.clear();
         shared.take_back(&mut self.bytes);
         self.room = OWN_SIZE;
     }
