@@ -78,7 +78,7 @@ impl TurnBuffer {
         self.bytes.clear();
     }
 
-    /// All that waited was written, up to where the file is cut into pieces.
+    /// Begins the next piece of the file, since all that waited was written.
     pub fn begin_piece(&mut self)
         ensures { self.new ≡ [] }
     {
