@@ -116,15 +116,13 @@ where
         self.desk = self.shared.put_back(desk);
     }
 
-    /// Before the first turn: removes a lock file that was left behind, and rests.
+    /// Before the first turn, of a mailbox that shares nothing: removes a lock file that was left behind.
     pub fn remove_stale_first(&mut self, entry: &mut Entry) -> Result<bool, InUse>
         ensures path { string_bytes self.new.path ≡ string_bytes self.old.path }
         ensures taken { self.new.taken ≡ self.old.taken }
     {
         self.take_desk()?;
-        let removed = self.remove_stale(entry);
-        self.rest();
-        removed
+        self.remove_stale(entry)
     }
 
     // The desk, which it has since it asked for the lock file.
