@@ -17,14 +17,12 @@ files_of mailbox = arc_value mailbox.inner.file.system.shared
 abbrev pub HasFilesOf : {R F D : Type 0} → List (ThreadShare R F D) → ℕ → ThreadFiles R F D → Type 0
 HasFilesOf shares place files = MatchOption (slice_get shares (worker_thread place)) ⊥ (λ share. files ≡ arc_value share.files)
 
--- so do the mailboxes that stand from that place on
-abbrev pub AreOfTheirThreadsFrom : {R F D E : Type 0} {g : _} → List (ThreadShare R F D) → ℕ
-    → List (Watched (FileSpool (StdMailboxFile R F D)) (MailboxLog E g)) → Type 0
-AreOfTheirThreadsFrom shares place [] = Unit {0}
-AreOfTheirThreadsFrom shares place (mailbox ∷ mailboxes) =
-    HasFilesOf shares place (files_of mailbox) × AreOfTheirThreadsFrom shares (suc place) mailboxes
+-- so it is with each of these, by its place from that one on
+abbrev pub EachFrom : {X : Type 0} → (ℕ → X → Type 0) → ℕ → List X → Type 0
+EachFrom P place [] = Unit {0}
+EachFrom P place (x ∷ xs) = P place x × EachFrom P (suc place) xs
 
 -- each mailbox has what the thread shares that serves it
 abbrev pub AreOfTheirThreads : {R F D E : Type 0} {g : _} → List (ThreadShare R F D)
     → List (Watched (FileSpool (StdMailboxFile R F D)) (MailboxLog E g)) → Type 0
-AreOfTheirThreads shares mailboxes = AreOfTheirThreadsFrom shares 0 mailboxes
+AreOfTheirThreads shares mailboxes = EachFrom (λ place mailbox. HasFilesOf shares place (files_of mailbox)) 0 mailboxes

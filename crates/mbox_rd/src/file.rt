@@ -19,13 +19,11 @@ ghost use Rattle.mbox_rd.specs.Moments.{LeavesOnly};
 mod waiting;
 
 use crate::patience::Patience;
-use crate::shared_buffer::SharedBuffer;
 use crate::turn::{end_turn, open_anew, wait_for_turn};
 use mbox_file::{FileEnd, MailboxFile};
 use mbox_spool::{InUse, LINES_ROOM, Spool, SpoolFault, Tail, Turns, tail_after};
 use std::alloc::{AllocError, Global};
 use std::marker::{Brand, Model};
-use std::sync::Arc;
 use std::time::Clock;
 use waiting::{BUFFER_SIZE, room_at};
 
@@ -105,18 +103,11 @@ impl<F: MailboxFile + Drop, C: Clock + Drop> FileSpool<F, C> {
     /// Over a file with neither lock held. Within a minute locks wait that many seconds for other programs in all,
     /// 3,600 at most; 0 is one try each. Its first turn has the file kept before anything is appended, since a process
     /// that was killed may have cut it and not have had that kept. From here on it takes no memory.
-    pub fn new(
-        alloc: Global,
-        file: F,
-        clock: C,
-        wait: u32,
-        buffer: Arc<SharedBuffer>,
-    ) -> Result<FileSpool<F, C>, AllocError>
+    pub fn new(alloc: Global, file: F, clock: C, wait: u32) -> Result<FileSpool<F, C>, AllocError>
         ensures opened { IfOk result IsOpened }
         ensures file { IfOk result (λ spool. spool.file ≡ file) }
         ensures wait { IfOk result (λ spool. spool.wait ≡ wait) }
     {
-        drop(buffer);
         Ok(FileSpool {
             file,
             clock,
@@ -265,7 +256,6 @@ impl<F: MailboxFile + Drop, C: Clock + Drop> FileSpool<F, C> {
         ensures result { result ≡ Err in_use }
     {
         self.refusals = self.refusals.saturating_add(1);
-        self.file.rest();
         self.turns.miss();
         Err(in_use)
     }
@@ -361,7 +351,6 @@ impl<F: MailboxFile + Drop, C: Clock + Drop> Spool for FileSpool<F, C> {
         );
         self.waiting.clear();
         self.in_turn = false;
-        self.file.rest();
         let ended = Turns::after::<Brand, F>(&self.turns, &self.file, self.failures);
         self.turns = ended;
     }

@@ -3,13 +3,11 @@ ghost use Rattle.std.specs.Prelude.{◌≡◌, ◌↔◌};
 ghost use Rattle.std.specs.IoError.{error_kind};
 
 use crate::file::FileSpool;
-use crate::shared_buffer::SharedBuffer;
 use mbox_file::{OWNER_ONLY, RangeLock, StdMailboxFile, Writeback};
 use std::alloc::Global;
 use std::fs::Files;
 use std::io;
 use std::io::ErrorKind;
-use std::sync::Arc;
 use std::time::Clock;
 use thiserror::Error;
 
@@ -67,9 +65,7 @@ where
         ensures mode { IfOk result (λ spool. file_mode spool.file ≡ Some mode) }
     {
         let file = StdMailboxFile::open(rt, alloc, path, mode).map_err(fault_of)?;
-        let buffer = SharedBuffer::new(alloc).map_err(|_| OpenFault::Memory)?;
-        let buffer = Arc::new(alloc, buffer).map_err(|_| OpenFault::Memory)?;
-        FileSpool::new(alloc, file, rt, wait, buffer).map_err(|_| OpenFault::Memory)
+        FileSpool::new(alloc, file, rt, wait).map_err(|_| OpenFault::Memory)
     }
 }
 
