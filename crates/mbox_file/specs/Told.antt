@@ -44,6 +44,7 @@ after old step.LockFileStays = record old { unremoved = old.unremoved + 1 }
 after old step.RangeLocked = record old { has_range_lock = true; is_named = false }
 after old step.RangeRefused = record old { has_range_lock = false; refusals = old.refusals + 1 }
 after old step.RangeUnlocked = record old { has_range_lock = false }
+after old step.Rested = record old { has_range_lock = false }
 after old step.Named = record old { is_named = true }
 after old step.NotNamed = record old { is_named = false; refusals = old.refusals + 1 }
 after old (step.EntrySeen entry) = record old { has_entry = entry.now.is_kept }

@@ -4,7 +4,7 @@
 //! A lock file is linked from one that is made at the first turn and stays, `PATH.source.lock` of the thread's first
 //! mailbox: to make a file and write to it for each turn takes ten times as long. Where there is none to link it from
 //! it is made.
-ghost use Rattle.std.specs.Prelude.{◌≡◌};
+ghost use Rattle.std.specs.Prelude.{◌≡◌, ◌++◌, codes, string_bytes, IfOk, OnOk};
 
 use crate::lock_file::{Held, LockSource, SourceTries};
 use crate::open_files::OpenFiles;
@@ -63,7 +63,11 @@ impl<R: Files + Clock + Drop> Desk<R> {
         path: &str,
         source_tries: SourceTries,
         open_files: OpenFiles<R::File>,
-    ) -> Result<Desk<R>, AllocError> {
+    ) -> Result<Desk<R>, AllocError>
+        ensures source { IfOk result (λ desk. string_bytes desk.source_path ≡ path.now ++ codes ".source.lock") }
+        ensures tries { IfOk result (λ desk. desk.source_tries ≡ source_tries) }
+        ensures files { IfOk result (λ desk. desk.open_files ≡ open_files) }
+    {
         Ok(Desk {
             rt,
             lock_path: String::with_capacity(alloc, PATH_SIZE)?,
@@ -76,7 +80,10 @@ impl<R: Files + Clock + Drop> Desk<R> {
     }
 
     /// It is that mailbox's now.
-    pub fn serve(&mut self, path: &str) -> Result<(), AllocError> {
+    pub fn serve(&mut self, path: &str) -> Result<(), AllocError>
+        ensures lock { OnOk result (string_bytes self.new.lock_path ≡ path.now ++ codes ".lock") }
+        ensures files { self.new.open_files ≡ self.old.open_files }
+    {
         self.lock_path.clear();
         self.lock_path.push_str(path)?;
         self.lock_path.push_str(".lock")

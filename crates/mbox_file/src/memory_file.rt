@@ -62,7 +62,7 @@ impl MailboxFile for MemoryFile {
     }
 
     fn rest(&mut self) {
-        self.told.add(Step::RangeUnlocked);
+        self.told.add(Step::Rested);
     }
 
     fn is_named(&mut self) -> Result<bool, InUse> {

@@ -194,7 +194,7 @@ where
 
     fn rest(&mut self) {
         self.system.rest();
-        self.told.add(Step::RangeUnlocked);
+        self.told.add(Step::Rested);
     }
 
     fn is_named(&mut self) -> Result<bool, InUse> {

@@ -142,14 +142,6 @@ where
         }
     }
 
-    // The open file. No call asks for it before one was opened.
-    fn opened(&mut self) -> io::Result<&mut R::File> {
-        match &mut self.open {
-            Some(open) => Ok(&mut open.file),
-            None => Err(none_open()),
-        }
-    }
-
     /// Makes the lock file, where there is none but one that was left behind.
     pub fn make_lock_file(&mut self, entry: &mut Entry) -> Result<(), InUse> {
         self.take_desk()?;
@@ -296,9 +288,13 @@ where
         few: &'a mut [u8; 2],
         many: &'a mut [u8; TAIL_SIZE],
     ) -> io::Result<(FileEnd, &'a [u8])>
-        ensures { IfOk result (λ read. IsEndBy read.1.now read.0) }
+        ensures end { IfOk result (λ read. IsEndBy read.1.now read.0) }
+        ensures stays { identity_of_open self.new.open ≡ identity_of_open self.old.open }
     {
-        read_end(self.opened()?, few, many)
+        match &mut self.open {
+            Some(open) => read_end(&mut open.file, few, many),
+            None => Err(none_open()),
+        }
     }
 
     /// Writes until all is written or a call fails. The number is of the bytes that the system took.
@@ -307,6 +303,7 @@ where
         ensures whole { OnOk result.1 (result.0 ≡ length bytes.now) }
         ensures taken { Appends (known_of R.File.contents self.old.open) (known_of R.File.contents self.new.open)
             (take result.0 bytes.now) }
+        ensures stays { identity_of_open self.new.open ≡ identity_of_open self.old.open }
     {
         match &mut self.open {
             Some(open) => write_on(&mut open.file, bytes),
@@ -315,7 +312,9 @@ where
     }
 
     /// Has the system begin to write the last bytes, so many, to the disk.
-    pub fn begin_writeback(&mut self, size: u64) {
+    pub fn begin_writeback(&mut self, size: u64)
+        ensures stays { identity_of_open self.new.open ≡ identity_of_open self.old.open }
+    {
         if let Some(open) = &mut self.open {
             // a write leaves the position at the file's end
             if let Ok(end) = open.file.seek(SeekFrom::Current(0)) {
@@ -324,21 +323,36 @@ where
         }
     }
 
-    pub fn sync(&mut self) -> io::Result<()> {
-        self.opened()?.sync_data()
+    pub fn sync(&mut self) -> io::Result<()>
+        ensures stays { identity_of_open self.new.open ≡ identity_of_open self.old.open }
+    {
+        match &mut self.open {
+            Some(open) => open.file.sync_data(),
+            None => Err(none_open()),
+        }
     }
 
     /// Only while the lock file is its own.
-    pub fn cut(&mut self, size: u64) -> io::Result<()> {
+    pub fn cut(&mut self, size: u64) -> io::Result<()>
+        ensures stays { identity_of_open self.new.open ≡ identity_of_open self.old.open }
+    {
         if !self.owns_lock_file()? {
             return Err(io::Error::from(ErrorKind::ResourceBusy));
         }
-        self.opened()?.set_len(size)
+        match &mut self.open {
+            Some(open) => open.file.set_len(size),
+            None => Err(none_open()),
+        }
     }
 
     pub fn rewind(&mut self) -> io::Result<()> {
-        self.opened()?.seek(SeekFrom::Start(0))?;
-        Ok(())
+        match &mut self.open {
+            Some(open) => {
+                open.file.seek(SeekFrom::Start(0))?;
+                Ok(())
+            }
+            None => Err(none_open()),
+        }
     }
 
     /// Reads what comes next of the open file.

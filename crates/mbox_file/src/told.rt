@@ -18,6 +18,8 @@ pub(crate) enum Step<'a> {
     RangeLocked,
     RangeRefused,
     RangeUnlocked,
+    /// What its thread lent was handed back.
+    Rested,
     /// The path names the open file.
     Named,
     /// It names another file, or none.

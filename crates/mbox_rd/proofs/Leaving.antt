@@ -1,5 +1,5 @@
 -- What a crash leaves at the moments of a call, and of calls one after another.
-use Rattle.std.proofs.Common.{◌≡◌, inl, inr, ⊎_elim, ℕ, ◌≤◌, arith, true, List, [], ◌∷◌, ◌++◌, length, take, min}
+use Rattle.std.proofs.Common.{◌≡◌, inl, inr, ⊎_elim, ℕ, ◌≤◌, arith, true, false, List, [], ◌∷◌, ◌++◌, length, take, min}
 use Rattle.std.proofs.Common.{Result, Ok, Err, OnOk, OnErr, refl, sym, ap, ◌∙◌, subst, append_assoc, append-nil}
 use Rattle.std.proofs.Common.{length-append}
 use Rattle.std.specs.List.{AllByRecursion}
@@ -76,6 +76,14 @@ leaves_then P a b c x y = record {
 
 at_as : (b c : FileState) → b ≡ c → (left : List ℕ) → LeavesAt (at_now b) left → LeavesAt (at_now c) left
 at_as b c same left at = subst (λ (s : FileState). LeavesAt (at_now s) left) same at
+
+-- both locks were given back, and then what was lent
+pub gone_and_rests : (b c d : FileState) → HasLetGo b c → d ≡ record c { has_range_lock = false } → HasLetGo b d
+gone_and_rests b c d gone rests =
+    let now : HasLetGo b (record c { has_range_lock = false }) = record {
+      same = ap (λ (s : FileState). record s { has_range_lock = false }) gone.same;
+      free = record { removed = gone.free.removed; no_fewer = gone.free.no_fewer };
+    } in subst (HasLetGo b) (sym rests) now
 
 -- where both locks are given back a crash leaves what it might have left before
 pub still_left : (b c : FileState) → HasLetGo b c → (left : List ℕ) → LeavesAt (at_now c) left → LeavesAt (at_now b) left

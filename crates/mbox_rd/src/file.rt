@@ -16,19 +16,23 @@ ghost use Rattle.mbox_file.specs.MailboxFile.{IsHeld, at_now};
 ghost use Rattle.mbox_file.specs.Moment.{LeavesOne, LeavesAt};
 ghost use Rattle.mbox_rd.specs.Moments.{LeavesOnly};
 
+mod turn_buffer;
 mod waiting;
 
 use crate::patience::Patience;
+use crate::shared_buffer::SharedBuffer;
 use crate::turn::{end_turn, open_anew, wait_for_turn};
 use mbox_file::{FileEnd, MailboxFile};
-use mbox_spool::{InUse, LINES_ROOM, Spool, SpoolFault, Tail, Turns, tail_after};
+use mbox_spool::{InUse, Spool, SpoolFault, Tail, Turns, tail_after};
 use std::alloc::{AllocError, Global};
 use std::marker::{Brand, Model};
+use std::sync::Arc;
 use std::time::Clock;
-use waiting::{BUFFER_SIZE, room_at};
+use turn_buffer::TurnBuffer;
 
 /// A spool over a file, which other programs read and empty too. In a turn it has both locks that mail programs take,
-/// and what it takes waits in a buffer until that is full, at a multiple of 262,144 bytes of the file, or until a sync.
+/// and what it takes waits in a buffer, which it shares with others, until that is full, at a multiple of 262,144 bytes
+/// of the file, or until a sync.
 /// A turn in which a call failed is broken: each further append and sync in it is a fault, and as it ends the file is
 /// cut back to its length at the lock. The next lock opens what the path names again, and goes on with what stands
 /// there. The first lock, and each after one that couldn't be cut back for good, has the file kept before anything is
@@ -39,9 +43,8 @@ pub struct FileSpool<F: MailboxFile + Drop, C: Clock + Drop> {
     clock: C,
     wait: u32,
     patience: Patience,
-    waiting: Vec<u8>,
-    // how many bytes may wait until they are written
-    room: usize,
+    waiting: TurnBuffer,
+    buffer: Arc<SharedBuffer>,
     began: u64,
     tail: Tail,
     failures: u64,
@@ -56,7 +59,6 @@ pub struct FileSpool<F: MailboxFile + Drop, C: Clock + Drop> {
 }
 
 impl<F: MailboxFile + Drop, C: Clock + Drop> Model for FileSpool<F, C> {
-    ghost use Rattle.std.specs.Prelude.{◌≤◌, vec_len, vec_capacity};
     ghost use Rattle.mbox_rd.specs.FileSpool.{FileSpool as Held, IsInOrder};
 
     ghost Value = { Held F };
@@ -65,7 +67,7 @@ impl<F: MailboxFile + Drop, C: Clock + Drop> Model for FileSpool<F, C> {
       file = s.file;
       wait = s.wait;
       patience = s.patience;
-      waiting = s.waiting.items;
+      waiting = s.waiting;
       in_turn = s.in_turn;
       has_failed = s.has_failed;
       is_unsynced = s.is_unsynced;
@@ -77,24 +79,21 @@ impl<F: MailboxFile + Drop, C: Clock + Drop> Model for FileSpool<F, C> {
       log = s.turns.log;
     } };
 
-    ghost invariant = { λ s. (vec_len s.waiting ≤ 262_144)
-        × (262_144 ≤ vec_capacity s.waiting)
-        × IsInOrder F.state (record {
-          file = s.file;
-          wait = s.wait;
-          patience = s.patience;
-          waiting = s.waiting.items;
-          in_turn = s.in_turn;
-          has_failed = s.has_failed;
-          is_unsynced = s.is_unsynced;
-          is_unsettled = s.is_unsettled;
-          began = s.began;
-          tail = s.tail;
-          failures = s.failures;
-          refusals = s.refusals;
-          log = s.turns.log;
-        })
-        × (s.room ≤ 262_144) };
+    ghost invariant = { λ s. IsInOrder F.state (record {
+      file = s.file;
+      wait = s.wait;
+      patience = s.patience;
+      waiting = s.waiting;
+      in_turn = s.in_turn;
+      has_failed = s.has_failed;
+      is_unsynced = s.is_unsynced;
+      is_unsettled = s.is_unsettled;
+      began = s.began;
+      tail = s.tail;
+      failures = s.failures;
+      refusals = s.refusals;
+      log = s.turns.log;
+    }) };
 }
 
 impl<F: MailboxFile + Drop, C: Clock + Drop> FileSpool<F, C> {
@@ -102,8 +101,15 @@ impl<F: MailboxFile + Drop, C: Clock + Drop> FileSpool<F, C> {
 
     /// Over a file with neither lock held. Within a minute locks wait that many seconds for other programs in all,
     /// 3,600 at most; 0 is one try each. Its first turn has the file kept before anything is appended, since a process
-    /// that was killed may have cut it and not have had that kept. From here on it takes no memory.
-    pub fn new(alloc: Global, file: F, clock: C, wait: u32) -> Result<FileSpool<F, C>, AllocError>
+    /// that was killed may have cut it and not have had that kept. Its turns have the shared buffer. From here on it
+    /// takes no memory.
+    pub fn new(
+        alloc: Global,
+        file: F,
+        clock: C,
+        wait: u32,
+        buffer: Arc<SharedBuffer>,
+    ) -> Result<FileSpool<F, C>, AllocError>
         ensures opened { IfOk result IsOpened }
         ensures file { IfOk result (λ spool. spool.file ≡ file) }
         ensures wait { IfOk result (λ spool. spool.wait ≡ wait) }
@@ -113,8 +119,8 @@ impl<F: MailboxFile + Drop, C: Clock + Drop> FileSpool<F, C> {
             clock,
             wait,
             patience: Patience::new(),
-            waiting: Vec::with_capacity(alloc, BUFFER_SIZE)?,
-            room: BUFFER_SIZE,
+            waiting: TurnBuffer::new(alloc)?,
+            buffer,
             began: 0,
             tail: Tail::Empty,
             failures: 0,
@@ -240,7 +246,7 @@ impl<F: MailboxFile + Drop, C: Clock + Drop> FileSpool<F, C> {
     {
         self.began = end.at;
         self.tail = end.tail;
-        self.room = room_at(end.at);
+        self.waiting.begin(&self.buffer, end.at);
         self.in_turn = true;
         self.has_failed = false;
         self.is_unsynced = false;
@@ -317,6 +323,7 @@ impl<F: MailboxFile + Drop, C: Clock + Drop> Spool for FileSpool<F, C> {
                 Ok(end.at)
             }
             Err(in_use) => {
+                self.file.rest();
                 self.patience.miss(&self.clock);
                 self.refuse(in_use)
             }
@@ -349,7 +356,7 @@ impl<F: MailboxFile + Drop, C: Clock + Drop> Spool for FileSpool<F, C> {
             self.began,
             self.is_unsettled,
         );
-        self.waiting.clear();
+        self.waiting.end(&self.buffer);
         self.in_turn = false;
         let ended = Turns::after::<Brand, F>(&self.turns, &self.file, self.failures);
         self.turns = ended;
@@ -390,12 +397,12 @@ impl<F: MailboxFile + Drop, C: Clock + Drop> Spool for FileSpool<F, C> {
             let fault = self.refusal();
             return Err(self.fail(fault));
         }
-        let free = self.room.saturating_sub(self.waiting.len());
-        if free > 0 {
-            return Ok(self.take(piece, free));
+        let taken = self.take(piece);
+        if taken > 0 {
+            return Ok(taken);
         }
         match self.write_waiting() {
-            Ok(()) => Ok(self.take(piece, BUFFER_SIZE)),
+            Ok(()) => Ok(self.take(piece)),
             Err(unwritten) => Err(self.fail(unwritten)),
         }
     }
@@ -422,11 +429,7 @@ impl<F: MailboxFile + Drop, C: Clock + Drop> Spool for FileSpool<F, C> {
         if self.is_unsettled || self.has_failed || !self.in_turn {
             return 0;
         }
-        let free = self.room.saturating_sub(self.waiting.len());
-        if free < LINES_ROOM {
-            return 0;
-        }
-        self.take_lines(piece, free)
+        self.take_lines(piece)
     }
 
     /// Writes what waits, and has the file's bytes kept by the system. The first fault of a turn says why the file's
@@ -478,6 +481,6 @@ impl<F: MailboxFile + Drop, C: Clock + Drop> Spool for FileSpool<F, C> {
         ensures known { knows_end (⟦<FileSpool<F, C> as Spool>⟧.state self.now).turn ≡ true
             → ending_of result ≡ ending (⟦<FileSpool<F, C> as Spool>⟧.state self.now).bytes }
     {
-        tail_after(self.tail, &self.waiting)
+        tail_after(self.tail, self.waiting.as_slice())
     }
 }

@@ -9,6 +9,7 @@
 mod file;
 mod opening;
 mod patience;
+mod shared_buffer;
 mod turn;
 
 pub use file::FileSpool;
@@ -18,4 +19,5 @@ pub use mbox_file::{
 };
 pub use mbox_spool::{InUse, MemorySpool, Spool, SpoolFault, Tail, mend};
 pub use opening::OpenFault;
+pub use shared_buffer::SharedBuffer;
 pub use turn::{hold_locks, let_go};

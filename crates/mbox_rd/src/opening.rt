@@ -3,11 +3,13 @@ ghost use Rattle.std.specs.Prelude.{◌≡◌, ◌↔◌};
 ghost use Rattle.std.specs.IoError.{error_kind};
 
 use crate::file::FileSpool;
+use crate::shared_buffer::SharedBuffer;
 use mbox_file::{OWNER_ONLY, RangeLock, StdMailboxFile, Writeback};
-use std::alloc::Global;
+use std::alloc::{AllocError, Global};
 use std::fs::Files;
 use std::io;
 use std::io::ErrorKind;
+use std::sync::Arc;
 use std::time::Clock;
 use thiserror::Error;
 
@@ -65,8 +67,14 @@ where
         ensures mode { IfOk result (λ spool. file_mode spool.file ≡ Some mode) }
     {
         let file = StdMailboxFile::open(rt, alloc, path, mode).map_err(fault_of)?;
-        FileSpool::new(alloc, file, rt, wait).map_err(|_| OpenFault::Memory)
+        let buffer = own_buffer(alloc).map_err(|_| OpenFault::Memory)?;
+        FileSpool::new(alloc, file, rt, wait, buffer).map_err(|_| OpenFault::Memory)
     }
+}
+
+// A buffer that only one spool has.
+fn own_buffer(alloc: Global) -> Result<Arc<SharedBuffer>, AllocError> {
+    Ok(Arc::new(alloc, SharedBuffer::new(alloc)?)?)
 }
 
 fn fault_of(error: io::Error) -> OpenFault

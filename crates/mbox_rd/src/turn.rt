@@ -234,8 +234,8 @@ pub fn let_go<F: MailboxFile>(file: &mut F)
     file.unlock_range();
 }
 
-/// Ends a turn: where it broke the file is cut to its first bytes, and then both locks are given back. True: what is
-/// cut off, here or, as it says, before a turn that didn't break, may not be kept so.
+/// Ends a turn: where it broke the file is cut to its first bytes, then both locks are given back, and at last what was
+/// lent for the turn. True: what is cut off, here or, as it says, before a turn that didn't break, may not be kept so.
 pub(crate) fn end_turn<F: MailboxFile>(
     file: &mut F,
     is_broken: bool,
@@ -254,6 +254,7 @@ pub(crate) fn end_turn<F: MailboxFile>(
         is_unsettled
     };
     let_go(file);
+    file.rest();
     is_unsettled
 }
 

@@ -1,4 +1,4 @@
-//! What a turn took and the file hasn't: how much of it may wait, and how it is written and kept.
+//! What a turn took and the file hasn't: how it is taken, written and kept.
 ghost use Rattle.std.specs.Prelude.{◌≡◌, ◌≢◌, ◌<◌, ◌≤◌, ◌+◌, ℕ, [], ◌++◌, true, false, length, take};
 ghost use Rattle.std.specs.Prelude.{IfErr, OnOk, OnErr};
 ghost use Rattle.mbox_spool.specs.Lines.{HasLines};
@@ -8,73 +8,51 @@ ghost use Rattle.mbox_rd.specs.Moments.{LeavesInTurn};
 
 use super::FileSpool;
 use mbox_file::MailboxFile;
-use mbox_spool::{LINES_ROOM, Spool, SpoolFault, copy_lines};
+use mbox_spool::{Spool, SpoolFault};
 use std::io;
 use std::time::Clock;
-
-/// The bytes that wait at most before they are written. Writes but the last end at a multiple of it in the file: so the
-/// system has whole large pages of a large record, which it makes and keeps in less time.
-pub(super) const BUFFER_SIZE: usize = 262_144;
-
-// How many bytes go to the next multiple of the buffer's size after that place of a file.
-pub(super) fn room_at(at: u64) -> usize
-    ensures { (1 ≤ result) × (result ≤ BUFFER_SIZE) }
-{
-    BUFFER_SIZE - (at % BUFFER_SIZE as u64) as usize
-}
 
 impl<F: MailboxFile + Drop, C: Clock + Drop> FileSpool<F, C> {
     ghost use Rattle.mbox_file.specs.MailboxFile.{HasAppended, HasNotAppended};
     ghost use Rattle.mbox_rd.specs.FileSpool.{HasWritten, HasNotWritten, KeepsAll, HasLost, AddsLines, KnowsEnd};
     ghost use Rattle.mbox_rd.specs.FileSpool.{contents_of};
 
-    // Puts as many bytes as may wait besides into the buffer.
-    pub(super) fn take(&mut self, piece: &[u8], free: usize) -> usize
-        requires free { 0 < free }
-        requires room { length self.old.waiting + free ≤ 262_144 }
+    // Puts as many bytes as may wait besides into the buffer; none: it is full.
+    pub(super) fn take(&mut self, piece: &[u8]) -> usize
         requires some { 0 < length piece.now }
         requires turn { self.old.in_turn ≡ true }
         requires sound { self.old.has_failed ≡ false }
-        ensures within { (1 ≤ result) × (result ≤ length piece.now) }
-        ensures new { self.new ≡ record self.old {
+        ensures within { result ≤ length piece.now }
+        ensures none { result ≡ 0 → self.new ≡ self.old }
+        ensures some { 0 < result → self.new ≡ record self.old {
           waiting = self.old.waiting ++ take result piece.now;
           is_unsynced = true;
         } }
+        ensures first { self.old.waiting ≡ [] → 0 < result }
         ensures ends { KnowsEnd F.state self.new }
     {
-        let n = piece.len().min(free);
-        let taken = &piece[..n];
-        if self.waiting.extend_from_slice(taken).is_err() {
-            unreachable!();
+        let n = self.waiting.take(piece);
+        if n > 0 {
+            self.is_unsynced = true;
         }
-        self.is_unsynced = true;
         n
     }
 
-    // Puts the lines of a piece into the buffer as they are written, where that many bytes may wait besides.
-    pub(super) fn take_lines(&mut self, piece: &[u8], free: usize) -> usize
-        requires free { 64 ≤ free }
-        requires room { length self.old.waiting + free ≤ 262_144 }
+    // Puts the lines of a piece into the buffer as they are written; none: for 64 bytes there is no room.
+    pub(super) fn take_lines(&mut self, piece: &[u8]) -> usize
         requires lines { HasLines piece.now }
         requires turn { self.old.in_turn ≡ true }
         requires sound { self.old.has_failed ≡ false }
-        ensures some { 0 < result }
-        ensures new { self.new ≡ record self.old { waiting = self.new.waiting; is_unsynced = true } }
-        ensures lines { AddsLines self.old.waiting self.new.waiting piece.now result }
+        ensures none { result ≡ 0 → self.new ≡ self.old }
+        ensures some { 0 < result → self.new ≡ record self.old { waiting = self.new.waiting; is_unsynced = true } }
+        ensures lines { 0 < result → AddsLines self.old.waiting self.new.waiting piece.now result }
         ensures ends { KnowsEnd F.state self.new }
     {
-        let held = self.waiting.len();
-        if self
-            .waiting
-            .resize(held + free.min(LINES_ROOM + piece.len()), 0)
-            .is_err()
-        {
-            unreachable!();
+        let n = self.waiting.take_lines(piece);
+        if n > 0 {
+            self.is_unsynced = true;
         }
-        let copied = copy_lines(piece, &mut self.waiting[held..]);
-        self.waiting.truncate(held + copied.made);
-        self.is_unsynced = true;
-        copied.taken
+        n
     }
 
     // Writes what waits. How the file ends is known again after each write, and not after each piece; nobody knows it
@@ -92,11 +70,10 @@ impl<F: MailboxFile + Drop, C: Clock + Drop> FileSpool<F, C> {
             (F.state self.old.file) (F.state self.new.file) }
     {
         let tail = self.tail();
-        match write_piece(&mut self.file, &self.waiting) {
+        match write_piece(&mut self.file, self.waiting.as_slice()) {
             Ok(()) => {
-                self.waiting.clear();
+                self.waiting.begin_piece();
                 self.tail = tail;
-                self.room = BUFFER_SIZE;
                 Ok(())
             }
             Err(unwritten) => {
@@ -119,7 +96,7 @@ impl<F: MailboxFile + Drop, C: Clock + Drop> FileSpool<F, C> {
             (F.state self.old.file) (F.state self.new.file) }
     {
         let end = self.tail();
-        match write_and_keep(&mut self.file, &self.waiting) {
+        match write_and_keep(&mut self.file, self.waiting.as_slice()) {
             Ok(()) => {
                 self.waiting.clear();
                 self.tail = end;

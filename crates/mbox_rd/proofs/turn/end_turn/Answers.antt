@@ -1,6 +1,6 @@
 use Rattle.std.proofs.Common.{sym, subst}
 use Rattle.mbox_rd.specs.Moments.{LeavesOfTurn}
-use Rattle.mbox_rd.proofs.Leaving.{leaves_and_lets_go, at_rest, prefix_itself}
+use Rattle.mbox_rd.proofs.Leaving.{leaves_and_lets_go, gone_and_rests, at_rest, prefix_itself}
 use Rattle.mbox_rd.proofs.turn.end_turn.Goals as goal
 use Rattle.mbox_rd.proofs.turn.end_turn.Goals.{then-is_broken, else-is_broken}
 
@@ -13,4 +13,4 @@ returns-clause-moments g c = λ lock at.
       | else-is_broken w ↦ subst (λ f. LeavesOfTurn lock a.bytes a (S f)) (sym w.file-is)
           (at_rest lock c.args.size a at a.bytes (prefix_itself a.bytes))
     ] in
-    leaves_and_lets_go _ a _ _ c.let_go.ensures ended
+    leaves_and_lets_go _ a _ _ (gone_and_rests _ _ _ c.let_go.ensures c.rest.ensures) ended

@@ -28,7 +28,7 @@ returns-in-Err-clause-given_up g c = λ free.
     let new = c.refuse-in-Err.new.self in
     let asked = c.ask.new.self in
     let missed : new.patience ≡ record asked.patience { was_missed = true; missed = new.patience.missed } = search rules in
-    let file : asked.file ≡ new.file = search rules in
+    let unopened : (S asked.file).unopened ≡ (S new.file).unopened = search rules in
     rw c.refuse-in-Err.ensures.result (λ locked.
     missed_or c.args.self.now.patience asked.patience new.patience missed
-    (subst (λ f. Rises (S c.args.self.now.file).unopened (S f).unopened) file) (c.in-Err.ensures.given_up locked))
+    (subst (λ n. Rises (S c.args.self.now.file).unopened n) unopened) (c.in-Err.ensures.given_up locked))

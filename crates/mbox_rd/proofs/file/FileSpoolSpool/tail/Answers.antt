@@ -6,4 +6,4 @@ use Rattle.mbox_rd.proofs.file.FileSpoolSpool.tail.Goals as goal
 
 pub returns-clause-known : goal.returns-clause-known
 returns-clause-known g c = knows_tail g.F.MailboxFile.state c.args.self.now (ending_of c.tail_after.result)
-    (subst (IsInOrder g.F.MailboxFile.state) c.self.view_is c.self.invariant.2) (search rules)
+    (subst (IsInOrder g.F.MailboxFile.state) c.self.view_is c.self.invariant) (search rules)

@@ -9,15 +9,15 @@ use Rattle.mbox_rd.proofs.file.FileSpoolSpool.unlock.Goals as goal
 
 pub returns-then-not-self-clause-any_moment : goal.returns-then-not-self-clause-any_moment
 returns-then-not-self-clause-any_moment g c =
-    let S = g.F.MailboxFile.state in let order = subst (IsInOrder S) c.self.view_is c.self.invariant.2 in
+    let S = g.F.MailboxFile.state in let order = subst (IsInOrder S) c.self.view_is c.self.invariant in
     let old = c.args.self.now in
     any_moment S old old old.file _ _ order refl (prefix_appended _ old.waiting) (prefix_itself _)
     (in_turn_at_rest old.began (S old.file) old.waiting)
 
 pub returns-clause-any_moment : goal.returns-clause-any_moment
 returns-clause-any_moment g c =
-    rw (← c.self.view_is) (any_moment g.F.MailboxFile.state _ _ c.end_turn-self-inside.new.file _ _ c.self.invariant.2 refl
-    (prefix_itself _) (prefix_appended _ c.self.inside.waiting.items) c.end_turn-self-inside.ensures.moments)
+    rw (← c.self.view_is) (any_moment g.F.MailboxFile.state _ _ c.end_turn-self-inside.new.file _ _ c.self.invariant refl
+    (prefix_itself _) (prefix_appended _ c.self.inside.waiting) c.end_turn-self-inside.ensures.moments)
 
 pub returns-clause-stored : goal.returns-clause-stored
 returns-clause-stored g c = λ sound left at.
@@ -28,6 +28,6 @@ returns-clause-stored g c = λ sound left at.
 
 pub returns-clause-over : goal.returns-clause-over
 returns-clause-over g c = λ turn.
-    ends g.F.MailboxFile.state c.args.self.now _ c.end_turn-self-inside.new.file _ _ c.self.view_is c.self.invariant.2
+    ends g.F.MailboxFile.state c.args.self.now _ c.end_turn-self-inside.new.file _ _ c.self.view_is c.self.invariant
     (ap (λ (s : FileSpool _). s.in_turn) c.self.view_is ∙ turn)
-    c.end_turn-self-inside.ensures.ended c.clear.ensures.items c.after-ended.ensures
+    c.end_turn-self-inside.ensures.ended c.end.ensures c.after-ended.ensures
