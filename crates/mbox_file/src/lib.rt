@@ -4,7 +4,6 @@
 //! under its locks. The layer above makes turns and a spool of them. What is written, and when, is never known here.
 #![tactic(auto)]
 
-mod desk;
 mod entry;
 mod file;
 mod lock_file;
@@ -18,6 +17,7 @@ mod std_file;
 mod system_file;
 mod thread_files;
 mod told;
+mod workspace;
 
 pub use file::{FileEnd, OWNER_ONLY, sync_folder};
 pub use mailbox_file::MailboxFile;

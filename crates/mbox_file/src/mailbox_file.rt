@@ -35,8 +35,8 @@ pub trait MailboxFile {
     fn unlock_range(&mut self)
         ensures { state self.new ≡ record (state self.old) { has_range_lock = false } };
 
-    /// Hands back what its thread lent it for a turn. It may close the open file, so no lock on its bytes is believed in
-    /// any more.
+    /// Hands back what its thread lent it for a turn. It may close the open file, so no lock on its bytes counts any
+    /// more.
     fn rest(&mut self)
         ensures { state self.new ≡ record (state self.old) { has_range_lock = false } };
 

@@ -1,6 +1,6 @@
 //! The files of a thread's mailboxes that stay open between turns.
-ghost use Rattle.std.specs.Prelude.{◌≡◌, ◌≤◌, ◌+◌, ◌-◌, [], ◌∷◌, ◌++◌, Contains, drop, length, min, vec_capacity, vec_len};
-ghost use Rattle.std.specs.Prelude.{IfOk, IfSome, None};
+ghost use Rattle.std.specs.Prelude.{◌≡◌, ◌≤◌, ◌+◌, ◌-◌, [], ◌∷◌, ◌++◌, Contains, drop, length, min};
+ghost use Rattle.std.specs.Prelude.{vec_capacity, vec_len, IfOk, IfSome, None};
 ghost use Rattle.std.specs.List.{AllByRecursion};
 
 use crate::plain::OpenNode;

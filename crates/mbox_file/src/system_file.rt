@@ -1,6 +1,7 @@
 //! A mailbox's file in the file system, beside its lock file: what the system is asked, and what it answers.
 //!
-//! From its first call of a turn until it rests it has the desk of its thread, by which its lock file is made and removed.
+//! From its first call of a turn until it rests it has the workspace of its thread, by which its lock file is made and
+//! removed.
 ghost use Rattle.std.specs.Prelude.{◌≡◌, ◌≤◌, true, false, IfOk, OnOk, OnErr, length, take};
 ghost use Rattle.std.specs.Io.{ReadsAtMost};
 ghost use Rattle.std.specs.Io.KnownBytes.{Appends, ReadConsumes};
@@ -8,13 +9,13 @@ ghost use Rattle.std.specs.Prelude.{string_bytes};
 ghost use Rattle.mbox_file.specs.SystemFile.{known_of, identity_of_open, IsKeptFor};
 ghost use Rattle.mbox_file.specs.Told.{IsEndBy};
 
-use crate::desk::{Desk, none_open};
 use crate::entry::Entry;
 use crate::file::{FileEnd, read_end};
 use crate::lock_file::Held;
 use crate::plain::{Node, OpenNode, Taken, names_plain, node_of, open_plain, system_fault};
 use crate::stale::Caution;
 use crate::thread_files::ThreadFiles;
+use crate::workspace::{Workspace, none_open};
 use mail_world::limits::TAIL_SIZE;
 use mbox_locks::{LockKind, RangeLock, Writeback};
 use mbox_spool::InUse;
@@ -34,7 +35,7 @@ pub(crate) struct SystemFile<R: Files + Clock + Drop> {
     // which of its thread's mailboxes it is, and what these share
     place: u32,
     shared: Arc<ThreadFiles<R>>,
-    desk: Option<Box<Desk<R>>>,
+    workspace: Option<Box<Workspace<R>>>,
     open: Option<OpenNode<R::File>>,
     caution: Caution,
     lock_file: Held<R::File>,
@@ -63,7 +64,7 @@ where
             taken,
             place,
             shared,
-            desk: None,
+            workspace: None,
             open: None,
             caution: Caution::none(),
             lock_file: Held::No,
@@ -77,60 +78,58 @@ where
         Ok(())
     }
 
-    // Takes the desk, and the file that this mailbox left open on it. Where another mailbox has it this one is locked.
-    fn take_desk(&mut self) -> Result<(), InUse>
+    // Takes the workspace, and the file that this mailbox left open on it. Where another one has it this one is locked.
+    fn take_workspace(&mut self) -> Result<(), InUse>
         ensures path { string_bytes self.new.path ≡ string_bytes self.old.path }
         ensures taken { self.new.taken ≡ self.old.taken }
     {
-        if self.desk.is_some() {
+        if self.workspace.is_some() {
             return Ok(());
         }
-        let Some(mut desk) = self.shared.take() else {
+        let Some(mut workspace) = self.shared.take() else {
             return Err(InUse::Locked);
         };
-        let served = desk.serve(self.path.as_str());
+        let served = workspace.serve(self.path.as_str());
         if self.open.is_none() {
-            self.open = desk.open_files.take(self.place);
+            self.open = workspace.open_files.take(self.place);
         }
-        self.desk = Some(desk);
+        self.workspace = Some(workspace);
         match served {
             Ok(()) => Ok(()),
             Err(_) => Err(InUse::System(libc::ENOMEM)),
         }
     }
 
-    /// Puts the desk back, with the open file on it.
+    /// Puts the workspace back, with the open file on it.
     pub fn rest(&mut self)
         ensures path { string_bytes self.new.path ≡ string_bytes self.old.path }
         ensures taken { self.new.taken ≡ self.old.taken }
     {
-        let Some(mut desk) = self.desk.take() else {
+        let Some(mut workspace) = self.workspace.take() else {
             return;
         };
         if self.lock_file.node().is_some() {
-            desk.leave_source();
+            workspace.leave_source();
         }
         if let Some(open) = self.open.take() {
-            desk.open_files.keep(self.place, open);
+            workspace.open_files.keep(self.place, open);
         }
-        self.desk = self.shared.put_back(desk);
+        self.workspace = self.shared.put_back(workspace);
     }
 
-    /// Before the first turn: removes a lock file that was left behind, and rests.
+    /// Before the first turn, of a mailbox that shares nothing: removes a lock file that was left behind.
     pub fn remove_stale_first(&mut self, entry: &mut Entry) -> Result<bool, InUse>
         ensures path { string_bytes self.new.path ≡ string_bytes self.old.path }
         ensures taken { self.new.taken ≡ self.old.taken }
     {
-        self.take_desk()?;
-        let removed = self.remove_stale(entry);
-        self.rest();
-        removed
+        self.take_workspace()?;
+        self.remove_stale(entry)
     }
 
-    // The desk, which it has since it asked for the lock file.
-    fn at_hand(&self) -> io::Result<&Desk<R>> {
-        match &self.desk {
-            Some(desk) => Ok(desk),
+    // The workspace, which it has since it asked for the lock file.
+    fn at_hand(&self) -> io::Result<&Workspace<R>> {
+        match &self.workspace {
+            Some(workspace) => Ok(workspace),
             None => Err(none_open()),
         }
     }
@@ -144,7 +143,7 @@ where
 
     /// Makes the lock file, where there is none but one that was left behind.
     pub fn make_lock_file(&mut self, entry: &mut Entry) -> Result<(), InUse> {
-        self.take_desk()?;
+        self.take_workspace()?;
         if self.make_first()? || self.remove_stale(entry)? && self.make_first()? {
             Ok(())
         } else {
@@ -154,10 +153,10 @@ where
 
     // Makes the lock file, unless there is one.
     fn make_first(&mut self) -> Result<bool, InUse> {
-        let Some(desk) = &mut self.desk else {
+        let Some(workspace) = &mut self.workspace else {
             return Err(InUse::Locked);
         };
-        self.lock_file = desk.make_lock_file(self.open.is_some(), &mut self.caution)?;
+        self.lock_file = workspace.make_lock_file(self.open.is_some(), &mut self.caution)?;
         Ok(self.lock_file.node().is_some())
     }
 
@@ -177,7 +176,7 @@ where
         let Some(node) = self.lock_file.node() else {
             return Ok(());
         };
-        if self.take_desk().is_err() {
+        if self.take_workspace().is_err() {
             return Err(none_open());
         }
         self.at_hand()?.remove_lock_file(node)?;
@@ -248,19 +247,19 @@ where
         }
     }
 
-    /// Removes a lock file that was left behind, under the lock on the bytes of what the path names. True: there is none
-    /// now.
+    /// Removes a lock file that was left behind, under the lock on the bytes of what the path names. True: there is
+    /// none now.
     pub fn remove_stale(&mut self, entry: &mut Entry) -> Result<bool, InUse>
         ensures path { string_bytes self.new.path ≡ string_bytes self.old.path }
         ensures taken { self.new.taken ≡ self.old.taken }
     {
-        let Some(desk) = &self.desk else {
+        let Some(workspace) = &self.workspace else {
             return Err(InUse::Locked);
         };
-        let Some(found) = desk.find_lock_file().map_err(system_fault)? else {
+        let Some(found) = workspace.find_lock_file().map_err(system_fault)? else {
             return Ok(true);
         };
-        if !desk.is_left(&found, &mut self.caution) {
+        if !workspace.is_left(&found, &mut self.caution) {
             return Ok(false);
         }
         if !self.names_open()? {
@@ -278,8 +277,8 @@ where
         if !self.names_open()? {
             return Ok(false);
         }
-        let desk = self.at_hand().map_err(system_fault)?;
-        desk.remove_found(found).map_err(system_fault)
+        let workspace = self.at_hand().map_err(system_fault)?;
+        workspace.remove_found(found).map_err(system_fault)
     }
 
     /// Where the open file ends, and by which of its bytes that is known.
@@ -369,8 +368,8 @@ where
 
     /// Sets the time of the lock file to now. `InUse::Locked`: it is no longer its own.
     pub fn renew_lock_file(&self) -> Result<(), InUse> {
-        let desk = self.at_hand().map_err(system_fault)?;
-        desk.renew(&self.lock_file).map_err(system_fault)?;
+        let workspace = self.at_hand().map_err(system_fault)?;
+        workspace.renew(&self.lock_file).map_err(system_fault)?;
         if !self.owns_lock_file().map_err(system_fault)? {
             return Err(InUse::Locked);
         }

@@ -1,9 +1,9 @@
 //! What the mailboxes of a thread share for their turns.
 ghost use Rattle.std.specs.Prelude.{◌≡◌};
 
-use crate::desk::Desk;
 use crate::lock_file::SourceTries;
 use crate::open_files::OpenFiles;
+use crate::workspace::Workspace;
 use std::alloc::{AllocError, Global};
 use std::fs::Files;
 use std::sync::Mutex;
@@ -30,11 +30,11 @@ impl FileLimits {
     }
 }
 
-/// What the mailboxes of a thread share: a desk, which the mailbox has whose turn it is. One that asks for a turn while
-/// another one has the desk finds itself locked.
+/// What the mailboxes of a thread share: a workspace, which the one has whose turn it is. One that asks for a turn while
+/// another one has it finds itself locked.
 #[derive(Drop)]
 pub struct ThreadFiles<R: Files + Clock + Drop> {
-    desk: Mutex<Option<Box<Desk<R>>>>,
+    workspace: Mutex<Option<Box<Workspace<R>>>>,
 }
 
 impl<R: Files + Clock + Drop> ThreadFiles<R> {
@@ -52,25 +52,25 @@ impl<R: Files + Clock + Drop> ThreadFiles<R> {
             SourceTries::Never
         };
         let open_files = OpenFiles::new(alloc, limits.open_files)?;
-        let desk = Desk::new(rt, alloc, path, source_tries, open_files)?;
+        let workspace = Workspace::new(rt, alloc, path, source_tries, open_files)?;
         Ok(ThreadFiles {
-            desk: Mutex::new(Some(Box::new(alloc, desk)?)),
+            workspace: Mutex::new(Some(Box::new(alloc, workspace)?)),
         })
     }
 
-    /// The desk, unless another mailbox has it.
-    pub(crate) fn take(&self) -> Option<Box<Desk<R>>> {
-        self.desk.try_lock()?.take()
+    /// The workspace, unless another mailbox has it.
+    pub(crate) fn take(&self) -> Option<Box<Workspace<R>>> {
+        self.workspace.try_lock()?.take()
     }
 
-    /// Puts the desk back. Some: it can't be now.
-    pub(crate) fn put_back(&self, desk: Box<Desk<R>>) -> Option<Box<Desk<R>>> {
-        match self.desk.try_lock() {
+    /// Puts the workspace back. Some: it can't be now.
+    pub(crate) fn put_back(&self, workspace: Box<Workspace<R>>) -> Option<Box<Workspace<R>>> {
+        match self.workspace.try_lock() {
             Some(mut place) => {
-                *place = Some(desk);
+                *place = Some(workspace);
                 None
             }
-            None => Some(desk),
+            None => Some(workspace),
         }
     }
 }

@@ -25,8 +25,8 @@ const LOCK_MODE: u32 = 0o644;
 /// The longest path that the system takes.
 const PATH_SIZE: usize = 4_096;
 
-/// A thread's desk, which one of its mailboxes has at a time.
-pub(crate) struct Desk<R: Files + Clock + Drop> {
+/// A thread's workspace, which one of its mailboxes has at a time.
+pub(crate) struct Workspace<R: Files + Clock + Drop> {
     rt: R,
     // of the mailbox that has it
     lock_path: String,
@@ -38,9 +38,9 @@ pub(crate) struct Desk<R: Files + Clock + Drop> {
 }
 
 /// What the lock files were linked from goes with it.
-impl<R: Files + Clock + Drop> Drop for Desk<R> {
+impl<R: Files + Clock + Drop> Drop for Workspace<R> {
     fn drop(self) {
-        let Desk {
+        let Workspace {
             rt,
             lock_path: _,
             owner: _,
@@ -55,7 +55,7 @@ impl<R: Files + Clock + Drop> Drop for Desk<R> {
     }
 }
 
-impl<R: Files + Clock + Drop> Desk<R> {
+impl<R: Files + Clock + Drop> Workspace<R> {
     /// For mailboxes of which the first is at that path.
     pub fn new(
         rt: R,
@@ -63,12 +63,12 @@ impl<R: Files + Clock + Drop> Desk<R> {
         path: &str,
         source_tries: SourceTries,
         open_files: OpenFiles<R::File>,
-    ) -> Result<Desk<R>, AllocError>
-        ensures source { IfOk result (λ desk. string_bytes desk.source_path ≡ path.now ++ codes ".source.lock") }
-        ensures tries { IfOk result (λ desk. desk.source_tries ≡ source_tries) }
-        ensures files { IfOk result (λ desk. desk.open_files ≡ open_files) }
+    ) -> Result<Workspace<R>, AllocError>
+        ensures source { IfOk result (λ made. string_bytes made.source_path ≡ path.now ++ codes ".source.lock") }
+        ensures tries { IfOk result (λ made. made.source_tries ≡ source_tries) }
+        ensures files { IfOk result (λ made. made.open_files ≡ open_files) }
     {
-        Ok(Desk {
+        Ok(Workspace {
             rt,
             lock_path: String::with_capacity(alloc, PATH_SIZE)?,
             owner: owner_text(alloc)?,
@@ -113,8 +113,8 @@ impl<R: Files + Clock + Drop> Desk<R> {
         Ok(())
     }
 
-    // What it says is kept through a crash before anything is linked from it, since a lock file that says nothing has to
-    // grow old.
+    // What it says is kept through a crash before anything is linked from it, since a lock file that says nothing has
+    // to grow old.
     fn make_source(&self) -> io::Result<LockSource<R::File>> {
         let made = self.make_file(self.source_path.as_str())?;
         match made.file.sync_data() {
@@ -175,8 +175,8 @@ impl<R: Files + Clock + Drop> Desk<R> {
         remove_node(&self.rt, self.lock_path.as_str(), node_of(&linked))
     }
 
-    /// Makes the lock file, unless there is one, which is `Held::No`. What it is linked from is made where the mailbox's
-    /// own file `is_open`.
+    /// Makes the lock file, unless there is one, which is `Held::No`. What it is linked from is made where the
+    /// mailbox's own file `is_open`.
     pub fn make_lock_file(
         &mut self,
         is_open: bool,
