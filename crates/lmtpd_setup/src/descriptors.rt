@@ -14,7 +14,7 @@ use mbox_file::{FileLimits, OPEN_FILES};
 
 /// The server's own but for its lanes: the standard streams and what holds their places, what listens, and what is open
 /// for a moment, as the folder while it is synced.
-pub const OWN_DESCRIPTORS: u64 = 32;
+pub const OWN_DESCRIPTORS: u64 = 16;
 
 /// What a thread has in a turn at most: the mailbox's file and its lock file.
 pub const OF_A_TURN: u64 = 2;
