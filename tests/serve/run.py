@@ -14,6 +14,7 @@ import crash_states  # noqa: F401
 import deliveries  # noqa: F401
 import ends  # noqa: F401
 import failing  # noqa: F401
+import few_descriptors  # noqa: F401
 import files  # noqa: F401
 import floods  # noqa: F401
 import held_up  # noqa: F401

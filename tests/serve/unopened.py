@@ -176,3 +176,50 @@ def a_folder_that_cannot_be_read_is_one(folder):
             equal((place.name, more, ended), (place.name, more, {"status": 1, "said": [], "errors": [REFUSED]}))
     hidden.chmod(0o700)
     equal((list(hidden.iterdir()), file.read_bytes()), ([], b""))
+
+
+@case
+def a_folder_that_cannot_be_written_is_none(folder):
+    """as a user who isn't root: of a folder without the right to write the log has one line at the start, and why; the
+    mailbox that is there is told 451, and 250 once the right is given"""
+    how = as_nobody(folder)
+    (folder / "anna.mbox").touch()
+    if how:
+        os.chown(folder / "anna.mbox", NOBODY, NOBODY)
+    folder.chmod(0o555)
+    written = f"[ERROR lmtpd] cannot write the folder folder={folder} reason={PERMISSION_DENIED}"
+    in_use = f"[ERROR lmtpd] mailbox in use mailbox=anna reason={PERMISSION_DENIED}"
+    with Server(folder, ["anna"], 1, "--lanes", 1, "--log", "error", **how) as server:
+        with Client(server.address).greet() as client:
+            equal(client.deliver(["anna"], "one")[1], [not_stored("anna")])
+            folder.chmod(0o755)
+            equal(client.deliver(["anna"], "two")[1], [stored("anna")])
+            client.quit()
+        ended = vars(server.end())
+    errors = [written, in_use, "[ERROR lmtpd] mailbox free again mailbox=anna", "lmtpd: anna in use 1"]
+    equal(ended, {"status": 0, "said": ["anna stored 1"], "errors": errors})
+    equal(letters.messages(folder / "anna.mbox"), [b"two\n"])
+
+
+@case
+def what_is_no_plain_file_hinders_that_mailbox_alone(folder):
+    """--start-anyway: a folder, a FIFO, a file with a second link, a symbolic link and, as root, another owner's file in
+    mailboxes' places: a line for each at the start, in the words' order; those are told 451, and the others 250"""
+    broken = {"carl": os.mkdir, "dora": os.mkfifo, "emil": second_link, "finn": symbolic_link}
+    if os.geteuid() == 0:
+        broken["gerd"] = another_owner
+    for name, break_file in broken.items():
+        break_file(folder / f"{name}.mbox")
+    names = ["anna", *broken, "ben"]
+    logged = [f"[ERROR lmtpd] cannot open mailbox={name} reason=not plain" for name in broken]
+    told = [not_stored(name) if name in broken else stored(name) for name in names]
+    with Server(folder, names, 1, "--lanes", 1, "--log", "error", ANYWAY) as server:
+        with Client(server.address).greet() as client:
+            equal([client.deliver(names, text)[1] for text in ["one", "two"]], [told] * 2)
+            client.quit()
+        ended = server.end()
+    equal(ended.errors[: len(broken)], logged)
+    in_use = [f"[ERROR lmtpd] mailbox in use mailbox={name} reason=not plain" for name in broken]
+    equal(sorted(ended.errors[len(broken) :]), sorted([*in_use, *[f"lmtpd: {name} in use 2" for name in broken]]))
+    for name in ["anna", "ben"]:
+        equal(letters.messages(folder / f"{name}.mbox"), [b"one\n", b"two\n"])

@@ -5,3 +5,4 @@ mod Whole
 pub mod WrongNames
 pub mod Pushed
 mod Asked
+mod DescriptorRows

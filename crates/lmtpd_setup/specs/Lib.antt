@@ -1,8 +1,10 @@
 pub mod Boxes
 pub mod Curfew
+pub mod Descriptors
 pub mod Faults
 pub mod Lines
 pub mod Mailboxes
 pub mod Names
 pub mod Setup
+pub mod Shares
 pub mod Unopened

@@ -8,7 +8,7 @@ use Rattle.lmtp_threads.specs.declared.watched.Watched.{Watched}
 use Rattle.lmtpd_log.specs.MailboxLogs.{name_in, turns_told}
 use Rattle.lmtpd_log.specs.declared.mailbox_log.MailboxLog.{MailboxLog}
 use Rattle.lmtpd_output.specs.Printable.{printable_text}
-use Rattle.lmtpd_setup.specs.declared.mailboxes.Access.{Access}
+use Rattle.lmtpd_setup.specs.declared.access.Access.{Access}
 
 -- the path of a mailbox's file, the permission bits with which it is made where it is missing, how many seconds of a
 -- minute its locks are waited for, and what its log calls it

@@ -13,7 +13,7 @@ use Rattle.lmtpd_setup.specs.Names.{IsNoSite, is_logged}
 use Rattle.lmtpd_setup.specs.Unopened.{AreNotOpen}
 use Rattle.lmtpd_setup.specs.declared.ends.Ends.{Ends}
 use Rattle.lmtpd_setup.specs.declared.fault.Fault.{Fault}
-use Rattle.lmtpd_setup.specs.declared.mailboxes.Access.{Access}
+use Rattle.lmtpd_setup.specs.declared.access.Access.{Access}
 use Rattle.lmtpd_setup.specs.declared.fault.Fault.TheVariants as fault
 use Rattle.lmtpd_setup.specs.declared.stop.Stop.{Stop}
 use Rattle.lmtpd_setup.specs.declared.stop.Stop.TheVariants as stop

@@ -2,7 +2,7 @@
 use Rattle.std.specs.Prelude.{◌≡◌, ℕ, true, false, List, Contains}
 use Rattle.std.specs.Borrow.{Bor}
 use Rattle.lmtpd_setup.specs.declared.fault.Fault.TheVariants as fault
-use Rattle.lmtpd_setup.specs.declared.mailboxes.Access.{Access}
+use Rattle.lmtpd_setup.specs.declared.access.Access.{Access}
 use Rattle.lmtpd_setup.specs.declared.stop.Stop.{Stop}
 use Rattle.lmtpd_setup.specs.declared.stop.Stop.TheVariants as stop
 

@@ -6,9 +6,12 @@
 //! server's run or of a rehearsal.
 #![tactic(auto)]
 
+mod access;
 mod boxes;
+mod descriptors;
 mod ends;
 mod fault;
+mod folder;
 mod hurried;
 mod logger;
 mod mailboxes;
@@ -16,6 +19,7 @@ mod names;
 mod opening;
 mod room;
 mod setup;
+mod shares;
 mod site;
 mod sizes;
 mod stop;

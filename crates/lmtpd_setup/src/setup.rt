@@ -10,11 +10,14 @@ ghost use Rattle.lmtpd_setup.specs.Faults.{site_fault};
 ghost use Rattle.lmtpd_setup.specs.Mailboxes.{IsUntold, held_as};
 ghost use Rattle.lmtpd_setup.specs.Setup.{IsNotSetUp, access_asked, ends_asked, mailboxes_asked, told_level};
 
+use crate::access::Access;
+use crate::descriptors::limits_told;
 use crate::ends::{Ends, ServerCurfew};
 use crate::fault::Fault;
 use crate::logger::{ServerLog, line_setting, server_log};
-use crate::mailboxes::{Access, ServedMailbox, Shared, open_mailboxes};
+use crate::mailboxes::{ServedMailbox, Shared, open_mailboxes};
 use crate::room::tell_of_room;
+use crate::shares::share_each;
 use crate::site::served_site;
 use crate::stop::Stop;
 use lmtp_text::Site;
@@ -78,14 +81,17 @@ where
     let site = served_site(alloc, words)?;
     let log = server_log(rt, threads, told_level(words));
     tell_of_room(words, &log);
+    let limits = limits_told(words, &log);
     let access = access_asked(words);
+    let boxes = &words.site.boxes;
     let shared = Shared {
         curfew: shared_curfew(threads, log, alloc, words, Manager::named(rt))?,
         slow: shared_words(alloc, words)?,
+        threads: share_each(threads, alloc, access, boxes, limits)?,
     };
-    let spools = open_mailboxes(threads, alloc, access, &words.site.boxes, &shared, log)?;
+    let spools = open_mailboxes(threads, alloc, access, boxes, &shared, log)?;
     let logs = line_setting(threads, log, words, &site)?;
-    let Shared { curfew, slow } = shared;
+    let Shared { curfew, slow, .. } = shared;
     Ok(ServerSetup {
         site,
         log,

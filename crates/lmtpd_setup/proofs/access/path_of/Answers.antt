@@ -1,6 +1,6 @@
 use Rattle.lmtpd_output.specs.Printable.{printable_text}
 use Rattle.lmtpd_setup.proofs.Paths.{path_told}
-use Rattle.lmtpd_setup.proofs.mailboxes.path_of.Goals as goal
+use Rattle.lmtpd_setup.proofs.access.path_of.Goals as goal
 
 pub returns : goal.returns
 returns c =
