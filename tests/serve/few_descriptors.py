@@ -64,13 +64,14 @@ def sixty_four_descriptors(folder):
 
 @case
 def a_thousand_and_twenty_four_descriptors(folder):
-    """256 mailboxes and 1,024 descriptors: nothing is said at the start, each letter for all is stored, and the files
-    that stay open are those from which lock files are linked"""
+    """256 mailboxes and 1,024 descriptors: nothing is said at the start, each letter for all is stored, and each mailbox
+    stays open, and what its lock file is linked from"""
     with start_within(folder, 1_024) as server:
         with Client(server.address).greet() as client:
             for text in "one", "two":
                 equal(client.deliver(BOXES, text)[1], [stored(name) for name in BOXES])
-                equal(sorted(open_files(server)), sorted(f"{server.mailbox(name)}.source.lock" for name in BOXES))
+                kept = [f"{server.mailbox(name)}{suffix}" for name in BOXES for suffix in ("", ".source.lock")]
+                equal(sorted(open_files(server)), sorted(kept))
             client.quit()
         equal(vars(server.end()), {"status": 0, "said": [f"{name} stored 2" for name in BOXES], "errors": []})
     equal(texts(server), {name: [b"one\n", b"two\n"] for name in BOXES})

@@ -19,8 +19,8 @@ loop-name-preserved g c =
       own = each_pushed (λ n mailbox. HasFilesOf c.args.shared.now.threads.items n (files_of mailbox)) _ _ c.in_ok-open_mailbox.field-0
           c.push_reserved.ensures.items c.loop-name.invariant.own
           (subst (λ n. HasFilesOf c.args.shared.now.threads.items n (files_of c.in_ok-open_mailbox.field-0)) place
-              (subst (λ files. HasFilesOf c.args.shared.now.threads.items c.len.result files) (sym c.in_ok-open_mailbox.ensures.files)
-                  c.in_ok-part.ensures.own));
+          (subst (λ files. HasFilesOf c.args.shared.now.threads.items c.len.result files) (sym c.in_ok-open_mailbox.ensures.files)
+          c.in_ok-part.ensures.own));
       threads = c.loop-name.invariant.threads;
     }
 
