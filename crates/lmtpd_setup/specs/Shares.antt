@@ -2,12 +2,17 @@
 use Rattle.std.specs.Prelude.{◌≡◌, ℕ, suc, ◌%◌, List, [], ◌∷◌, MatchOption, slice_get}
 use Rattle.std.specs.Arc.{arc_value}
 use Rattle.mail_post.specs.WorkerThreads.{worker_thread}
+use Rattle.mbox_file.specs.StdFile.{first_path}
 use Rattle.mbox_file.specs.declared.std_file.StdMailboxFile.{StdMailboxFile}
 use Rattle.mbox_file.specs.declared.thread_files.ThreadFiles.{ThreadFiles}
 use Rattle.mbox_rd.specs.FileSpool.{FileSpool}
 use Rattle.lmtp_threads.specs.declared.watched.Watched.{Watched}
 use Rattle.lmtpd_log.specs.declared.mailbox_log.MailboxLog.{MailboxLog}
 use Rattle.lmtpd_setup.specs.declared.shares.ThreadShare.{ThreadShare}
+
+-- the path of the first mailbox of the thread that shares these
+abbrev pub path_shared : {R F D : Type 0} → ThreadShare R F D → List ℕ
+path_shared share = first_path (arc_value share.files)
 
 -- which files a mailbox shares
 abbrev pub files_of : {R F D E : Type 0} {g : _} → Watched (FileSpool (StdMailboxFile R F D)) (MailboxLog E g) → ThreadFiles R F D

@@ -83,7 +83,7 @@ where
     tell_of_room(words, &log);
     let limits = limits_told(words, &log);
     let access = access_asked(words);
-    let boxes = &words.site.boxes;
+    let boxes: &[&'a [u8]] = &words.site.boxes;
     let shared = Shared {
         curfew: shared_curfew(threads, log, alloc, words, Manager::named(rt))?,
         slow: shared_words(alloc, words)?,

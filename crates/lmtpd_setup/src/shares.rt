@@ -1,8 +1,9 @@
 //! What the mailboxes of a worker thread share, since one of them has a turn at a time.
 
-ghost use Rattle.std.specs.Prelude.{◌≡◌, ◌%◌, ◌<◌, length, vec_len, IfOk, IfErr};
+ghost use Rattle.std.specs.Prelude.{◌≡◌, length, map, take, vec_len, IfOk, IfErr};
 ghost use Rattle.mail_post.specs.WorkerThreads.{threads_for};
-ghost use Rattle.mail_post.specs.declared.kinds.TheConstants.{WORKER_THREADS};
+ghost use Rattle.lmtpd_setup.specs.Mailboxes.{path_at};
+ghost use Rattle.lmtpd_setup.specs.Shares.{path_shared};
 
 use crate::access::{Access, path_of};
 use crate::fault::Fault;
@@ -41,6 +42,8 @@ pub fn share_each<R>(
 where
     R: Files + Clock + Copy + Drop,
     ensures count { IfOk result (λ shares. vec_len shares ≡ threads_for (length names.now)) }
+    ensures first { IfOk result (λ shares. map path_shared shares.items
+        ≡ map (path_at access.entry) (take (threads_for (length names.now)) names.now)) }
     ensures err { IfErr result (λ fault. fault ≡ Fault.Memory) }
 {
     let count = threads_of(names.len()) as usize;
@@ -61,7 +64,8 @@ fn share_at<R>(
 ) -> Result<ThreadShare<R>, Fault>
 where
     R: Files + Clock + Copy + Drop,
-    ensures { IfErr result (λ fault. fault ≡ Fault.Memory) }
+    ensures first { IfOk result (λ share. path_shared share ≡ path.now) }
+    ensures err { IfErr result (λ fault. fault ≡ Fault.Memory) }
 {
     let files = ThreadFiles::new(rt, alloc, path, limits)?;
     let buffer = SharedBuffer::new(alloc)?;

@@ -1,5 +1,5 @@
 //! What the mailboxes of a thread share for their turns.
-ghost use Rattle.std.specs.Prelude.{◌≡◌};
+ghost use Rattle.std.specs.Prelude.{◌≡◌, string_bytes, IfOk};
 
 use crate::lock_file::SourceTries;
 use crate::open_files::OpenFiles;
@@ -34,6 +34,8 @@ impl FileLimits {
 /// another one has it finds itself locked.
 #[derive(Drop)]
 pub struct ThreadFiles<R: Files + Clock + Drop> {
+    // the first one's, by which clauses tell what one thread's share from what another's do
+    path: String,
     workspace: Mutex<Option<Box<Workspace<R>>>>,
 }
 
@@ -45,7 +47,9 @@ impl<R: Files + Clock + Drop> ThreadFiles<R> {
         alloc: Global,
         path: &str,
         limits: FileLimits,
-    ) -> Result<ThreadFiles<R>, AllocError> {
+    ) -> Result<ThreadFiles<R>, AllocError>
+        ensures { IfOk result (λ files. string_bytes files.path ≡ path.now) }
+    {
         let source_tries = if limits.has_source {
             SourceTries::NotYet
         } else {
@@ -54,6 +58,7 @@ impl<R: Files + Clock + Drop> ThreadFiles<R> {
         let open_files = OpenFiles::new(alloc, limits.open_files)?;
         let workspace = Workspace::new(rt, alloc, path, source_tries, open_files)?;
         Ok(ThreadFiles {
+            path: format!(in alloc; "{path}")?,
             workspace: Mutex::new(Some(Box::new(alloc, workspace)?)),
         })
     }
