@@ -218,7 +218,8 @@ fn mailbox_log<'a, G: Log + Drop>(
 
 // What is shared, for one more mailbox.
 fn one_more<'a, T: Drop>(shared: &Arc<T>) -> Result<Arc<T>, Stop<'a>>
-    ensures { IfErr result (λ stop. stop ≡ Stop.Fault Fault.Memory) }
+    ensures same { IfOk result (λ more. arc_value more ≡ arc_value shared.now) }
+    ensures err { IfErr result (λ stop. stop ≡ Stop.Fault Fault.Memory) }
 {
     match Arc::try_clone(shared) {
         Ok(shared) => Ok(shared),
