@@ -1,5 +1,5 @@
 -- What the mailboxes of a server share: each has the files of its own thread.
-use Rattle.std.specs.Prelude.{◌≡◌, ℕ, suc, ◌%◌, List, [], ◌∷◌, MatchOption, slice_get}
+use Rattle.std.specs.Prelude.{◌≡◌, ℕ, suc, List, [], ◌∷◌, MatchOption, slice_get}
 use Rattle.std.specs.Arc.{arc_value}
 use Rattle.mail_post.specs.WorkerThreads.{worker_thread}
 use Rattle.mbox_file.specs.StdFile.{first_path}

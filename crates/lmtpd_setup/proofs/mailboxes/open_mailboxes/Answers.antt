@@ -1,5 +1,4 @@
 use Rattle.std.proofs.Common.{◌≡◌, ◌<◌, [], arith, length, rules, subst, sym}
-use Rattle.std.specs.Arc.{arc_value}
 use Rattle.lmtpd_setup.specs.Mailboxes.{IsUntold, held_as, held_at}
 use Rattle.lmtpd_setup.specs.Shares.{HasFilesOf, files_of}
 use Rattle.lmtpd_setup.proofs.Pushed.{all_made, all_pushed, each_pushed, one_more}
