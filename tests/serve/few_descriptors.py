@@ -64,8 +64,8 @@ def sixty_four_descriptors(folder):
 
 @case
 def a_thousand_and_twenty_four_descriptors(folder):
-    """256 mailboxes and 1,024 descriptors: nothing is said at the start, each letter for all is stored, and each mailbox
-    stays open, and what its lock file is linked from"""
+    """256 mailboxes and 1,024 descriptors: nothing is said at the start, each letter for all is stored, and each
+    mailbox stays open, and what its lock file is linked from"""
     with start_within(folder, 1_024) as server:
         with Client(server.address).greet() as client:
             for text in "one", "two":

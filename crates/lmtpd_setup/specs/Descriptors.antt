@@ -15,11 +15,14 @@ needed_for lanes threads = OWN_DESCRIPTORS + lanes + (OF_A_TURN + 1) * threads
 abbrev pub part_of : ℕ → ℕ → ℕ
 part_of spare threads = min (spare / max threads 1) OPEN_FILES
 
--- Each thread's mailboxes keep an equal part of what is left. A mailbox that has a thread of its own needs none of it to
--- stay open, since no other's turn needs what its own has. Where there are too few for a turn of each thread nothing
+-- Each thread's mailboxes keep an equal part of what is left. A mailbox that has a thread of its own needs none of it
+-- to stay open, since no other's turn needs what its own has. Where there are too few for a turn of each thread nothing
 -- stays open between turns.
 abbrev pub limits_within : ℕ → ℕ → ℕ → FileLimits
 limits_within limit lanes boxes =
     if nat_lt limit (needed_for lanes (threads_for boxes)) then record { open_files = 0; has_source = false }
     else if nat_le boxes WORKER_THREADS then record { open_files = 1; has_source = true }
-    else record { open_files = part_of (limit - needed_for lanes (threads_for boxes)) (threads_for boxes); has_source = true }
+    else record {
+      open_files = part_of (limit - needed_for lanes (threads_for boxes)) (threads_for boxes);
+      has_source = true;
+    }

@@ -15,12 +15,14 @@ abbrev pub path_shared : {R F D : Type 0} → ThreadShare R F D → List ℕ
 path_shared share = first_path (arc_value share.files)
 
 -- which files a mailbox shares
-abbrev pub files_of : {R F D E : Type 0} {g : _} → Watched (FileSpool (StdMailboxFile R F D)) (MailboxLog E g) → ThreadFiles R F D
+abbrev pub files_of : {R F D E : Type 0} {g : _} → Watched (FileSpool (StdMailboxFile R F D)) (MailboxLog E g)
+    → ThreadFiles R F D
 files_of mailbox = arc_value mailbox.inner.file.system.shared
 
 -- these are what the thread shares that serves the mailbox at that place
 abbrev pub HasFilesOf : {R F D : Type 0} → List (ThreadShare R F D) → ℕ → ThreadFiles R F D → Type 0
-HasFilesOf shares place files = MatchOption (slice_get shares (worker_thread place)) ⊥ (λ share. files ≡ arc_value share.files)
+HasFilesOf shares place files =
+    MatchOption (slice_get shares (worker_thread place)) ⊥ (λ share. files ≡ arc_value share.files)
 
 -- so it is with each of these, by its place from that one on
 abbrev pub EachFrom : {X : Type 0} → (ℕ → X → Type 0) → ℕ → List X → Type 0

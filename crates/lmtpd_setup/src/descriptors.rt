@@ -43,7 +43,7 @@ fn descriptor_limit() -> u64 {
     limit.rlim_cur
 }
 
-// How many a server needs so that each thread has a turn at once: for each one more, of which its lock files are linked.
+// How many a server needs so that each thread has a turn at once: for each one more, of which lock files are linked.
 fn needed_for(lanes: u32, threads: u32) -> u64
     ensures { result ≡ needed_for lanes threads }
 {

@@ -13,8 +13,8 @@ use std::fs::Files;
 use std::io;
 use std::io::ErrorKind;
 
-/// Looks at the folder of these mailboxes. Where it can't be read none of them is had, and the log says so of the first;
-/// where it can't be written the log says so.
+/// Looks at the folder of these mailboxes. Where it can't be read none of them is had, and the log says so of the
+/// first; where it can't be written the log says so.
 pub fn look_at_folder<'a, R: Files, G: Log>(
     rt: &R,
     access: Access<'a>,
@@ -58,8 +58,8 @@ fn tell_of_right<G: Log>(path: &str, log: &G) {
     }
 }
 
-// Whether this process may write what is at that path, for which nothing is made. It was opened, so that it is no longer
-// than a path may be.
+// Whether this process may write what is at that path, for which nothing is made. It was opened, so that it is no
+// longer than a path may be.
 fn ask_to_write(path: &str) -> io::Result<()> {
     let size = path.len().min(PATH_MAX - 1);
     let mut text = [0; PATH_MAX];
