@@ -1,4 +1,5 @@
 mod FaultRows
 pub mod AfterLines
+pub mod Arms
 pub mod AsAsked
 pub mod Unrun

@@ -3,6 +3,7 @@ use Rattle.clap.specs.Words.{subcommand_of}
 use Rattle.lmtpd_words.specs.CommandLine.{program_app}
 use Rattle.lmtpd_words.specs.Words.{IsAsked, as_texts}
 use Rattle.lmtpd_setup.specs.declared.stop.Stop.TheVariants as stop
+use Rattle.lmtpd.proofs.Arms.{checked, ran}
 use Rattle.lmtpd.proofs.program.do_asked.Goals as goal
 
 pub returns-in-Ok : goal.returns-in-Ok
@@ -18,12 +19,12 @@ returns-in-Ok-Rehearse g c =
 pub returns-in-Ok-Served : goal.returns-in-Ok-Served
 returns-in-Ok-Served g c =
     let read = subst (λ w. IsAsked (subcommand_of program_app (as_texts c.args.words.now)) w) c.in-Ok-Serve.field-0-is c.in-Ok-Serve.ensures.read in
-    (c.in-Ok-Serve.asked, read, rw c.in-Ok-Served.field-0-is at c.in-Ok-Served.ensures)
+    (c.in-Ok-Serve.asked, read, ran _ _ _ _ _ c.in-Ok-Served.field-0-is c.in-Ok-Served.ensures)
 
 pub returns-in-Ok-WordsChecked : goal.returns-in-Ok-WordsChecked
 returns-in-Ok-WordsChecked g c =
     let read = subst (λ w. IsAsked (subcommand_of program_app (as_texts c.args.words.now)) w) c.in-Ok-Serve.field-0-is c.in-Ok-Serve.ensures.read in
-    (c.in-Ok-Serve.asked, read, rw c.in-Ok-WordsChecked.field-0-is at c.in-Ok-WordsChecked.ensures)
+    (c.in-Ok-Serve.asked, read, checked _ _ _ c.in-Ok-WordsChecked.field-0-is c.in-Ok-WordsChecked.ensures)
 
 pub returns-in-Ok-Serve : goal.returns-in-Ok-Serve
 returns-in-Ok-Serve g c =
