@@ -182,23 +182,25 @@ def a_folder_that_cannot_be_read_is_one(folder):
 def a_folder_that_cannot_be_written_is_none(folder):
     """as a user who isn't root: of a folder without the right to write the log has one line at the start, and why; the
     mailbox that is there is told 451, and 250 once the right is given"""
-    how = as_nobody(folder)
-    (folder / "anna.mbox").touch()
+    place = folder / "mail"
+    place.mkdir()
+    how = as_nobody(place)
+    (place / "anna.mbox").touch()
     if how:
-        os.chown(folder / "anna.mbox", NOBODY, NOBODY)
-    folder.chmod(0o555)
-    written = f"[ERROR lmtpd] cannot write the folder folder={folder} reason={PERMISSION_DENIED}"
+        os.chown(place / "anna.mbox", NOBODY, NOBODY)
+    place.chmod(0o555)
+    written = f"[ERROR lmtpd] cannot write the folder folder={place} reason={PERMISSION_DENIED}"
     in_use = f"[ERROR lmtpd] mailbox in use mailbox=anna reason={PERMISSION_DENIED}"
-    with Server(folder, ["anna"], 1, "--lanes", 1, "--log", "error", **how) as server:
+    with Server(place, ["anna"], 1, "--lanes", 1, "--log", "error", **how) as server:
         with Client(server.address).greet() as client:
             equal(client.deliver(["anna"], "one")[1], [not_stored("anna")])
-            folder.chmod(0o755)
+            place.chmod(0o755)
             equal(client.deliver(["anna"], "two")[1], [stored("anna")])
             client.quit()
         ended = vars(server.end())
     errors = [written, in_use, "[ERROR lmtpd] mailbox free again mailbox=anna", "lmtpd: anna in use 1"]
     equal(ended, {"status": 0, "said": ["anna stored 1"], "errors": errors})
-    equal(letters.messages(folder / "anna.mbox"), [b"two\n"])
+    equal(letters.messages(place / "anna.mbox"), [b"two\n"])
 
 
 @case
