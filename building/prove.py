@@ -2,12 +2,13 @@
 """Proves side by side each library that isn't proved as it stands, for `make build`.
 
 `rt all check` gives each crate one process, and our crates are one long chain: most of the time it goes on with one or
-two of them. Here the crate with the longest chain above it, by the processor time that each took here last (out/seconds)
-or elsewhere (building/seconds), is proved by as many processes as there are cores, up to four, and the others fill what
-it leaves, by one or two processes each and at a lower priority. A library's first check here makes one of statements
-alone, as `rt ci` does, and keeps nothing else: from nothing that takes least. A later one keeps what it checked, so that
-the next has less to do. Each gets the stamp by which `rt run` takes it, which proves the program itself. A crate that
-isn't proved ends this with status 1, and what it said is printed.
+two of them. Here no more processes go on than there are cores. The crate with the longest chain above it, by the
+processor time that each took here last (out/seconds) or elsewhere (building/seconds), begins first, and where it is a
+long one has the cores that no other crate which is ready waits for, up to four; each other one has one, at a lower
+priority. Four processes take half as much processor time again as one, and more where cores are wanting. A library's
+first check here makes one of statements alone, as `rt ci` does, and keeps nothing else: from nothing that takes least.
+A later one keeps what it checked, so that the next has less to do. Each gets the stamp by which `rt run` takes it,
+which proves the program itself. A crate that isn't proved ends this with status 1, and what it said is printed.
 usage: building/prove.py, at the top of the repository
 """
 
@@ -29,7 +30,7 @@ CRATES = pathlib.Path("crates")
 SECONDS = pathlib.Path("building/seconds")
 PARTS = ["src", "specs", "proofs"]
 MOST_JOBS = 4  # of the first check: more have nothing to do
-FILLING_JOBS = 2  # of one that alone fills what the first leaves; of several each has one, as each process reads all
+LONG_SECONDS = 120  # a check that takes less isn't over sooner by several processes
 JOB_KIB = 2_500_000  # of memory that a process may take
 LOWER = 10  # the niceness of those that fill what the first leaves
 
@@ -42,6 +43,7 @@ class Crate:
         self.folder = CRATES / self.name
         self.libraries = [it for it in row.partition(":")[2].split() if (CRATES / it).is_dir()]
         self.below = []
+        self.cost = 0  # in seconds of processor time, as far as is known
         self.chain = 0  # the cost of the longest chain from this one upwards
 
     def seconds(self):
@@ -79,7 +81,8 @@ def read_crates():
     def chain(crate):
         if not crate.chain:
             above = [it for it in crates.values() if crate.name in it.libraries]
-            crate.chain = seconds.get(crate.name, usual) + max(map(chain, above), default=0)
+            crate.cost = seconds.get(crate.name, usual)
+            crate.chain = crate.cost + max(map(chain, above), default=0)
         return crate.chain
 
     for crate in crates.values():
@@ -92,7 +95,7 @@ class Check:
     """One crate's check, which makes its library."""
 
     def __init__(self, crate, jobs, niceness):
-        self.crate, self.since, self.stamp = crate, time.monotonic(), crate.known.stamp()
+        self.crate, self.jobs, self.since, self.stamp = crate, jobs, time.monotonic(), crate.known.stamp()
         made = crate.folder / "out/rlib"
         is_first = not (made / "stamp").exists() and not crate.known.has_kept()
         shutil.rmtree(made, ignore_errors=True)
@@ -162,19 +165,18 @@ def memory():
 
 def next_check(left, proved, running):
     """Begins the ready crate with the longest chain, where cores and memory have room for it; None where not."""
-    cores = len(os.sched_getaffinity(0))
     ready = [it for it in left if all(below.name in proved for below in it.below)]
-    if not ready:
+    idle = len(os.sched_getaffinity(0)) - sum(it.jobs for it in running)
+    if not ready or running and idle < 1:
         return None
     crate = max(ready, key=lambda it: it.chain)
     fits = memory() // JOB_KIB
     leads = all(it.crate.chain < crate.chain for it in running)
-    if running and (fits < 1 or not leads and len(running) > cores):
+    if running and fits < 1:
         return None
-    filling = FILLING_JOBS if len(ready) + len(running) == 2 else 1
-    jobs = max(1, min(MOST_JOBS if leads else filling, cores, fits))
+    spare = idle - (len(ready) - 1) if leads and crate.cost >= LONG_SECONDS else 1
     left.remove(crate)
-    return Check(crate, jobs, 0 if leads else LOWER)
+    return Check(crate, max(1, min(MOST_JOBS, spare, fits)), 0 if leads else LOWER)
 
 
 def prove(crates):
