@@ -69,8 +69,8 @@ def forwarding(_folder):
 @in_a_machine()
 def users_of_the_system(_folder):
     """the typed lines of 'Users of the system's list' and 'One list of users': a new user of the system has mail, a
-    name that can't be used changes nothing; Postfix refuses at its door whom the server doesn't know, and a new one
-    until it asked again"""
+    name that can't be used changes nothing, and a quota stays; Postfix refuses at its door whom the server doesn't
+    know, and a new one until it asked again"""
     with Service(NAMES) as service:
         service.set("BOXES", BOXES)
         service.set("OPTIONS")
@@ -78,6 +78,7 @@ def users_of_the_system(_folder):
         type_lines("for name in anna ben; do useradd --create-home $name; done")
         type_lines(lines_of(PAGE, "## Users of the system's list"))
         equal({"anna", "ben"} <= set(BOXES.read_text().split()), True)
+        type_lines(lines_of("MAILBOXES.md", "## Quota", 2))
         type_lines(lines_of(PAGE, "## One list of users"))
         equal(asked("ben@mx.example"), 250)
         equal(asked("carla@mx.example"), 550)
@@ -88,6 +89,7 @@ def users_of_the_system(_folder):
         equal(subprocess.run(["lmtpd-users"], capture_output=True).returncode, 1)
         equal((BOXES.read_text(), service.told("ActiveState")), (before, "active"))
         type_lines("userdel Dora; useradd --create-home carla; lmtpd-users")
+        equal({"anna 5G", "ben", "carla"} <= set(BOXES.read_text().splitlines()), True)
         until = time.monotonic() + 100
         while asked("carla@mx.example") != 250:
             assert time.monotonic() < until, log()[-1500:]

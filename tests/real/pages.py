@@ -8,9 +8,9 @@ from cases import equal
 PAGES = pathlib.Path(__file__).parents[2] / "docs/operating"
 
 
-def lines_of(page, heading):
-    """Those that stand first below that heading."""
-    return (PAGES / page).read_text().split(f"\n{heading}\n")[1].split("```\n")[1]
+def lines_of(page, heading, number=1):
+    """Those that stand below that heading, first, second and so on."""
+    return (PAGES / page).read_text().split(f"\n{heading}\n")[1].split("```\n")[2 * number - 1]
 
 
 def type_lines(lines):

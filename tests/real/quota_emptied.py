@@ -2,7 +2,7 @@
 
 from beside import Beside
 from cases import case, equal
-from clients import Client
+from clients import Client, deliver_one
 from in_a_machine import in_a_machine
 from mutt import Mutt
 from pages import lines_of, type_lines
@@ -75,7 +75,21 @@ def its_senders_hear_of_it(_folder):
         equal(codes, ["452", "552"])
 
 
-for one in [room_again, its_senders_hear_of_it]:
+@case
+@in_a_machine()
+def a_quota_of_her_own(_folder):
+    """a quota for all, and one of her own for anna, by the typed lines of docs/operating/MAILBOXES.md: what is over the
+    one for all is stored for her alone"""
+    letter = ["Subject: large", "", *["x" * 70] * 200]
+    with Service(["anna", "ben"]) as service:
+        service.set("BOXES", "/etc/lmtpd.boxes")
+        type_lines(lines_of("MAILBOXES.md", "## Quota").replace("1000000000", "20000"))
+        type_lines(lines_of("MAILBOXES.md", "## Quota", 2))
+        for both in [[stored("anna"), stored("ben")], [stored("anna"), over_quota("ben")]]:
+            equal(deliver_one(service.address, ["anna", "ben"], *letter), both)
+
+
+for one in [room_again, its_senders_hear_of_it, a_quota_of_her_own]:
     one.seconds = 180
 
 

@@ -1,10 +1,15 @@
 """Runs of `lmtpd rehearse` whose mailboxes stand in a file, as those of rows.py."""
 
-from replies import CLOSING, GO_AHEAD, RECIPIENT_OK, stored
+from replies import CLOSING, GO_AHEAD, RECIPIENT_OK, over_quota, stored
 from rows import HELLO, HELLO_STORED, OPENED, PROLOGUE, TO_ANNA, Row, record
 
 
 def rows():
+    yield from names()
+    yield quotas()
+
+
+def names():
     """Mailboxes of the words, and then those of a file; mail for postmaster is the first one's."""
     for name, text, words, names in [
         ("a file of mailboxes", b"anna\nben\n", [], ["anna", "ben"]),
@@ -23,3 +28,20 @@ def rows():
             row.mailboxes[box] += record(HELLO_STORED)
         row.boxes, row.named = text, words
         yield row
+
+
+def quotas():
+    """The record of the message has 189 bytes: what fits by a mailbox's own quota, or where it has none by --quota."""
+    names = ["anna", "anna", "ben", "ben", "carl", "dora", "emil", "frieda"]
+    fitting = ["anna", "ben", "ben", "frieda"]
+    finals = [stored("anna"), over_quota("anna"), stored("ben"), stored("ben")]
+    finals += [*map(over_quota, ["carl", "dora", "emil"]), stored("frieda")]
+    return Row(
+        "mailboxes with quotas of their own",
+        [*PROLOGUE, *[b"RCPT TO:<%s>" % name.encode() for name in names], b"DATA", *HELLO, b"QUIT"],
+        [*OPENED, *[RECIPIENT_OK] * len(names), GO_AHEAD, *finals, CLOSING],
+        {box: record(HELLO_STORED) * fitting.count(box) for box in ["emil", "anna", "ben", "carl", "dora", "frieda"]},
+        ["--quota", "188"],
+        boxes=b"anna 189\nben\t - # none\r\ncarl\ndora 0\nfrieda 1K",
+        named=["emil"],
+    )

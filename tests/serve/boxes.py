@@ -3,7 +3,7 @@
 import letters
 from cases import case, equal
 from clients import Client
-from replies import NO_SUCH_BOX, RECIPIENT_OK, stored
+from replies import NO_SUCH_BOX, RECIPIENT_OK, over_quota, stored
 from server import Server
 
 LISTS = "# users\r\nben  # the second\r\n\r\n\tcarl\n#dora\nemil"
@@ -65,3 +65,26 @@ def a_file_by_a_link(folder):
         (folder / "of_site").unlink()
         equal(delivered(server, ["ben"])[1], [stored("ben")])
         equal(server.end().status, 0)
+
+
+@case
+def quotas_of_their_own(folder):
+    """mailboxes with quotas of their own under --quota: each takes what fits by its own, - is none, and where nothing
+    is said --quota counts"""
+    (folder / "boxes").write_bytes(b"anna 1K\nben\t-  # none\r\ncarl\ndora 0\n")
+    names = ["anna", "ben", "carl", "dora", "emil"]
+    told = []
+    with Server(folder, ["emil"], 1, "--quota", 100, "--boxes", folder / "boxes") as server:
+        with Client(server.address).greet() as client:
+            for _ in range(2):
+                told.append(client.deliver(names, "Subject: hi", "", "x" * 400)[1])
+            client.quit()
+        ended = server.end()
+    over = [over_quota(name) for name in ["carl", "dora", "emil"]]
+    equal(told, [[stored("anna"), stored("ben"), *over], [over_quota("anna"), stored("ben"), *over]])
+    counts = {"emil": 0, "anna": 1, "ben": 2, "carl": 0, "dora": 0}
+    said = [f"{name} stored {count}" for name, count in counts.items()]
+    errors = [f"lmtpd: {name} over quota {2 - count}" for name, count in counts.items() if count < 2]
+    equal(vars(ended), {"status": 0, "said": said, "errors": errors})
+    equal([len(letters.read(server.mailbox(name))) for name in counts], [*counts.values()])
+    equal(400 < server.mailbox("anna").stat().st_size <= 1_024, True)

@@ -53,7 +53,7 @@ module _ {V S C : Type 0} (May : C → ℕ → Type 0) (view : VisitsView V) (sp
   lanes_given = record { visits = handed.visits; rows = p.mail_rows; inboxes = p.slips }
 
   abbrev boxes_given : WorkersGiven S
-  boxes_given = record { inboxes = p.mail; rows = p.slip_rows; spools = handed.spools; quota = handed.quota }
+  boxes_given = record { inboxes = p.mail; rows = p.slip_rows; spools = handed.spools; quotas = handed.quotas }
 
   lanes_ran : HaveServed site (May clock) view (channels_of p.mail) lanes_given lanes
   lanes_ran = served site clock (channels_of p.mail) lanes_given p.lanes_are p.slips_new.counts p.mail_new.rows_are

@@ -87,8 +87,8 @@ module _ {V S C : Type 0} (out : V → Bool) (plan : PlanState V S C) (may : May
       let p = may.planned in
       let lanes : ℕ = length may.handed.visits in
       subst (λ l. AllByRecursion IsThreadReady l) (sym p.workers_are)
-      (each_at IsThreadReady (thread_tasks (share_of may.site may.handed.quota) 0 p.mail p.slip_rows may.handed.spools) (λ k task e.
-      let t = thread_task_at (share_of may.site may.handed.quota) 0 p.mail p.slip_rows may.handed.spools k task e in
+      (each_at IsThreadReady (thread_tasks (share_of may.site may.handed.quotas) 0 p.mail p.slip_rows may.handed.spools) (λ k task e.
+      let t = thread_task_at (share_of may.site may.handed.quotas) 0 p.mail p.slip_rows may.handed.spools k task e in
       let fresh = p.mail_new.inboxes_are k t.inbox t.inbox_is in
       subst (λ j. IsThreadReady j) (sym t.is) (record {
         fresh = row_fresh threads lanes p.slip_rows p.slips p.slips_new k t.row t.row_is t.inbox fresh;

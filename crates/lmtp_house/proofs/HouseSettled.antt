@@ -122,7 +122,7 @@ module _ {V S : Type 0} {capacity room : ℕ} (site : Site) (May : ℕ → Type 
       (lanes.served k c.value x.value y.value x.is y.is c.is).answered
 
   abbrev handed : HandedIn V S
-  handed = handed_in old_lanes.visits old_boxes.spools capacity old_boxes.quota
+  handed = handed_in old_lanes.visits old_boxes.spools capacity old_boxes.quotas
 
   abbrev back : HandedBack V S
   back = record {

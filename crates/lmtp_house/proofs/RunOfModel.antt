@@ -42,7 +42,7 @@ module _ {V S : Type 0} (site : Site) (spools : SpoolsView S) (lanes : ℕ → L
     pub as_many : (length new.spools ≡ length old.spools) × (length new.tallies ≡ length old.spools)
     pub stored : (b : ℕ) (before after : S) (tally : Tally) → slice_get old.spools b ≡ Some before
         → slice_get new.spools b ≡ Some after → slice_get new.tallies b ≡ Some tally
-        → IsBoxWork (setting_of (share_of site old.quota) b) spools.manner (boxes b) (spools.state before) (spools.state after) tally
+        → IsBoxWork (setting_of (share_of site old.quotas) b) spools.manner (boxes b) (spools.state before) (spools.state after) tally
     pub owed : (k b : ℕ) → k < length old.visits → b < length old.spools
         → of_lane k (boxes b).taken ≡ due site k b (conversations_of (lanes k).visits)
     pub owed_only : (b : ℕ) → b < length old.spools

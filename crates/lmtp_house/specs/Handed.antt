@@ -3,12 +3,12 @@ use Rattle.std.specs.Prelude.{ℕ, List, Option}
 use Rattle.lmtp_threads.specs.declared.tally.Tally.{Tally}
 
 -- what is handed in: clients by lane, spools by mailbox, both with their observers, how many copies may wait for a
--- worker thread, and the limit of bytes for each mailbox
+-- worker thread, and by mailbox its quota, if it has one
 pub record HandedIn (V S : Type 0) : Type 0 where
   pub visits : List V
   pub spools : List S
   pub capacity : ℕ
-  pub quota : Option ℕ
+  pub quotas : List (Option ℕ)
 
 -- what is handed back, and what is told of it: how many conversations each lane held, what each worker did, and how
 -- many blocks and slots the messages had
@@ -21,10 +21,10 @@ pub record HandedBack (V S : Type 0) : Type 0 where
   pub slots : ℕ
 
 -- what is handed in, part by part
-abbrev pub handed_in : {V S : Type 0} → List V → List S → ℕ → Option ℕ → HandedIn V S
-handed_in visits spools capacity quota = record {
+abbrev pub handed_in : {V S : Type 0} → List V → List S → ℕ → List (Option ℕ) → HandedIn V S
+handed_in visits spools capacity quotas = record {
   visits = visits;
   spools = spools;
   capacity = capacity;
-  quota = quota;
+  quotas = quotas;
 }

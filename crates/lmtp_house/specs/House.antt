@@ -22,13 +22,14 @@ use Rattle.lmtp_threads.specs.Works.{SpoolsView, IsBoxWork}
 use Rattle.lmtp_threads.specs.declared.tally.Tally.{Tally}
 
 -- the sizes that a server may have
-pub record IsSize (site : Site) (sizes : Sizes) (lanes spools gates : ℕ) : Type 0 where
+pub record IsSize (site : Site) (sizes : Sizes) (lanes spools gates quotas : ℕ) : Type 0 where
   pub blocks : (1 ≤ sizes.blocks) × (sizes.blocks ≤ BLOCK_LIMIT)
   pub slots : (1 ≤ sizes.slots) × (sizes.slots ≤ SLOT_LIMIT)
   pub capacity : (1 ≤ sizes.capacity) × (sizes.capacity ≤ CAPACITY_LIMIT)
   pub some_lanes : (1 ≤ lanes) × (lanes ≤ LANE_LIMIT)
   pub each_spool : spools ≡ length site.boxes
   pub each_gate : gates ≡ length site.boxes
+  pub each_quota : quotas ≡ length site.boxes
 
 -- Lane k served these clients until there were no more, and its observer was told the entries of all conversations;
 -- its verdicts fit, each moment is one that the clock may answer, and each outcome is that of the slip that it heard.
@@ -43,9 +44,9 @@ pub record IsLaneWork (site : Site) (May : ℕ → Type 0) (MayCome : PeerState 
   pub answered : OutcomesAreAnswers site k work.heard (conversations_of work.visits)
 
 -- However lanes and workers interleaved: each worker took of each lane just the copies that the lane's conversations
--- owe its mailbox, in their order, and nothing else, and its observer was told how each one's turn ended; and each lane
--- heard of its copies every slip that their workers gave, and nothing else, so that its channel is empty when it is
--- closed.
+-- owe its mailbox, in their order, and nothing else, each had its turn under the mailbox's own quota, and its observer
+-- was told how each one's turn ended; and each lane heard of its copies every slip that their workers gave, and nothing
+-- else, so that its channel is empty when it is closed.
 pub record HasRun {V S : Type 0} (site : Site) (May : ℕ → Type 0) (view : VisitsView V) (spools : SpoolsView S)
     (old : HandedIn V S) (new : HandedBack V S) : Type 0 where
   pub lanes : ℕ → LaneWork
@@ -57,7 +58,7 @@ pub record HasRun {V S : Type 0} (site : Site) (May : ℕ → Type 0) (view : Vi
       → IsLaneWork site May (view.MayGive before) k (lanes k) (lane_told view before after count)
   pub stored : (b : ℕ) (before after : S) (tally : Tally) → slice_get old.spools b ≡ Some before
       → slice_get new.spools b ≡ Some after → slice_get new.tallies b ≡ Some tally
-      → IsBoxWork (setting_of (share_of site old.quota) b) spools.manner (boxes b) (spools.state before)
+      → IsBoxWork (setting_of (share_of site old.quotas) b) spools.manner (boxes b) (spools.state before)
       (spools.state after) tally
   pub observed : (b : ℕ) (before after : S) → slice_get old.spools b ≡ Some before
       → slice_get new.spools b ≡ Some after

@@ -33,7 +33,7 @@ pub record IsPlanned {V S C : Type 0} (site : Site) (clock : C) (handed : Handed
   pub slip_rows : List (List (Sender Slip))
   pub slips : List (Inbox Slip)
   pub lanes_are : plan.lanes ≡ lane_tasks site clock 0 handed.visits mail_rows slips
-  pub workers_are : plan.workers ≡ thread_tasks (share_of site handed.quota) 0 mail slip_rows handed.spools
+  pub workers_are : plan.workers ≡ thread_tasks (share_of site handed.quotas) 0 mail slip_rows handed.spools
   pub mail_new : AreNewChannels handed.capacity (length handed.visits) (threads_for (length handed.spools)) mail_rows
       mail
   pub slips_new : AreNewChannels SLIP_CAPACITY (threads_for (length handed.spools)) (length handed.visits) slip_rows

@@ -2,6 +2,7 @@
 -- `mail_progress` says of each orderly run, holds of this server.
 use Rattle.std.specs.Prelude.{◌≡◌, ◌<◌, ℕ, false, List, [], length, map, get_or}
 use Rattle.mail_world.specs.declared.limits.TheConstants.{RECIPIENT_LIMIT}
+use Rattle.mail_world.specs.Quotas.{quota_at}
 use Rattle.mail_world.specs.Site.{Site}
 use Rattle.mail_world.specs.Lists.{transactions, due}
 use Rattle.mail_world.specs.Runs.{events_of, offers_by}
@@ -16,20 +17,20 @@ use Rattle.lmtp_lane.specs.Visits.{conversations_of}
 use Rattle.lmtp_threads.specs.Works.{LaneWork, BoxWork}
 use Rattle.lmtp_house.specs.Handed.{HandedIn}
 
--- a mailbox's course: what its spool held at first, the copies that its worker took, and their turns
+-- a mailbox's course: its own quota, what its spool held at first, the copies that its worker took, and their turns
 abbrev pub courses_of : {V S : Type 0} → (S → SpoolState) → (ℕ → BoxWork) → HandedIn V S → ℕ → Course
 courses_of state boxes old b = record {
+  quota = quota_at old.quotas b;
   old = get_or (map (λ spool. (state spool).bytes) old.spools) b [];
   taken = (boxes b).taken;
   turns = (boxes b).turns;
 }
 
--- the model's server: this site, its calendar, this quota, as many lanes and mailboxes
+-- the model's server: this site, its calendar, as many lanes and mailboxes
 abbrev pub server_of : {V S : Type 0} → Site → HandedIn V S → Server
 server_of site old = record {
   calendar = civil_at;
   site = site;
-  quota = old.quota;
   lanes = length old.visits;
   boxes = length old.spools;
 }
@@ -43,11 +44,12 @@ threads_of site lanes courses = record {
 }
 
 -- There is an orderly run of the model, from a start at which nothing has happened but that each mailbox holds what
--- this server's spool held, in which each lane offers each mailbox just the copies that its conversations owe, and at
--- whose end each mailbox and each lane has what this server's has, a mailbox the turns that its worker had. Its
--- mailboxes' channels have this server's capacity, and a lane's channel has room for the slips of a message to as many
--- recipients as there may be: no copy is offered and no slip given to a full channel, and a lane begins a message once
--- each copy of its last one is answered. The run has a depot that is large enough: of slots and blocks it says nothing.
+-- this server's spool held, and has its quota, in which each lane offers each mailbox just the copies that its
+-- conversations owe, and at whose end each mailbox and each lane has what this server's has, a mailbox the turns that
+-- its worker had. Its mailboxes' channels have this server's capacity, and a lane's channel has room for the slips of a
+-- message to as many recipients as there may be: no copy is offered and no slip given to a full channel, and a lane
+-- begins a message once each copy of its last one is answered. The run has a depot that is large enough: of slots and
+-- blocks it says nothing.
 pub record IsRunOfModel {V S : Type 0} (site : Site) (state : S → SpoolState) (lanes : ℕ → LaneWork)
     (boxes : ℕ → BoxWork) (old : HandedIn V S) : Type 0 where
   pub is : IsOrderlyRunOf RECIPIENT_LIMIT old.capacity (server_of site old)

@@ -117,7 +117,7 @@ module _ (outcome : Outcome) (end : TurnEnd) (lock unlock : Standing) (got : ℕ
   after_turn = beside (spool unlock turns) (Some (end ∷ []))
 
   abbrev handed : Bool → HandedIn Clients Mailbox
-  handed t = record { visits = came ∷ []; spools = each_of t before_turn idle; capacity = 1; quota = None }
+  handed t = record { visits = came ∷ []; spools = each_of t before_turn idle; capacity = 1; quotas = each_of t None None }
 
   abbrev tallied : Tally
   tallied = tally (note 0 ∷ []) turns
@@ -342,11 +342,17 @@ module _ (outcome : Outcome) (end : TurnEnd) (lock unlock : Standing) (got : ℕ
 
     -- ---- the mailboxes
 
+    -- one without a quota
+    abbrev IsFreeWork : Bool → ℕ → BoxWork → SpoolState → SpoolState → Tally → Type 0
+    IsFreeWork t b work before after tells =
+        IsBoxWork (record { calendar = civil_at; site = site_of t; quota = None; worker = b }) spools.manner work before
+        after tells
+
     abbrev IsWorkOf : Bool → ℕ → BoxWork → SpoolState → SpoolState → Tally → Type 0
     IsWorkOf t b work before after tells =
-        IsBoxWork (setting_of (share_of (site_of t) None) b) spools.manner work before after tells
+        IsBoxWork (setting_of (share_of (site_of t) (handed t).quotas) b) spools.manner work before after tells
 
-    box_work : (t : Bool) (b : ℕ) → HadIt t → IsWorkOf t b (box t) (spool lock []) (spool unlock turns) tallied
+    box_work : (t : Bool) (b : ℕ) → HadIt t → IsFreeWork t b (box t) (spool lock []) (spool unlock turns) tallied
     box_work t b had = record {
       taken_count = refl;
       stored_count = refl;
@@ -366,7 +372,7 @@ module _ (outcome : Outcome) (end : TurnEnd) (lock unlock : Standing) (got : ℕ
       };
     }
 
-    idle_work : (t : Bool) (b : ℕ) → IsWorkOf t b no_work idle.inner idle.inner (tally [] [])
+    idle_work : (t : Bool) (b : ℕ) → IsFreeWork t b no_work idle.inner idle.inner (tally [] [])
     idle_work t b = record {
       taken_count = refl;
       stored_count = refl;

@@ -14,6 +14,7 @@ use Rattle.mail_world.specs.Conversation.{Conversation}
 use Rattle.mail_world.specs.Deliveries.{told_all, outcomes_told}
 use Rattle.mail_world.specs.Lists.{Transaction, copies_owed, transactions, of_lane, due}
 use Rattle.mail_world.specs.Lists.{OutcomesAreAnswers}
+use Rattle.mail_world.specs.Quotas.{quota_at}
 use Rattle.mail_world.specs.Site.{Site}
 use Rattle.mail_world.specs.Slips.{of_worker, slip_of}
 use Rattle.mail_world.specs.Turns.{HaveTurns}
@@ -106,7 +107,7 @@ module _ {V S C : Type 0} {May : C → ℕ → Type 0} {view : VisitsView V} {sp
   within b box = omega (arith, run.each_box, box)
 
   pub have_turns : (b : ℕ) → b < length run.site.boxes
-      → HaveTurns civil_at run.site run.old.quota (run.ran.boxes b).taken (run.ran.boxes b).turns
+      → HaveTurns civil_at run.site (quota_at run.old.quotas b) (run.ran.boxes b).taken (run.ran.boxes b).turns
   have_turns b box =
       let ran = run.ran in
       let low = within b box in
@@ -138,7 +139,7 @@ module _ {V S C : Type 0} {May : C → ℕ → Type 0} {view : VisitsView V} {sp
       let slips : AllByRecursion (IsAnswer heard) (owed_to b outcomes k (ran.boxes b).taken) =
       subst (AllByRecursion (IsAnswer heard)) (ran.told k b lane low)
       (all_filter (IsAnswer heard) (λ slip. slip.worker == b) heard (each_answers heard once)) in
-      by_turns k heard b (ran.boxes b).taken outcomes (many (server_of run.site run.old) _ _ (have_turns b box)) slips
+      by_turns k heard b (ran.boxes b).taken outcomes (many (server_of run.site run.old) _ _ _ (have_turns b box)) slips
       ∙ ap (flat_map (told_one k heard)) (ran.owed k b lane low)
       ∙ sym (by_conversations k heard run.site b cs (answered k lane))
 

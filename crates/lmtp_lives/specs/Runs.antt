@@ -5,6 +5,7 @@ use Rattle.std.specs.Str.{bytes_eq}
 use Rattle.mail_world.specs.declared.Note.{Note}
 use Rattle.mail_world.specs.Deliveries.{outcomes_told}
 use Rattle.mail_world.specs.Lists.{due}
+use Rattle.mail_world.specs.Quotas.{quota_at}
 use Rattle.mail_world.specs.Site.{Site}
 use Rattle.mail_lives.specs.Lives.{Gap, Life, stored_of}
 use Rattle.lmtp_lane.specs.Visits.{conversations_of}
@@ -38,7 +39,7 @@ module _ {V S C : Type 0} {May : C → ℕ → Type 0} {view : VisitsView V} {sp
   abbrev pub life_at : ℕ → ServerRun May view spools → Life
   life_at b run = record {
     site = run.site;
-    quota = run.old.quota;
+    quota = quota_at run.old.quotas b;
     taken = (run.ran.boxes b).taken;
     turns = (run.ran.boxes b).turns;
     gaps = run.gaps b;

@@ -1,5 +1,6 @@
 -- Runs after each of which any bytes may stand behind those that were kept of a mailbox, which others leave alone.
 use Rattle.std.specs.Prelude.{ℕ, List, [], ◌∷◌, flat_map}
+use Rattle.mail_world.specs.Quotas.{quota_at}
 use Rattle.mail_lives.specs.SpoiltLives.{SpoiltLife}
 use Rattle.lmtp_threads.specs.Works.{VisitsView, SpoolsView}
 use Rattle.lmtp_lives.specs.Runs.{ServerRun, number_of, of_box}
@@ -15,7 +16,7 @@ module _ {V S C : Type 0} {May : C → ℕ → Type 0} {view : VisitsView V} {sp
   abbrev pub spoilt_life_at : ℕ → SpoiltRun May view spools → SpoiltLife
   spoilt_life_at b it = record {
     site = it.run.site;
-    quota = it.run.old.quota;
+    quota = quota_at it.run.old.quotas b;
     taken = (it.run.ran.boxes b).taken;
     turns = (it.run.ran.boxes b).turns;
     spoilt = it.spoilt b;

@@ -5,6 +5,7 @@ use Rattle.std.specs.List.{AllZip}
 use Rattle.std.proofs.lemmas.Option.{slice_get_within}
 use Rattle.mail_world.specs.declared.Note.{Note}
 use Rattle.mail_world.specs.declared.Slip.{Slip}
+use Rattle.mail_world.specs.Quotas.{quota_at}
 use Rattle.mail_world.specs.Site.{Site}
 use Rattle.mbox_spool.specs.Spool.{SpoolState}
 use Rattle.mail_post.specs.Channel.{Sender, Inbox}
@@ -33,36 +34,36 @@ no_start =
     } in
     record { quota = None; spool = spool; told = None }
 
-module _ {S : Type 0} (view : SpoolsView S) (quota : Option ℕ) where
+module _ {S : Type 0} (view : SpoolsView S) (quotas : List (Option ℕ)) where
   abbrev pub starts_of : List (Numbered S) → ℕ → Start
   starts_of [] i = no_start
-  starts_of (box ∷ boxes) zero = start_of view quota box.spool
+  starts_of (box ∷ boxes) zero = start_of view (quota_at quotas box.number) box.spool
   starts_of (box ∷ boxes) (suc i) = starts_of boxes i
 
-  starts_at : (boxes : List (Numbered S)) (i : ℕ) (box : Numbered S) → slice_get boxes i ≡ Some box → starts_of boxes i ≡ start_of view quota box.spool
+  starts_at : (boxes : List (Numbered S)) (i : ℕ) (box : Numbered S) → slice_get boxes i ≡ Some box → starts_of boxes i ≡ start_of view (quota_at quotas box.number) box.spool
   starts_at [] i box e = let bad : ◌≡◌ {A = Option (Numbered S)} None (Some box) = e in absurd (cc)
   starts_at (first ∷ boxes) zero box e =
       let s : ◌≡◌ {A = Option (Numbered S)} (Some first) (Some box) = e in
       let same : first ≡ box = cc in
-      ap (λ (x : Numbered S). start_of view quota x.spool) same
+      ap (λ (x : Numbered S). start_of view (quota_at quotas x.number) x.spool) same
   starts_at (first ∷ boxes) (suc i) box e = starts_at boxes i box e
 
-  numbers_kept : (boxes : List (Numbered S)) (kept : List KeptState) → AllZip (IsKept view quota) boxes kept → numbers_of kept ≡ numbers_in boxes
+  numbers_kept : (boxes : List (Numbered S)) (kept : List KeptState) → AllZip (IsKept view quotas) boxes kept → numbers_of kept ≡ numbers_in boxes
   numbers_kept [] [] all = refl
   numbers_kept [] (k ∷ kept) all = absurd all
   numbers_kept (box ∷ boxes) [] all = absurd all
   numbers_kept (box ∷ boxes) (k ∷ kept) all = λ i. all.0.number i ∷ numbers_kept boxes kept all.1 i
 
   module _ (site : Site) (thread : ℕ) (receiver : Inbox Note) (slips : List (Sender Slip)) (boxes : List (Numbered S)) (kept : List KeptState)
-      (all : AllZip (IsKept view quota) boxes kept) where
+      (all : AllZip (IsKept view quotas) boxes kept) where
     abbrev pub task : ThreadTask S
-    task = record { share = share_of site quota; thread = thread; receiver = receiver; slips = slips; boxes = boxes }
+    task = record { share = share_of site quotas; thread = thread; receiver = receiver; slips = slips; boxes = boxes }
 
     -- the mailbox at a place, of which this is kept
-    box_at : (i : ℕ) (k : KeptState) → slice_get kept i ≡ Some k → (box : Numbered S) × (slice_get boxes i ≡ Some box) × IsKept view quota box k
+    box_at : (i : ℕ) (k : KeptState) → slice_get kept i ≡ Some k → (box : Numbered S) × (slice_get boxes i ≡ Some box) × IsKept view quotas box k
     box_at i k e =
-        let box = at boxes i (omega (arith, AllZip-length (IsKept view quota) boxes kept all, slice_get_within kept i k e)) in
-        (box.value, box.is, zip_at (IsKept view quota) boxes kept all i box.value k box.is e)
+        let box = at boxes i (omega (arith, AllZip-length (IsKept view quotas) boxes kept all, slice_get_within kept i k e)) in
+        (box.value, box.is, zip_at (IsKept view quotas) boxes kept all i box.value k box.is e)
 
     pub places : IsOwner task → AreInPlace kept
     places own i k e = let box = box_at i k e in ap slot_of box.2.number ∙ (own i box.0 box.1).0
@@ -88,7 +89,7 @@ module _ {S : Type 0} (view : SpoolsView S) (quota : Option ℕ) where
       same_numbers = numbers ∙ numbers_kept boxes kept all
 
       worked_at : (i : ℕ) (box : Numbered S) (k : KeptState) → slice_get boxes i ≡ Some box → slice_get back.boxes i ≡ Some k
-          → HasWorked (setting_of (share_of site quota) box.number) view.manner (inbox_for box.number receiver) (inbox_for box.number back.receiver)
+          → HasWorked (setting_of (share_of site quotas) box.number) view.manner (inbox_for box.number receiver) (inbox_for box.number back.receiver)
           (idle (senders_for box.number slips) (view.state box.spool) (view.told box.spool)) (worker_lost (senders_for box.number back.slips) k back.lost)
       worked_at i box k e f =
           let there : slice_get (numbers_in boxes) i ≡ Some k.number =
@@ -97,7 +98,7 @@ module _ {S : Type 0} (view : SpoolsView S) (quota : Option ℕ) where
           let Has : ℕ → Start → Type 0 = λ b start.
           HasWorked (setting_by site start.quota b) view.manner (inbox_for b receiver) (inbox_for b back.receiver)
           (idle (senders_for b slips) start.spool start.told) (worker_lost (senders_for b back.slips) k back.lost) in
-          subst (λ b. Has b (start_of view quota box.spool)) number
+          subst (λ b. Has b (start_of view (quota_at quotas box.number) box.spool)) number
           (subst (Has k.number) (starts_at boxes i box e) (worked (starts_of boxes) are_new i k f))
 
       pub thread_work : (channel : (back.receiver.channel ≡ receiver.channel) × (back.receiver.lanes ≡ receiver.lanes)

@@ -75,11 +75,11 @@ module _ {S : Type 0} (view : SpoolsView S) where
   module _ (site : Site) (channels : List (Channel Slip)) (given : WorkersGiven S) (count : ℕ) (backs : List ThreadBack) (columns : WorkerColumns S)
       (of : HoldAll count backs columns)
       (inboxes_count : length given.inboxes ≡ threads_for (length given.spools)) (are : AreRows (length given.inboxes) channels none given.rows)
-      (tasks_of : AreTasksOf count (thread_tasks (share_of site given.quota) 0 given.inboxes given.rows given.spools))
-      (all : AllZip (IsThreadWork view) (thread_tasks (share_of site given.quota) 0 given.inboxes given.rows given.spools) backs)
+      (tasks_of : AreTasksOf count (thread_tasks (share_of site given.quotas) 0 given.inboxes given.rows given.spools))
+      (all : AllZip (IsThreadWork view) (thread_tasks (share_of site given.quotas) 0 given.inboxes given.rows given.spools) backs)
       (sound : columns.gone ≡ false) where
     abbrev share : WorkerShare
-    share = share_of site given.quota
+    share = share_of site given.quotas
 
     abbrev tasks : List (ThreadTask S)
     tasks = thread_tasks share 0 given.inboxes given.rows given.spools

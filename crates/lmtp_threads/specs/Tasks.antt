@@ -177,13 +177,12 @@ pub record LanesGiven (V : Type 0) : Type 0 where
   pub rows : List (List (Sender Note))
   pub inboxes : List (Inbox Slip)
 
--- what worker threads are given: their receivers, a row of senders for each, and by mailbox the spools, and the limit of
--- bytes for each
+-- what worker threads are given: their receivers, a row of senders for each, and by mailbox the spools, and the quotas
 pub record WorkersGiven (S : Type 0) : Type 0 where
   pub inboxes : List (Inbox Note)
   pub rows : List (List (Sender Slip))
   pub spools : List S
-  pub quota : Option ℕ
+  pub quotas : List (Option ℕ)
 
 -- All lanes have ended, and none found a channel gone: what each did, with what its senders gave and its receiver took.
 pub record HaveServed {V : Type 0} (site : Site) (May : ℕ → Type 0) (view : VisitsView V)
@@ -228,7 +227,7 @@ pub record HaveWorked {S : Type 0} (site : Site) (view : SpoolsView S) (channels
       × (length new.inboxes ≡ length old.inboxes)
   pub stored : (b : ℕ) (before after : S) (tally : Tally) → slice_get old.spools b ≡ Some before
       → slice_get new.lent b ≡ Some after → slice_get new.tallies b ≡ Some tally
-      → IsBoxWork (setting_of (share_of site old.quota) b) view.manner (works b) (view.state before)
+      → IsBoxWork (setting_of (share_of site old.quotas) b) view.manner (works b) (view.state before)
       (view.state after) tally
   pub observed : (b : ℕ) (before after : S) → slice_get old.spools b ≡ Some before → slice_get new.lent b ≡ Some after
       → TellsTurns (works b).turns (view.told before) (view.told after)
@@ -262,6 +261,6 @@ HaveServedAll {V} {C} May view tasks new =
 abbrev pub HaveWorkedAll : {S : Type 0} → SpoolsView S → List (ThreadTask S) → WorkerColumns S → Type 0
 HaveWorkedAll {S} view tasks new =
     (site : Site) (channels : List (Channel Slip)) (old : WorkersGiven S)
-    → tasks ≡ thread_tasks (share_of site old.quota) 0 old.inboxes old.rows old.spools
+    → tasks ≡ thread_tasks (share_of site old.quotas) 0 old.inboxes old.rows old.spools
     → length old.inboxes ≡ threads_for (length old.spools)
     → AreRows (length old.inboxes) channels none old.rows → HaveWorked site view channels old new

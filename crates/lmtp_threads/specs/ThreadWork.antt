@@ -1,5 +1,6 @@
 -- What one worker thread comes to: of each of its mailboxes what a worker of the mailbox's own would have.
-use Rattle.std.specs.Prelude.{◌≡◌, ◌||◌, ℕ, slice_get, Option, Some}
+use Rattle.std.specs.Prelude.{◌≡◌, ◌||◌, ℕ, List, slice_get, Option, Some}
+use Rattle.mail_world.specs.Quotas.{quota_at}
 use Rattle.mail_world.specs.Site.{Site}
 use Rattle.mail_post.specs.Offered.{any_gone}
 use Rattle.box_worker.specs.Worked.{idle, is_lost, HasWorked}
@@ -14,10 +15,10 @@ module _ {S : Type 0} (view : SpoolsView S) where
   abbrev pub start_of : Option ℕ → S → Start
   start_of quota spool = record { quota = quota; spool = view.state spool; told = view.told spool }
 
-  -- what a thread keeps of a mailbox before its first copy
-  pub record IsKept (quota : Option ℕ) (box : Numbered S) (kept : KeptState) : Type 0 where
+  -- what a thread keeps of a mailbox before its first copy, where these are the mailboxes' quotas
+  pub record IsKept (quotas : List (Option ℕ)) (box : Numbered S) (kept : KeptState) : Type 0 where
     pub number : kept.number ≡ box.number
-    pub new : (site : Site) → IsNew site view.manner (start_of quota box.spool) kept
+    pub new : (site : Site) → IsNew site view.manner (start_of (quota_at quotas box.number) box.spool) kept
 
   pub record IsThreadWork (task : ThreadTask S) (back : ThreadBack) : Type 0 where
     pub channel : (back.receiver.channel ≡ task.receiver.channel) × (back.receiver.lanes ≡ task.receiver.lanes)

@@ -5,6 +5,7 @@ use Rattle.mail_world.specs.declared.Note.{Note}
 use Rattle.mail_world.specs.declared.Slip.{Slip}
 use Rattle.mail_world.specs.Site.{Site}
 use Rattle.mail_world.specs.Counts.{counted}
+use Rattle.mail_world.specs.Quotas.{quota_at}
 use Rattle.mail_world.specs.Turns.{Standing, Told}
 use Rattle.mail_runs.specs.Courses.{outcomes_in}
 use Rattle.mail_writing.specs.Calendar.{civil_at}
@@ -62,17 +63,22 @@ pub record LaneWork : Type 0 where
   pub visits : List Visit
   pub heard : List Slip
 
--- what all workers share
+-- what all workers share: the site, and the quota of each mailbox, if it has one, by the mailboxes' numbers
 pub record WorkerShare : Type 0 where
   pub site : Site
-  pub quota : Option ℕ
+  pub quotas : List (Option ℕ)
 
-abbrev pub share_of : Site → Option ℕ → WorkerShare
-share_of site quota = record { site = site; quota = quota }
+abbrev pub share_of : Site → List (Option ℕ) → WorkerShare
+share_of site quotas = record { site = site; quotas = quotas }
 
--- what stays while worker b runs
+-- what stays while worker b runs, mailbox b's own quota among it
 abbrev pub setting_of : WorkerShare → ℕ → Setting
-setting_of share b = record { calendar = civil_at; site = share.site; quota = share.quota; worker = b }
+setting_of share b = record {
+  calendar = civil_at;
+  site = share.site;
+  quota = quota_at share.quotas b;
+  worker = b;
+}
 
 -- what a worker did: the copies that it took, and their turns, with what it told of each
 pub record BoxWork : Type 0 where

@@ -8,6 +8,7 @@ ghost use Rattle.lmtp_threads.specs.ByThread.{AreByThread};
 ghost use Rattle.lmtp_threads.specs.ThreadWork.{IsKept};
 
 use crate::grid::{empty_rows, push_at};
+use crate::quotas::Quotas;
 use crate::watched::Watched;
 use box_worker::{Gate, Kept, TurnObserver};
 use mbox_spool::Spool;
@@ -32,9 +33,9 @@ impl<S: Spool + Drop, T: TurnObserver, G: Gate + Drop> Model for OwnedBox<S, T, 
 }
 
 impl<S: Spool + Drop, T: TurnObserver, G: Gate + Drop> OwnedBox<S, T, G> {
-    // What its thread keeps, before the first copy.
-    fn keep(self, quota: Option<u64>) -> Kept<S, G, T>
-        ensures { IsKept (spools_view S.state S.MayFind S.MayRefuse T.told) quota self result }
+    // What its thread keeps, before the first copy, under the mailbox's own quota.
+    fn keep(self, quotas: &Quotas) -> Kept<S, G, T>
+        ensures { IsKept (spools_view S.state S.MayFind S.MayRefuse T.told) quotas.now self result }
     {
         let OwnedBox {
             number,
@@ -42,7 +43,7 @@ impl<S: Spool + Drop, T: TurnObserver, G: Gate + Drop> OwnedBox<S, T, G> {
             gate,
         } = self;
         let Watched { inner, observer } = spool;
-        Kept::new(number, inner, gate, observer, quota)
+        Kept::new(number, inner, gate, observer, quotas.of(number))
     }
 }
 
@@ -76,18 +77,18 @@ pub fn boxes_by_thread<S: Spool + Drop, T: TurnObserver, G: Gate + Drop>(
     Ok(boxes)
 }
 
-/// What a thread keeps of its mailboxes, before their first copy. There is just enough room.
+/// What a thread keeps of its mailboxes, before their first copy, each under its own quota. There is just enough room.
 pub fn keep_all<S: Spool + Drop, T: TurnObserver, G: Gate + Drop>(
     boxes: Vec<OwnedBox<S, T, G>>,
     kept: Vec<Kept<S, G, T>>,
-    quota: Option<u64>,
+    quotas: &Quotas,
 ) -> Vec<Kept<S, G, T>>
     requires { IsRoom (vec_len boxes) kept }
-    ensures { AllZip (IsKept (spools_view S.state S.MayFind S.MayRefuse T.told) quota) boxes.items result.items }
+    ensures { AllZip (IsKept (spools_view S.state S.MayFind S.MayRefuse T.told) quotas.now) boxes.items result.items }
 {
     let mut kept = kept;
     for own in boxes {
-        kept.push_reserved(own.keep(quota));
+        kept.push_reserved(own.keep(quotas));
     }
     kept
 }

@@ -12,6 +12,7 @@ mod columns;
 mod crew;
 mod grid;
 mod lanes;
+mod quotas;
 mod shared;
 mod tally;
 mod watched;

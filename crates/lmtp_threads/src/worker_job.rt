@@ -12,6 +12,7 @@ ghost use Rattle.lmtp_threads.specs.ThreadWork.{IsThreadWork};
 
 use crate::by_thread::{OwnedBox, keep_all};
 use crate::crew::Task;
+use crate::quotas::Quotas;
 use crate::shared::Shared;
 use box_worker::{Gate, Kept, ThreadReport, TurnObserver, thread_run};
 use lmtp_text::Site;
@@ -27,16 +28,22 @@ use std::sync::{Arc, Wait};
 struct WorkerBase<N: DepotName> {
     site: Arc<Site>,
     depot: Arc<Depot<N>>,
+    quotas: Arc<Quotas>,
 }
 
 impl<N: DepotName> WorkerBase<N> {
     // The memory for it.
-    fn new<C: Drop>(shared: &Shared<N, C>) -> Result<WorkerBase<N>, AllocError>
-        ensures { IfOk result (λ base. arc_value base.site ≡ arc_value shared.now.site) }
+    fn new<C: Drop>(
+        shared: &Shared<N, C>,
+        quotas: &Arc<Quotas>,
+    ) -> Result<WorkerBase<N>, AllocError>
+        ensures site { IfOk result (λ base. arc_value base.site ≡ arc_value shared.now.site) }
+        ensures quotas { IfOk result (λ base. arc_value base.quotas ≡ arc_value quotas.now) }
     {
         Ok(WorkerBase {
             site: Arc::try_clone(&shared.site)?,
             depot: Arc::try_clone(&shared.depot)?,
+            quotas: Arc::try_clone(quotas)?,
         })
     }
 }
@@ -51,7 +58,6 @@ pub struct WorkerJob<N: DepotName, S: Spool + Drop, T: TurnObserver, G: Gate + D
     boxes: Vec<OwnedBox<S, T, G>>,
     // room for what the thread keeps of them
     kept: Vec<Kept<S, G, T>>,
-    quota: Option<u64>,
 }
 
 impl<N: DepotName, S: Spool + Drop, T: TurnObserver, G: Gate + Drop> Model
@@ -66,7 +72,7 @@ impl<N: DepotName, S: Spool + Drop, T: TurnObserver, G: Gate + Drop> Model
     ghost Value = { ThreadTask (Watched S T) };
 
     ghost view = { λ j. record {
-      share = share_of (arc_value j.base.site) j.quota;
+      share = share_of (arc_value j.base.site) (arc_value j.base.quotas);
       thread = j.thread;
       receiver = j.receiver;
       slips = j.slips.items;
@@ -84,10 +90,10 @@ impl<N: DepotName, S: Spool + Drop, T: TurnObserver, G: Gate + Drop> WorkerJob<N
         receiver: Receiver<N>,
         slips: Vec<SlipSender>,
         boxes: Vec<OwnedBox<S, T, G>>,
-        quota: Option<u64>,
+        quotas: &Arc<Quotas>,
     ) -> Result<WorkerJob<N, S, T, G>, AllocError>
         ensures { IfOk result (λ job. job ≡ record {
-          share = share_of (arc_value shared.now.site) quota;
+          share = share_of (arc_value shared.now.site) (arc_value quotas.now);
           thread = thread;
           receiver = receiver;
           slips = slips.items;
@@ -95,13 +101,12 @@ impl<N: DepotName, S: Spool + Drop, T: TurnObserver, G: Gate + Drop> WorkerJob<N
         }) }
     {
         Ok(WorkerJob {
-            base: WorkerBase::new(shared)?,
+            base: WorkerBase::new(shared, quotas)?,
             thread,
             receiver,
             slips,
             kept: Vec::with_capacity(shared.alloc, boxes.len())?,
             boxes,
-            quota,
         })
     }
 }
@@ -127,10 +132,13 @@ where
             slips,
             boxes,
             kept,
-            quota,
         } = self;
-        let WorkerBase { site, depot } = base;
-        let kept = keep_all(boxes, kept, quota);
+        let WorkerBase {
+            site,
+            depot,
+            quotas,
+        } = base;
+        let kept = keep_all(boxes, kept, &quotas);
         thread_run(rt, receiver, slips, kept, &depot, &site)
     }
 }
@@ -141,13 +149,14 @@ pub fn worker_jobs<N: DepotName, S: Spool + Drop, T: TurnObserver, G: Gate + Dro
     receivers: Vec<Receiver<N>>,
     rows: Vec<Vec<SlipSender>>,
     boxes: Vec<Vec<OwnedBox<S, T, G>>>,
-    quota: Option<u64>,
+    quotas: &Arc<Quotas>,
 ) -> Result<Vec<WorkerJob<N, S, T, G>>, AllocError>
     requires few { vec_len receivers ≤ WORKER_THREADS }
     requires rows { vec_len rows ≡ vec_len receivers }
     requires boxes { vec_len boxes ≡ vec_len receivers }
-    ensures { IfOk result (λ jobs. jobs.items ≡ tasks_with (share_of (arc_value shared.now.site) quota) 0
-        receivers.items (lists rows.items) (lists boxes.items)) }
+    ensures { IfOk result (λ jobs. jobs.items
+        ≡ tasks_with (share_of (arc_value shared.now.site) (arc_value quotas.now)) 0 receivers.items (lists rows.items)
+        (lists boxes.items)) }
 {
     let mut rows = rows.into_iter();
     let mut boxes = boxes.into_iter();
@@ -160,7 +169,7 @@ pub fn worker_jobs<N: DepotName, S: Spool + Drop, T: TurnObserver, G: Gate + Dro
         let Some(own) = boxes.next() else {
             unreachable!()
         };
-        jobs.push(WorkerJob::new(shared, thread, receiver, slips, own, quota)?)?;
+        jobs.push(WorkerJob::new(shared, thread, receiver, slips, own, quotas)?)?;
         thread += 1;
     }
     Ok(jobs)

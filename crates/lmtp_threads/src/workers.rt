@@ -12,6 +12,7 @@ use crate::brought_back::{BoxColumns, ThreadColumns, WorkerReports, in_turn, tak
 use crate::by_thread::boxes_by_thread;
 use crate::columns::Columns;
 use crate::crew::Crew;
+use crate::quotas::Quotas;
 use crate::shared::Shared;
 use crate::watched::Watched;
 use crate::worker_job::{WorkerJob, worker_jobs};
@@ -21,7 +22,7 @@ use mbox_spool::Spool;
 use msg_depot::DepotName;
 use std::alloc::AllocError;
 use std::marker::Model;
-use std::sync::Wait;
+use std::sync::{Arc, Wait};
 use std::thread::Threads;
 
 /// The workers before they run, with the memory for what they hand back.
@@ -109,26 +110,27 @@ where
     G: Gate + Drop + Send + 'static,
 {
     /// A worker thread for each of the receivers, with its row of senders of slips. Mailbox b, of which these are the
-    /// spool and the gate, is one of thread b mod 256.
+    /// spool, the gate and the quota, is one of thread b mod 256.
     pub fn new<C: Drop>(
         shared: &Shared<N, C>,
         receivers: Vec<Receiver<N>>,
         rows: Vec<Vec<SlipSender>>,
         spools: Vec<Watched<S, T>>,
         gates: Vec<G>,
-        quota: Option<u64>,
+        quotas: Vec<Option<u64>>,
     ) -> Result<Workers<N, S, T, G>, AllocError>
         requires few { vec_len spools < 2 ^ 32 }
         requires threads { vec_len receivers ≡ threads_for (vec_len spools) }
         requires rows { vec_len rows ≡ vec_len receivers }
         requires gates { vec_len gates ≡ vec_len spools }
-        ensures { IfOk result (λ workers. workers ≡ thread_tasks (share_of (arc_value shared.now.site) quota) 0
+        ensures { IfOk result (λ workers. workers ≡ thread_tasks (share_of (arc_value shared.now.site) quotas.items) 0
             receivers.items (lists rows.items) spools.items) }
     {
         let count = spools.len();
         let threads = receivers.len();
         let boxes = boxes_by_thread(shared.alloc, spools, gates, threads)?;
-        let jobs = worker_jobs(shared, receivers, rows, boxes, quota)?;
+        let quotas = Arc::new(shared.alloc, Quotas::new(quotas))?;
+        let jobs = worker_jobs(shared, receivers, rows, boxes, &quotas)?;
         Ok(Workers {
             crew: Crew::with_capacity(shared.alloc, jobs.len())?,
             threads: Columns::with_capacity(shared.alloc, jobs.len())?,

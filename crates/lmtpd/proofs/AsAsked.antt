@@ -5,16 +5,17 @@ use Rattle.std.specs.declared.alloc.Global.{Global}
 use Rattle.std.specs.declared.sync.Arc.{Arc}
 use Rattle.std.specs.Prelude.{Err, MatchResult, Ok, Result}
 use Rattle.std.specs.List.{AllByRecursion}
+use Rattle.std.proofs.lemmas.List.{length-map}
 use Rattle.mail_world.specs.Site.{Site}
 use Rattle.lmtp_talk.specs.Entries.{Entry}
 use Rattle.lmtp_threads.specs.Works.{SpoolsView}
 use Rattle.lmtp_house.specs.House.{IsSize}
 use Rattle.lmtp_house.specs.declared.house.sizes.Sizes.{Sizes}
 use Rattle.lmtpd_serve.specs.declared.served.Served.{Served}
-use Rattle.lmtp_tcp.specs.declared.tcp_peer.Bounds.{Bounds}
 use Rattle.lmtpd_serve.specs.Served.{IsServerRun, Serving}
 use Rattle.lmtp_house.specs.declared.house.fault.HouseFault.{HouseFault}
 use Rattle.lmtp_house.specs.declared.house.fault.HouseFault.TheVariants as house
+use Rattle.lmtpd_words.specs.Quotas.{quota_for}
 use Rattle.lmtpd_words.specs.Words.{serving_site}
 use Rattle.lmtpd_words.specs.declared.words.ServeWords.{ServeWords}
 use Rattle.lmtpd_setup.specs.declared.fault.Fault.TheVariants as fault
@@ -31,12 +32,13 @@ use Rattle.lmtpd_listen.specs.declared.server.ServerSocket.{ServerSocket}
 use Rattle.lmtpd_setup.specs.Curfew.{IsCurfewOf}
 use Rattle.lmtpd_setup.specs.Mailboxes.{Held}
 use Rattle.lmtpd_setup.specs.Names.{IsNoSite}
-use Rattle.lmtpd_setup.specs.Setup.{IsNotSetUp, IsUnopenedAt, ends_asked, mailboxes_asked}
+use Rattle.lmtpd_setup.specs.Setup.{IsNotSetUp, IsUnopenedAt, ends_asked, mailboxes_asked, quotas_asked}
 use Rattle.lmtpd_setup.specs.declared.ends.ServerCurfew.{ServerCurfew}
 use Rattle.lmtpd_setup.specs.declared.stop.Stop.{Stop}
-use Rattle.lmtpd.specs.Program.{AreServeWords, IsListenAddress, IsListenedAt, IsNotRun, IsNotServed, IsServedAsAsked, IsSizeAsked, bounds_asked}
+use Rattle.lmtpd.specs.Program.{AreServeWords, IsListenAddress, IsListenedAt, IsNotRun, IsNotServed, IsServedAsAsked, IsSizeAsked}
 use Rattle.slow_boxes.specs.declared.boxes.SlowBoxes.{SlowBoxes}
-use Rattle.lmtpd.specs.Program.{connections_asked, serving_asked, sizes_asked}
+use Rattle.lmtpd.specs.Program.{conversations_asked, serving_asked, sizes_asked}
+use Rattle.lmtpd_serve.specs.declared.conversations.Conversations.{Conversations}
 use Rattle.lmtpd.proofs.Unrun.{causes, unrun}
 
 not_run : (words : ServeWords) (cause : HouseFault) → words.check_words ≡ false → IsListenAddress words.listen.now → site_fault words.site ≡ None
@@ -44,45 +46,65 @@ not_run : (words : ServeWords) (cause : HouseFault) → words.check_words ≡ fa
 not_run words cause served address sound (inl memory) = inl (ap stop.Fault memory)
 not_run words cause served address sound (inr why) = inr (inr (address, inr (sound, inl (served, inr (inr why)))))
 
-pub size_asked : (words : ServeWords) (site : Site) (sizes : Sizes) (count : ℕ) → site ≡ serving_site words.site → sizes ≡ sizes_asked words
-    → count ≡ length words.site.boxes.items
-    → IsSize site sizes words.lanes count count → IsSizeAsked words
-size_asked words site sizes count is asked boxes good =
-    subst (λ (n : ℕ). IsSize (serving_site words.site) (sizes_asked words) words.lanes n n) boxes
-    (subst (λ (z : Sizes). IsSize (serving_site words.site) z words.lanes count count) asked
-    (subst (λ (s : Site). IsSize s sizes words.lanes count count) is good))
+-- these numbers of mailboxes and of quotas are as many as the words name
+pub record AreAsMany (words : ServeWords) (count quotas : ℕ) : Type 0 where
+  pub boxes : count ≡ length words.site.boxes.items
+  pub quotas_too : quotas ≡ length words.site.boxes.items
 
-pub size_given : (words : ServeWords) (site : Site) (sizes : Sizes) (count : ℕ) → site ≡ serving_site words.site → sizes ≡ sizes_asked words
-    → count ≡ length words.site.boxes.items
-    → IsSizeAsked words → IsSize site sizes words.lanes count count
-size_given words site sizes count is asked boxes good =
-    subst (λ (s : Site). IsSize s sizes words.lanes count count) (sym is)
-    (subst (λ (z : Sizes). IsSize (serving_site words.site) z words.lanes count count) (sym asked)
-    (subst (λ (n : ℕ). IsSize (serving_site words.site) (sizes_asked words) words.lanes n n) (sym boxes) good))
+pub size_asked : (words : ServeWords) (site : Site) (sizes : Sizes) (count quotas : ℕ) → site ≡ serving_site words.site → sizes ≡ sizes_asked words
+    → AreAsMany words count quotas
+    → IsSize site sizes words.lanes count count quotas → IsSizeAsked words
+size_asked words site sizes count quotas is asked many good =
+    let boxes : ℕ = length words.site.boxes.items in
+    subst (λ (n : ℕ). IsSize (serving_site words.site) (sizes_asked words) words.lanes boxes boxes n) many.quotas_too
+    (subst (λ (n : ℕ). IsSize (serving_site words.site) (sizes_asked words) words.lanes n n quotas) many.boxes
+    (subst (λ (z : Sizes). IsSize (serving_site words.site) z words.lanes count count quotas) asked
+    (subst (λ (s : Site). IsSize s sizes words.lanes count count quotas) is good)))
+
+pub size_given : (words : ServeWords) (site : Site) (sizes : Sizes) (count quotas : ℕ) → site ≡ serving_site words.site → sizes ≡ sizes_asked words
+    → AreAsMany words count quotas
+    → IsSizeAsked words → IsSize site sizes words.lanes count count quotas
+size_given words site sizes count quotas is asked many good =
+    let boxes : ℕ = length words.site.boxes.items in
+    subst (λ (s : Site). IsSize s sizes words.lanes count count quotas) (sym is)
+    (subst (λ (z : Sizes). IsSize (serving_site words.site) z words.lanes count count quotas) (sym asked)
+    (subst (λ (n : ℕ). IsSize (serving_site words.site) (sizes_asked words) words.lanes n n quotas) (sym many.boxes)
+    (subst (λ (n : ℕ). IsSize (serving_site words.site) (sizes_asked words) words.lanes boxes boxes n) (sym many.quotas_too) good)))
+
+-- as many quotas as are asked for
+pub as_many : (words : ServeWords) (count : ℕ) (quotas : List (Option ℕ)) → count ≡ length words.site.boxes.items → quotas ≡ quotas_asked words
+    → AreAsMany words count (length quotas)
+as_many words count quotas boxes asked =
+    record { boxes = boxes; quotas_too = ap length asked ∙ (length-map words.site.quotas.items (quota_for words.quota) ∙ words.site.matched) }
 
 size_of_sum : {X : Type 0} (x : X) (Good : Type 0) → (◌≡◌ {A = Result X HouseFault} (Ok x) (Err house.Size)) ⊎ Good → Good
 size_of_sum x Good (inl e) = cc
 size_of_sum x Good (inr good) = good
 
 -- what a server is run with, part by part
-abbrev serving_with : {C : Type 0} → ServeWords → ServerSocket → Arc (ServerCurfew C) Global → Arc SlowBoxes Global → Sizes → ℕ → Bounds → Bool
-    → Serving ServerSocket (ServerCurfew C)
-serving_with words socket curfew slow sizes count bounds addresses = record {
+abbrev serving_with : {E : Type 0} → ServerSocket → Sizes → List (Option ℕ) → Conversations E → Bool → Serving ServerSocket E
+serving_with socket sizes quotas conversations addresses = record {
   sizes = sizes;
-  conversations = record { lanes = words.lanes; count = count; bounds = bounds; curfew = curfew; slow = slow };
+  quotas = quotas;
+  conversations = conversations;
   listener = socket;
   addresses = addresses;
 }
 
-pub serving_is : {C : Type 0} (words : ServeWords) (socket : ServerSocket) (curfew : Arc (ServerCurfew C) Global) (slow : Arc SlowBoxes Global) (sizes : Sizes) (count : ℕ)
-    (bounds : Bounds) (addresses : Bool)
-    → sizes ≡ sizes_asked words → count ≡ connections_asked words → bounds ≡ bounds_asked words → addresses ≡ words.log_addresses
-    → serving_with words socket curfew slow sizes count bounds addresses ≡ serving_asked words socket curfew slow
-serving_is words socket curfew slow sizes count bounds addresses a b c d =
-    ap (λ (z : Sizes). serving_with words socket curfew slow z count bounds addresses) a
-    ∙ ap (λ (n : ℕ). serving_with words socket curfew slow (sizes_asked words) n bounds addresses) b
-    ∙ ap (λ (each : Bounds). serving_with words socket curfew slow (sizes_asked words) (connections_asked words) each addresses) c
-    ∙ ap (λ (t : Bool). serving_with words socket curfew slow (sizes_asked words) (connections_asked words) (bounds_asked words) t) d
+pub serving_is : {C : Type 0} (words : ServeWords) (socket : ServerSocket) (curfew : Arc (ServerCurfew C) Global) (slow : Arc SlowBoxes Global) (sizes : Sizes)
+    (quotas : List (Option ℕ)) (conversations : Conversations (ServerCurfew C)) (addresses : Bool)
+    → sizes ≡ sizes_asked words → quotas ≡ quotas_asked words → conversations ≡ conversations_asked words curfew slow → addresses ≡ words.log_addresses
+    → serving_with socket sizes quotas conversations addresses ≡ serving_asked words socket curfew slow
+serving_is {C} words socket curfew slow sizes quotas conversations addresses a b c d =
+    ap (λ (z : Sizes). serving_with socket z quotas conversations addresses) a
+    ∙ ap (λ (qs : List (Option ℕ)). serving_with socket (sizes_asked words) qs conversations addresses) b
+    ∙ ap (λ (held : Conversations (ServerCurfew C)). serving_with socket (sizes_asked words) (quotas_asked words) held addresses) c
+    ∙ ap (λ (t : Bool). serving_with socket (sizes_asked words) (quotas_asked words) (conversations_asked words curfew slow) t) d
+
+-- as many lanes as the words ask for
+lanes_asked : {C : Type 0} (words : ServeWords) (socket : ServerSocket) (curfew : Arc (ServerCurfew C) Global) (slow : Arc SlowBoxes Global)
+    (serving : Serving ServerSocket (ServerCurfew C)) → serving ≡ serving_asked words socket curfew slow → serving.conversations.lanes ≡ words.lanes
+lanes_asked words socket curfew slow serving asked = ap (λ s. s.conversations.lanes) asked
 
 pub served_as_asked : (C : Type 0) {G S : Type 0} (told : G → Option (List Entry)) (shows : G → LogLines) (view : SpoolsView S) (held : S → Held)
     (words : ServeWords) (before after : Option (List ℕ)) (served : Served) (site : Site) (serving : Serving ServerSocket (ServerCurfew C)) (opened : Opened)
@@ -93,7 +115,8 @@ pub served_as_asked : (C : Type 0) {G S : Type 0} (told : G → Option (List Ent
     → (length spools ≡ length words.site.boxes.items) × (map held spools ≡ mailboxes_asked words)
     × AllByRecursion (λ spool. IfSome (view.told spool) (λ ends. ends ≡ [])) spools
     → IsCurfewOf (ends_asked words) (arc_value curfew)
-    → (◌≡◌ {A = Result Served HouseFault} (Ok served) (Err house.Size)) ⊎ IsSize site serving.sizes words.lanes (length spools) (length spools)
+    → (◌≡◌ {A = Result Served HouseFault} (Ok served) (Err house.Size))
+    ⊎ IsSize site serving.sizes serving.conversations.lanes (length spools) (length spools) (length serving.quotas)
     → IsServerRun site view told shows serving spools before after served
     → IsServedAsAsked C told shows view held words before after served
 served_as_asked C told shows view held words before after served site serving opened curfew slow spools serves listens made asked boxes ends good ran = record {
@@ -101,8 +124,10 @@ served_as_asked C told shows view held words before after served site serving op
   opened = opened;
   listens = listens;
   sound = made.1;
-  sizes = size_asked words site serving.sizes (length spools) made.0 (ap (λ s. s.sizes) asked) boxes.0
-      (size_of_sum served (IsSize site serving.sizes words.lanes (length spools) (length spools)) good);
+  sizes = size_asked words site serving.sizes (length spools) (length serving.quotas) made.0 (ap (λ s. s.sizes) asked)
+      (as_many words (length spools) serving.quotas boxes.0 (ap (λ s. s.quotas) asked))
+      (subst (λ (n : ℕ). IsSize site serving.sizes n (length spools) (length spools) (length serving.quotas)) (lanes_asked words opened.socket curfew slow serving asked)
+      (size_of_sum served (IsSize site serving.sizes serving.conversations.lanes (length spools) (length spools) (length serving.quotas)) good));
   curfew = curfew;
   ends = ends;
   slow = slow;
@@ -115,37 +140,50 @@ served_as_asked C told shows view held words before after served site serving op
       subst (λ z. R (serving_site words.site) z) asked (subst (λ s. R s serving) made.0 ran);
 }
 
-pub no_server : (words : ServeWords) (cause : HouseFault) (site : Site) (sizes : Sizes) (count : ℕ)
+no_server_of : (words : ServeWords) (cause : HouseFault) (site : Site) (sizes : Sizes) (count quotas : ℕ)
     → words.check_words ≡ false
     → IsListenAddress words.listen.now → (site ≡ serving_site words.site) × (site_fault words.site ≡ None) → sizes ≡ sizes_asked words
-    → count ≡ length words.site.boxes.items
-    → (◌≡◌ {A = Result Served HouseFault} (Err cause) (Err house.Size) → IsSize site sizes words.lanes count count → ⊥)
-    → (◌≡◌ {A = Result Served HouseFault} (Err cause) (Err house.Size)) ⊎ IsSize site sizes words.lanes count count
+    → AreAsMany words count quotas
+    → (◌≡◌ {A = Result Served HouseFault} (Err cause) (Err house.Size) → IsSize site sizes words.lanes count count quotas → ⊥)
+    → (◌≡◌ {A = Result Served HouseFault} (Err cause) (Err house.Size)) ⊎ IsSize site sizes words.lanes count count quotas
     → IsNotServed words (stop.Fault (house_refusal cause))
-no_server words cause site sizes count served address made asked boxes only (inl e) =
-    not_run words cause served address made.1 (unrun (IsSizeAsked words) cause (inr (λ good. only e (size_given words site sizes count made.0 asked boxes good)))
-    (λ f good. only (ap Err f) (size_given words site sizes count made.0 asked boxes good))
+no_server_of words cause site sizes count quotas served address made asked boxes only (inl e) =
+    not_run words cause served address made.1 (unrun (IsSizeAsked words) cause (inr (λ good. only e (size_given words site sizes count quotas made.0 asked boxes good)))
+    (λ f good. only (ap Err f) (size_given words site sizes count quotas made.0 asked boxes good))
     (λ bad. causes {X = Served} cause house.Size house.Memory (inl e)))
-no_server words cause site sizes count served address made asked boxes only (inr good) =
-    not_run words cause served address made.1 (unrun (IsSizeAsked words) cause (inl (size_asked words site sizes count made.0 asked boxes good))
-    (λ f asks. only (ap Err f) (size_given words site sizes count made.0 asked boxes asks))
-    (λ bad. absurd (bad (size_asked words site sizes count made.0 asked boxes good))))
+no_server_of words cause site sizes count quotas served address made asked boxes only (inr good) =
+    not_run words cause served address made.1 (unrun (IsSizeAsked words) cause (inl (size_asked words site sizes count quotas made.0 asked boxes good))
+    (λ f asks. only (ap Err f) (size_given words site sizes count quotas made.0 asked boxes asks))
+    (λ bad. absurd (bad (size_asked words site sizes count quotas made.0 asked boxes good))))
+
+-- a server of that many lanes
+pub no_server : (words : ServeWords) (lanes : ℕ) (cause : HouseFault) (site : Site) (sizes : Sizes) (count quotas : ℕ)
+    → lanes ≡ words.lanes → words.check_words ≡ false
+    → IsListenAddress words.listen.now → (site ≡ serving_site words.site) × (site_fault words.site ≡ None) → sizes ≡ sizes_asked words
+    → AreAsMany words count quotas
+    → (◌≡◌ {A = Result Served HouseFault} (Err cause) (Err house.Size) → IsSize site sizes lanes count count quotas → ⊥)
+    → (◌≡◌ {A = Result Served HouseFault} (Err cause) (Err house.Size)) ⊎ IsSize site sizes lanes count count quotas
+    → IsNotServed words (stop.Fault (house_refusal cause))
+no_server words lanes cause site sizes count quotas same served address made asked boxes only good =
+    no_server_of words cause site sizes count quotas served address made asked boxes
+    (λ e sized. only e (subst (λ (n : ℕ). IsSize site sizes n count count quotas) (sym same) sized))
+    (subst (λ (n : ℕ). (◌≡◌ {A = Result Served HouseFault} (Err cause) (Err house.Size)) ⊎ IsSize site sizes n count count quotas) same good)
 
 -- the words alone were to be checked: its sizes are within their limits, or they aren't
 pub sized_or_not : (words : ServeWords) (site : Site) (count : ℕ) (r : Result (Unit {0}) Stop) → words.check_words ≡ true
     → IsListenAddress words.listen.now → site_fault words.site ≡ None → site ≡ serving_site words.site → count ≡ length words.site.boxes.items
-    → MatchResult r (λ _. IsSize site (sizes_asked words) words.lanes count count)
-    (λ s. (s ≡ stop.Fault fault.Size) × (IsSize site (sizes_asked words) words.lanes count count → ⊥))
+    → MatchResult r (λ _. IsSize site (sizes_asked words) words.lanes count count count)
+    (λ s. (s ≡ stop.Fault fault.Size) × (IsSize site (sizes_asked words) words.lanes count count count → ⊥))
     → MatchResult r (λ _. AreServeWords words) (IsNotServed words)
 sized_or_not words site count (Ok done) checked address sound is boxes good = record {
   asked = checked;
   listen_address = address;
   sound = sound;
-  sizes = size_asked words site (sizes_asked words) count is refl boxes good;
+  sizes = size_asked words site (sizes_asked words) count count is refl (record { boxes = boxes; quotas_too = boxes }) good;
 }
 sized_or_not words site count (Err s) checked address sound is boxes bad =
     subst (λ x. IsNotServed words x) (sym bad.0)
-    (inr (inr (address, inr (sound, inr (checked, (refl, λ good. bad.1 (size_given words site (sizes_asked words) count is refl boxes good)))))))
+    (inr (inr (address, inr (sound, inr (checked, (refl, λ good. bad.1 (size_given words site (sizes_asked words) count count is refl (record { boxes = boxes; quotas_too = boxes }) good)))))))
 
 -- it has no site
 pub siteless : (words : ServeWords) (s : Stop) → IsListenAddress words.listen.now → IsNoSite words s → IsNotServed words s

@@ -1,12 +1,15 @@
 -- Why a server didn't run: its size, or what came only once its size was good.
-use Rattle.std.proofs.Common.{◌≡◌, ◌⊎◌, inl, inr, ℕ, ◌<◌, ◌≤◌, Bool, true, false, None, refl, ap, arith}
+use Rattle.std.proofs.Common.{◌≡◌, ◌∙◌, ◌⊎◌, inl, inr, ℕ, ◌<◌, ◌≤◌, Bool, true, false, List, length, Option, None, refl, ap, sym, arith}
 use Rattle.std.specs.Prelude.{ltb, Err, Ok, Result}
 use Rattle.std.proofs.lemmas.Bool.{ltb-true, ltb-false}
+use Rattle.std.proofs.lemmas.List.{length-map}
+use Rattle.mail_world.specs.Site.{Site}
 use Rattle.mail_world.specs.declared.limits.TheConstants.{BLOCK_LIMIT}
 use Rattle.lmtp_house.specs.declared.house.fault.HouseFault.{HouseFault}
 use Rattle.lmtp_house.specs.declared.house.fault.HouseFault.TheVariants as house
 use Rattle.lmtpd_setup.specs.declared.fault.Fault.TheVariants as fault
-use Rattle.lmtpd_words.specs.Words.{named_site}
+use Rattle.lmtpd_words.specs.Quotas.{quota_for}
+use Rattle.lmtpd_words.specs.Words.{named_site, quotas_for}
 use Rattle.lmtpd_words.specs.declared.words.RehearseWords.{RehearseWords}
 use Rattle.lmtpd_setup.specs.Faults.{site_fault}
 use Rattle.lmtpd.specs.Lacking.{house_refusal}
@@ -25,6 +28,13 @@ both (inr bad) b = inr (λ h. bad h.0)
 -- a number of blocks is good, or it is not
 pub block_count : (blocks : ℕ) → IsBlockCount blocks ⊎ (IsBlockCount blocks → ⊥)
 block_count blocks = both (at_most 1 blocks (ltb blocks 1) refl) (at_most blocks BLOCK_LIMIT (ltb BLOCK_LIMIT blocks) refl)
+
+-- there are as many quotas as mailboxes
+pub as_many_quotas : (words : RehearseWords) (quotas : List (Option ℕ)) (site : Site) → quotas ≡ quotas_for words.quota words.site
+    → site ≡ named_site words.site → length quotas ≡ length site.boxes
+as_many_quotas words quotas site asked named =
+    ap length asked ∙ length-map words.site.quotas.items (quota_for words.quota) ∙ words.site.matched
+    ∙ sym (length-map words.site.boxes.items (λ name. name.now)) ∙ ap (λ (s : Site). length s.boxes) (sym named)
 
 after : (Good : Type 0) → Good ⊎ (Good → ⊥) → ((Good → ⊥) → ⊥) → Good
 after Good (inl good) never = good

@@ -18,7 +18,7 @@ use Rattle.lmtp_house.specs.declared.house.sizes.Sizes.{Sizes}
 use Rattle.lmtp_tcp.specs.declared.tcp_peer.Bounds.{Bounds}
 use Rattle.lmtpd_words.specs.CommandLine.{program_app}
 use Rattle.slow_boxes.specs.declared.boxes.SlowBoxes.{SlowBoxes}
-use Rattle.lmtpd_words.specs.Words.{IsAsked, IsLacking, named_site, serving_site}
+use Rattle.lmtpd_words.specs.Words.{IsAsked, IsLacking, named_site, quotas_for, serving_site}
 use Rattle.lmtpd_words.specs.declared.words.RehearseWords.{RehearseWords}
 use Rattle.lmtpd_words.specs.declared.words.ServeWords.{ServeWords}
 use Rattle.lmtpd_words.specs.declared.words.CheckWords.{CheckWords}
@@ -34,7 +34,7 @@ use Rattle.lmtpd_listen.specs.declared.server.ServerSocket.{ServerSocket}
 use Rattle.lmtpd_setup.specs.Boxes.{IsUnfilled}
 use Rattle.lmtpd_setup.specs.Curfew.{IsCurfewOf}
 use Rattle.lmtpd_setup.specs.Mailboxes.{Held}
-use Rattle.lmtpd_setup.specs.Setup.{ends_asked, mailboxes_asked}
+use Rattle.lmtpd_setup.specs.Setup.{ends_asked, mailboxes_asked, quotas_asked}
 use Rattle.lmtpd_setup.specs.declared.ends.ServerCurfew.{ServerCurfew}
 use Rattle.lmtpd_setup.specs.Names.{IsRefusedBy}
 use Rattle.lmtpd_setup.specs.Faults.{listen_refusal, site_fault, stop_for, stop_status}
@@ -49,6 +49,7 @@ use Rattle.lmtpd_check.specs.declared.checked.Checked.{Checked as CheckedFiles}
 use Rattle.lmtpd_rehearse.specs.Rehearsal.{IsBlockCount, IsRehearsed, Streams}
 use Rattle.lmtpd_rehearse.specs.declared.ending.Ending.{Ending}
 use Rattle.lmtpd_serve.specs.Served.{IsServerRun, Serving, trouble_lines}
+use Rattle.lmtpd_serve.specs.declared.conversations.Conversations.{Conversations}
 use Rattle.lmtpd_serve.specs.declared.served.Served.{Served as ServedRun}
 use Rattle.lmtpd.specs.Lacking.{check_fault, check_status, rehearsal_fault, server_fault}
 use Rattle.lmtpd.specs.Copied.{copy_line, copy_status}
@@ -65,12 +66,12 @@ IsNotRun IsSize fault.NoThread = IsSize
 IsNotRun IsSize fault.ChannelGone = IsSize
 IsNotRun IsSize _ = ⊥
 
--- A rehearsal that its words asked for was held: at the site that they name, at their moment, with as many blocks and
--- under the quota that they say.
+-- A rehearsal that its words asked for was held: at the site that they name, at their moment, with as many blocks, and
+-- each mailbox under its own quota, or else under the one that they say.
 pub record IsRehearsedAsAsked (words : RehearseWords) (old new : Streams) (ending : Ending) : Type 0 where
   pub sound : site_fault words.site ≡ None
   pub blocks : IsBlockCount words.blocks
-  pub rehearsed : IsRehearsed (named_site words.site) words.quota words.time old new ending
+  pub rehearsed : IsRehearsed (named_site words.site) (quotas_for words.quota words.site) words.time old new ending
 
 -- Why none was held: memory is lacking, and else the first fault of the site, and then one of the server that was to
 -- run.
@@ -105,12 +106,11 @@ sizes_asked words = record {
   blocks = words.blocks;
   slots = words.lanes;
   capacity = words.capacity;
-  quota = words.quota;
 }
 
 -- how many conversations the words of a server ask for; where they name no number, more than any server holds
-abbrev pub connections_asked : ServeWords → ℕ
-connections_asked words = option_map_or (λ count. count) words.connections (2 ^ 64 - 1)
+abbrev pub connections_asked : Option ℕ → ℕ
+connections_asked named = option_map_or (λ count. count) named (2 ^ 64 - 1)
 
 -- what a conversation may ask of its client: two waits make a second
 abbrev pub bounds_asked : ServeWords → Bounds
@@ -120,19 +120,24 @@ bounds_asked words = record {
   bad_commands = words.bad_commands;
 }
 
--- what a server is run with that its words ask for, on that socket, until that curfew, and with these words for which
--- of its mailboxes are slow
+-- the conversations that the words of a server ask for, until that curfew, and with these words for which of its
+-- mailboxes are slow
+abbrev pub conversations_asked : {E : Type 0} → ServeWords → Arc E Global → Arc SlowBoxes Global → Conversations E
+conversations_asked words curfew slow = record {
+  lanes = words.lanes;
+  count = connections_asked words.connections;
+  bounds = bounds_asked words;
+  curfew = curfew;
+  slow = slow;
+}
+
+-- what a server is run with that its words ask for, on that socket
 abbrev pub serving_asked : {C : Type 0} → ServeWords → ServerSocket → Arc (ServerCurfew C) Global → Arc SlowBoxes Global
     → Serving ServerSocket (ServerCurfew C)
 serving_asked words socket curfew slow = record {
   sizes = sizes_asked words;
-  conversations = record {
-    lanes = words.lanes;
-    count = connections_asked words;
-    bounds = bounds_asked words;
-    curfew = curfew;
-    slow = slow;
-  };
+  quotas = quotas_asked words;
+  conversations = conversations_asked words curfew slow;
   listener = socket;
   addresses = words.log_addresses;
 }
@@ -140,7 +145,7 @@ serving_asked words socket curfew slow = record {
 abbrev pub IsSizeAsked : ServeWords → Type 0
 IsSizeAsked words =
     IsSize (serving_site words.site) (sizes_asked words) words.lanes (length words.site.boxes.items)
-    (length words.site.boxes.items)
+    (length words.site.boxes.items) (length words.site.boxes.items)
 
 -- A server that its words asked for ran: where they say, at the site that they name, with their sizes, for as many
 -- conversations within their bounds, until the end that they say, with addresses in its lines just where they say so,

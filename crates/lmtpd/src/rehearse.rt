@@ -60,12 +60,13 @@ where
         (IsNotRehearsed words.now) }
 {
     let site = Arc::new(alloc, site_of(alloc, &words.site)?)?;
+    let quotas = words.site.quotas_for(alloc, words.quota)?;
     let rehearsed = rehearse_run(
         rt,
         alloc,
         site,
         words.blocks,
-        words.quota,
+        quotas,
         words.time,
         reader,
         writer,

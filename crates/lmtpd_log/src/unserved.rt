@@ -1,7 +1,7 @@
 //! The domains that clients of a lane named and that aren't served: which of them are told.
 
 ghost use Rattle.std.specs.Prelude.{◌≡◌, ◌≤◌, vec_capacity};
-ghost use Rattle.lmtpd_log.specs.Told.{was_told};
+ghost use Rattle.lmtpd_log.specs.Told.{is_hour_over, was_told};
 ghost use Rattle.lmtpd_log.specs.declared.unserved.TheConstants.{DOMAIN_LIMIT};
 
 use mail_head::Text;
@@ -26,7 +26,7 @@ pub(crate) struct Unserved {
 impl Unserved {
     ghost use Rattle.std.specs.Prelude.{◌⊎◌, ◌++◌, ◌∷◌, [], true, false, length, take, IfOk};
     ghost use Rattle.mail_world.specs.declared.limits.TheConstants.{NAME_LIMIT};
-    ghost use Rattle.lmtpd_log.specs.Unserved.{has_told, told_domains};
+    ghost use Rattle.lmtpd_log.specs.Unserved.{begins_hour, began_at, has_told, texts_of, told_domains, told_within};
 
     /// None yet. No other call takes memory.
     pub(crate) fn new(alloc: Global) -> Result<Unserved, AllocError>
@@ -39,21 +39,36 @@ impl Unserved {
     }
 
     /// Whether the domain is to be told at that moment: the first time in an hour, for as many domains as are kept.
-    pub(crate) fn is_to_tell(&mut self, domain: &[u8], now: Duration) -> bool {
+    pub(crate) fn is_to_tell(&mut self, domain: &[u8], now: Duration) -> bool
+        ensures kept { result ≡ true → told_domains self.new
+            ≡ texts_of (told_within self.old now) ++ take NAME_LIMIT domain.now ∷ [] }
+        ensures first { result ≡ true → was_told (told_within self.old now) domain.now ≡ false }
+        ensures as_before { result ≡ false → told_domains self.new ≡ texts_of (told_within self.old now) }
+        ensures refused { result ≡ false → (DOMAIN_LIMIT ≤ length (told_within self.old now))
+            ⊎ (was_told (told_within self.old now) domain.now ≡ true) }
+        ensures hour { self.new.began ≡ began_at self.old now }
+        ensures within { length (told_domains self.new) ≤ DOMAIN_LIMIT }
+    {
         self.begin_hour(now);
         self.keep(domain)
     }
 
     // Forgets the domains of an hour that is over.
     fn begin_hour(&mut self, now: Duration)
-        ensures { (told_domains self.new ≡ []) ⊎ (told_domains self.new ≡ told_domains self.old) }
+        ensures domains { self.new.domains.items ≡ told_within self.old now }
+        ensures hour { self.new.began ≡ began_at self.old now }
     {
-        if self.domains.is_empty()
-            || now.saturating_sub(self.began) >= Duration::from_secs(HOUR_SECONDS)
-        {
+        if self.begins_hour(now) {
             self.domains.clear();
             self.began = now;
         }
+    }
+
+    // Whether an hour begins at that moment.
+    fn begins_hour(&self, now: Duration) -> bool
+        ensures { result ≡ begins_hour self.now now }
+    {
+        self.domains.is_empty() || is_hour_over(self.began, now)
     }
 
     // Keeps the domain where there is room and it isn't kept yet, and says whether it did.
@@ -61,6 +76,9 @@ impl Unserved {
         ensures kept { result ≡ true → told_domains self.new ≡ told_domains self.old ++ take NAME_LIMIT domain.now ∷ [] }
         ensures first { result ≡ true → has_told self.old domain.now ≡ false }
         ensures as_before { result ≡ false → told_domains self.new ≡ told_domains self.old }
+        ensures refused { result ≡ false → (DOMAIN_LIMIT ≤ length self.old.domains.items)
+            ⊎ (has_told self.old domain.now ≡ true) }
+        ensures hour { self.new.began ≡ self.old.began }
         ensures within { length (told_domains self.new) ≤ DOMAIN_LIMIT }
     {
         if self.domains.len() >= DOMAIN_LIMIT || was_told(&self.domains, domain) {
@@ -69,6 +87,13 @@ impl Unserved {
         self.domains.push_reserved(Text::of(domain));
         true
     }
+}
+
+// Whether an hour has passed between these moments.
+fn is_hour_over(began: Duration, now: Duration) -> bool
+    ensures { result ≡ is_hour_over began now }
+{
+    now.saturating_sub(began).as_secs() >= HOUR_SECONDS
 }
 
 // In any letter case.

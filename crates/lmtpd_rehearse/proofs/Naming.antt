@@ -46,9 +46,9 @@ pub all_turned : {A : Type 0} (P : A → A → Type 0) (xs ys : List A) → AllB
 all_turned P [] ys h = all_none (λ y. AllByRecursion (λ x. P y x) []) ys (λ y. tt)
 all_turned P (x ∷ xs) ys h = all_both (λ y. P y x) (λ y. AllByRecursion (λ x. P y x) xs) ys h.0 (all_turned P xs ys h.1)
 
--- a slip that names what that one names says the same
+-- a slip that names what that one names says the same, and is of the same worker
 abbrev pub SayTheSame : Slip → Slip → Type 0
-SayTheSame slip other = names slip.txn slip.place other ≡ true → other.outcome ≡ slip.outcome
+SayTheSame slip other = names slip.txn slip.place other ≡ true → (other.outcome ≡ slip.outcome) × (other.worker ≡ slip.worker)
 
 and_all : (a b c : Bool) → a && b && c ≡ true → (b ≡ true) × (c ≡ true)
 and_all true true true e = (refl, refl)
@@ -163,7 +163,7 @@ all_agree (x ∷ xs) left n p rise =
     let rest : List Slip = slips_all (λ b. left_after_one left x.mailbox b) xs in
     let later : AllByRecursion (IsSlipFrom x.txn.number (x.place + 1)) rest =
     slips_rise xs (λ b. left_after_one left x.mailbox b) x.txn.number (x.place + 1) x.txn.number (x.place + 1) rise.1 (inr (refl, omega arith)) in (
-      ((λ e. refl), all_map (IsSlipFrom x.txn.number (x.place + 1)) (λ other. SayTheSame other slip) rest (λ other from. agrees_earlier slip other from) later),
+      ((λ e. (refl, refl)), all_map (IsSlipFrom x.txn.number (x.place + 1)) (λ other. SayTheSame other slip) rest (λ other from. agrees_earlier slip other from) later),
       all_both (λ other. SayTheSame slip other) (λ other. AllByRecursion (λ third. SayTheSame third other) rest) rest
           (all_map (IsSlipFrom x.txn.number (x.place + 1)) (λ other. SayTheSame slip other) rest (λ other from. agrees_later slip other from) later)
           (all_agree xs (λ b. left_after_one left x.mailbox b) x.txn.number (x.place + 1) rise.1),

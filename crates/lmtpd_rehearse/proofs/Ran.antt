@@ -4,12 +4,13 @@ use Rattle.std.proofs.Common.{inr, refl, ap, sym, ◌∙◌, subst, append-nil, 
 use Rattle.std.specs.Prelude.{◌==◌, ◌^◌, slice_get}
 use Rattle.std.specs.List.{AllByRecursion, list_any}
 use Rattle.std.specs.Io.KnownBytes.{Appends, Consumes}
-use Rattle.std.proofs.lemmas.List.{length-map, length-replicate}
+use Rattle.std.proofs.lemmas.List.{get_or-replicate, length-map, length-replicate}
 use Rattle.std.proofs.lemmas.Bool.Decides.{nat_tests}
 use Rattle.mail_world.specs.declared.Note.{Note}
 use Rattle.mail_world.specs.declared.Outcome.{Outcome}
 use Rattle.mail_world.specs.declared.Slip.{Slip}
 use Rattle.mail_world.specs.Prefixes.{IsPrefix}
+use Rattle.mail_world.specs.Quotas.{quota_at}
 use Rattle.mail_world.specs.Slips.{of_worker}
 use Rattle.mail_world.specs.Failures.{Rises}
 use Rattle.mail_world.specs.Site.{Site}
@@ -28,7 +29,8 @@ use Rattle.mbox_spool.specs.Spool.{SpoolState}
 use Rattle.lmtp_talk.specs.declared.ending.EndCause.{EndCause}
 use Rattle.lmtp_talk.specs.declared.ending.EndCause.TheVariants.{WriteFault}
 use Rattle.lmtp_threads.specs.declared.tally.Tally.{Tally}
-use Rattle.lmtp_threads.specs.Works.{share_of, setting_of, IsBoxWork, LaneWork, BoxWork, SpoolsView, spools_view, visits_view}
+use Rattle.box_worker.specs.Limits.{setting_by}
+use Rattle.lmtp_threads.specs.Works.{IsBoxWork, LaneWork, BoxWork, SpoolsView, spools_view, visits_view}
 use Rattle.lmtp_threads.specs.declared.watched.Watched.{Watched}
 use Rattle.lmtp_threads.proofs.ChannelRows.{at as element}
 use Rattle.lmtp_house.specs.Handed.{HandedIn, HandedBack}
@@ -177,7 +179,7 @@ record BoxAt (site : Site) (quota : Option ℕ) (work : BoxWork) (spools : List 
   spool : Mailbox
   tally : Tally
   is : kept_at (kept_all spools tallies) b ≡ record { bytes = spool.inner.bytes; failed = tally.faulty }
-  did : IsBoxWork (setting_of (share_of site quota) b) in_memory_view.manner work (state_in (empty_mailbox site)) (state_in spool) tally
+  did : IsBoxWork (setting_by site quota b) in_memory_view.manner work (state_in (empty_mailbox site)) (state_in spool) tally
   alone : IsLeftAlone work.turns [] spool.inner.bytes
 
 -- what the lane heard, and what each of that many workers did
@@ -190,17 +192,17 @@ abbrev all_work : List Slip → (ℕ → BoxWork) → ℕ → AllWork
 all_work heard boxes count = record { heard = heard; boxes = boxes; count = count }
 
 -- what lane and workers did for these transactions
-record HaveWorked (site : Site) (quota : Option ℕ) (ts : List Transaction) (work : AllWork) (spools : List Mailbox) (tallies : List Tally) : Type 0 where
+record HaveWorked (site : Site) (quotas : List (Option ℕ)) (ts : List Transaction) (work : AllWork) (spools : List Mailbox) (tallies : List Tally) : Type 0 where
   answered : AllByRecursion (λ t. OutcomesIn 0 work.heard t t.disposition.verdict) ts
   known : AllByRecursion (λ slip. slip.worker < work.count) work.heard
   begun : (b : ℕ) → b < work.count → IsPrefixOfOwed (λ k. outcomes_in (work.boxes k).turns) work.heard ts b
   taken : (b : ℕ) → b < work.count → (work.boxes b).taken ≡ copies_owed 0 b ts
-  each : (b : ℕ) → b < work.count → BoxAt site quota (work.boxes b) spools tallies b
+  each : (b : ℕ) → b < work.count → BoxAt site (quota_at quotas b) (work.boxes b) spools tallies b
   as_many : (length spools ≡ work.count) × (length tallies ≡ work.count)
 
 -- what a worker made of its mailbox, and what it told of its copies
 module _ (site : Site) (quota : Option ℕ) (b : ℕ) (work : BoxWork) (spool : Mailbox) (tally : Tally)
-    (did : IsBoxWork (setting_of (share_of site quota) b) in_memory_view.manner work (state_in (empty_mailbox site)) (state_in spool) tally)
+    (did : IsBoxWork (setting_by site quota b) in_memory_view.manner work (state_in (empty_mailbox site)) (state_in spool) tally)
     (alone : IsLeftAlone work.turns [] spool.inner.bytes) where
   abbrev HoldsSo : List ℕ → Bool → Type 0
   HoldsSo bytes broke = HoldsCopies civil_at site quota work.taken (outcomes_in work.turns) bytes broke
@@ -213,7 +215,7 @@ module _ (site : Site) (quota : Option ℕ) (b : ℕ) (work : BoxWork) (spool : 
       subst (HoldsSo spool.inner.bytes) (sym did.turned.broke) (subst (λ b. HoldsSo b (last_broke false work.turns)) (sym alone.left) came)
 
   as_many : length (outcomes_in work.turns) ≡ length work.taken
-  as_many = many (model_of site quota) work.taken work.turns did.turned.are
+  as_many = many (model_of site) quota work.taken work.turns did.turned.are
 
   tells_settled : tally.faulty ≡ false → AllByRecursion (IsSettledOutcome quota) (outcomes_in work.turns)
   tells_settled sound =
@@ -223,50 +225,49 @@ module _ (site : Site) (quota : Option ℕ) (b : ℕ) (work : BoxWork) (spool : 
       subst S (sym all.told) (all_settled civil_at site quota work.taken)
 
 -- what was told of a mailbox's copies is what its worker said
-said_of_box : (site : Site) (quota : Option ℕ) (c : Conversation) (work : AllWork) (spools : List Mailbox) (tallies : List Tally)
-    → HaveWorked site quota (transactions_in site 0 c) work spools tallies
+said_of_box : (site : Site) (quotas : List (Option ℕ)) (c : Conversation) (work : AllWork) (spools : List Mailbox) (tallies : List Tally)
+    → HaveWorked site quotas (transactions_in site 0 c) work spools tallies
     → (b : ℕ) → b < work.count → told_all b (transactions_in site 0 c) ≡ outcomes_in (work.boxes b).turns
-said_of_box site quota c work spools tallies h b low =
+said_of_box site quotas c work spools tallies h b low =
     let ts : List Transaction = transactions_in site 0 c in
     let told : ℕ → List Outcome = λ k. outcomes_in (work.boxes k).turns in
     let some : 0 < 1 = omega arith in
     let sized : AreSized told ts work.count = λ k below.
-    let at = h.each k below in as_many site quota k (work.boxes k) at.spool at.tally at.did at.alone ∙ ap length (h.taken k below) in
+    let at = h.each k below in as_many site (quota_at quotas k) k (work.boxes k) at.spool at.tally at.did at.alone ∙ ap length (h.taken k below) in
     told_as_said work.heard told work.count 1 ts some (rising site c) h.answered h.known h.begun sized b low
 
-delivered : (site : Site) (quota : Option ℕ) (c : Conversation) (work : AllWork) (spools : List Mailbox) (tallies : List Tally) (faulty : Bool)
-    → c ≡ conversation c.bytes c.dispositions → IsAccount site c → HaveWorked site quota (transactions_in site 0 c) work spools tallies
+delivered : (site : Site) (quotas : List (Option ℕ)) (c : Conversation) (work : AllWork) (spools : List Mailbox) (tallies : List Tally) (faulty : Bool)
+    → c ≡ conversation c.bytes c.dispositions → IsAccount site c → HaveWorked site quotas (transactions_in site 0 c) work spools tallies
     → work.count ≡ length site.boxes
     → faulty ≡ list_any (λ t. t.faulty) tallies
-    → AreMailboxes site quota c.bytes c.dispositions (kept_all spools tallies) faulty
-delivered site quota c work spools tallies faulty is accounted h size faulty_is =
+    → AreMailboxes site quotas c.bytes c.dispositions (kept_all spools tallies) faulty
+delivered site quotas c work spools tallies faulty is accounted h size faulty_is =
     let ts : List Transaction = transactions_in site 0 c in
     let ks : List MailboxContent = kept_all spools tallies in
     let told : ℕ → List Outcome = λ k. outcomes_in (work.boxes k).turns in
-    let as_many : length tallies ≡ length spools = h.as_many.1 ∙ sym h.as_many.0 in
-    let told_it : map (λ t. t.disposition) ts ≡ c.dispositions = account_told site 0 c accounted in
-    let calm : faulty ≡ false → IsCalm ks = λ f. none_failed spools tallies as_many (sym faulty_is ∙ f) in
-    let many : length ks ≡ work.count = length-kept spools tallies as_many ∙ h.as_many.0 in
+    let tallied : length tallies ≡ length spools = h.as_many.1 ∙ sym h.as_many.0 in
+    let calm : faulty ≡ false → IsCalm ks = λ f. none_failed spools tallies tallied (sym faulty_is ∙ f) in
+    let many : length ks ≡ work.count = length-kept spools tallies tallied ∙ h.as_many.0 in
     let H : Conversation → ℕ → List ℕ → Bool → Type 0 =
-    λ x box bytes failed. HoldsCopies civil_at site quota (due site 0 box (x ∷ [])) (outcomes_told site box (x ∷ [])) bytes failed in
+    λ x box bytes failed. HoldsCopies civil_at site (quota_at quotas box) (due site 0 box (x ∷ [])) (outcomes_told site box (x ∷ [])) bytes failed in
     let each : (box : ℕ) → box < length site.boxes → H (conversation c.bytes c.dispositions) box (kept_at ks box).bytes (kept_at ks box).failed = λ box within.
     let low : box < work.count = omega (arith, size, within) in
     let at = h.each box low in
-    let P : List Note → Type 0 = λ notes. HoldsCopies civil_at site quota notes (told box) at.spool.inner.bytes at.tally.faulty in
-    let Q : List Outcome → Type 0 = λ os. HoldsCopies civil_at site quota (copies_owed 0 box ts) os at.spool.inner.bytes at.tally.faulty in
-    let D : List Note → Type 0 = λ notes. HoldsCopies civil_at site quota notes (told_all box ts) at.spool.inner.bytes at.tally.faulty in
-    let T : List Outcome → Type 0 = λ os. HoldsCopies civil_at site quota (due site 0 box (c ∷ [])) os at.spool.inner.bytes at.tally.faulty in
+    let P : List Note → Type 0 = λ notes. HoldsCopies civil_at site (quota_at quotas box) notes (told box) at.spool.inner.bytes at.tally.faulty in
+    let Q : List Outcome → Type 0 = λ os. HoldsCopies civil_at site (quota_at quotas box) (copies_owed 0 box ts) os at.spool.inner.bytes at.tally.faulty in
+    let D : List Note → Type 0 = λ notes. HoldsCopies civil_at site (quota_at quotas box) notes (told_all box ts) at.spool.inner.bytes at.tally.faulty in
+    let T : List Outcome → Type 0 = λ os. HoldsCopies civil_at site (quota_at quotas box) (due site 0 box (c ∷ [])) os at.spool.inner.bytes at.tally.faulty in
     let K : MailboxContent → Type 0 = λ k. H c box k.bytes k.failed in
     let C : Conversation → Type 0 = λ x. H x box (kept_at ks box).bytes (kept_at ks box).failed in
-    let first : P (copies_owed 0 box ts) = subst P (h.taken box low) (holds_so site quota box (work.boxes box) at.spool at.tally at.did at.alone).0 in
-    let told_so : Q (told_all box ts) = subst Q (sym (said_of_box site quota c work spools tallies h box low)) first in
+    let first : P (copies_owed 0 box ts) = subst P (h.taken box low) (holds_so site (quota_at quotas box) box (work.boxes box) at.spool at.tally at.did at.alone).0 in
+    let told_so : Q (told_all box ts) = subst Q (sym (said_of_box site quotas c work spools tallies h box low)) first in
     subst C is (subst K (sym at.is) (subst T (sym (told_is site box c)) (subst D (sym (due_is site box c)) told_so))) in
     let whole : faulty ≡ false → (box : ℕ) → box < length site.boxes
-    → HoldsAll civil_at site quota (copies_due site c.bytes c.dispositions box) (told_of_box site c.bytes c.dispositions box) (kept_at ks box).bytes =
+    → HoldsAll civil_at site (quota_at quotas box) (copies_due site c.bytes c.dispositions box) (told_of_box site c.bytes c.dispositions box) (kept_at ks box).bytes =
     λ f box within.
     let failed : (kept_at ks box).failed ≡ false = calm f box (omega (arith, within, many, size)) in
     let B : Bool → Type 0 = λ b. H (conversation c.bytes c.dispositions) box (kept_at ks box).bytes b in
-    holds_all civil_at site quota _ _ (kept_at ks box).bytes (subst B failed (each box within)) in
+    holds_all civil_at site (quota_at quotas box) _ _ (kept_at ks box).bytes (subst B failed (each box within)) in
     record {
       count = many ∙ size;
       each = each;
@@ -274,15 +275,20 @@ delivered site quota c work spools tallies faulty is accounted h size faulty_is 
           let low : box < work.count = omega (arith, size, within) in
           let at = h.each box low in
           ap (λ (k : MailboxContent). length k.bytes) at.is
-          ∙ (holds_so site quota box (work.boxes box) at.spool at.tally at.did at.alone).1 (sym (ap (λ (k : MailboxContent). k.failed) at.is) ∙ failed)
+          ∙ (holds_so site (quota_at quotas box) box (work.boxes box) at.spool at.tally at.did at.alone).1 (sym (ap (λ (k : MailboxContent). k.failed) at.is) ∙ failed)
           ∙ zero-add (mailbox_room site.message_limit);
-      sound = (calm, λ quiet. faulty_is ∙ all_calm spools tallies as_many quiet);
+      sound = (calm, λ quiet. faulty_is ∙ all_calm spools tallies tallied quiet);
       settled = λ f.
-          let S : List Disposition → Type 0 = λ ds. AllByRecursion (IsAllSettled quota) ds in
-          subst S told_it (all_told_settled work.heard quota told work.count ts h.answered h.known h.begun (λ b low.
+          let some : 0 < 1 = omega arith in
+          let sized : AreSized told ts work.count = λ k below.
+          let at = h.each k below in as_many site (quota_at quotas k) k (work.boxes k) at.spool at.tally at.did at.alone ∙ ap length (h.taken k below) in
+          let S : Conversation → Type 0 = λ x. AllByRecursion (IsAllSettled quotas) (transactions site 0 (x ∷ [])) in
+          let T : List Transaction → Type 0 = λ l. AllByRecursion (IsAllSettled quotas) l in
+          subst S is (subst T (sym (only_one site c))
+          (all_told_settled work.heard quotas told work.count 1 ts some (rising site c) h.answered h.known h.begun sized (λ b low.
           let at = h.each b low in
-          tells_settled site quota b (work.boxes b) at.spool at.tally at.did at.alone
-          (sym (ap (λ (k : MailboxContent). k.failed) at.is) ∙ calm f b (omega (arith, many, low)))));
+          tells_settled site (quota_at quotas b) b (work.boxes b) at.spool at.tally at.did at.alone
+          (sym (ap (λ (k : MailboxContent). k.failed) at.is) ∙ calm f b (omega (arith, many, low))))));
       told = λ f box within. (whole f box within).told;
       held = λ f box within. (whole f box within).held;
     }
@@ -294,28 +300,28 @@ nothing_at (suc count) zero spool empty = empty
 nothing_at (suc count) (suc b) spool empty = nothing_at count b spool empty
 
 -- the run of a server whose only lane has one client, and whose spools are new
-abbrev pub HasRunAlone : (site : Site) (quota : Option ℕ) (moment : ℕ) {P : Type 0} (state : P → PeerState) (peer : P) (count : ℕ)
+abbrev pub HasRunAlone : (site : Site) (quotas : List (Option ℕ)) (moment : ℕ) {P : Type 0} (state : P → PeerState) (peer : P) (count : ℕ)
     (back : HandedBack (Watched (OnlyClient P) Unit) Mailbox) → Type 0
-HasRunAlone site quota moment state peer count back =
+HasRunAlone site quotas moment state peer count back =
     HasRun site (λ m. m ≡ moment) (visits_view (λ c p. MayGive state c p) (λ c. told_by state c) (λ c. is_last_told c) (λ (observer : Unit). None)) in_memory_view
-    (record { visits = unseen (Waiting peer) ∷ []; spools = replicate count (empty_mailbox site); capacity = DEFAULT_CAPACITY; quota = quota }) back
+    (record { visits = unseen (Waiting peer) ∷ []; spools = replicate count (empty_mailbox site); capacity = DEFAULT_CAPACITY; quotas = quotas }) back
 
-module _ (site : Site) (quota : Option ℕ) (moment : ℕ) {P : Type 0} (state : P → PeerState) (peer : P) (count : ℕ)
+module _ (site : Site) (quotas : List (Option ℕ)) (moment : ℕ) {P : Type 0} (state : P → PeerState) (peer : P) (count : ℕ)
     (back : HandedBack (Watched (OnlyClient P) Unit) Mailbox) where
   abbrev handed : HandedIn (Watched (OnlyClient P) Unit) Mailbox
-  handed = record { visits = unseen (Waiting peer) ∷ []; spools = replicate count (empty_mailbox site); capacity = DEFAULT_CAPACITY; quota = quota }
+  handed = record { visits = unseen (Waiting peer) ∷ []; spools = replicate count (empty_mailbox site); capacity = DEFAULT_CAPACITY; quotas = quotas }
 
   -- the client has left
-  pub only_over : HasRunAlone site quota moment state peer count back → IsOnlyOver back.visits
+  pub only_over : HasRunAlone site quotas moment state peer count back → IsOnlyOver back.visits
   only_over h =
       let client = one_alone back.visits h.as_many_lanes.0 in
       let number = one_alone back.conversations h.as_many_lanes.1 in
       let work = h.served 0 number.0 (unseen (Waiting peer)) client.0 refl (ap (λ l. slice_get l 0) client.1) (ap (λ l. slice_get l 0) number.1) in
       (client.0, client.1, work.ended)
 
-  have_worked : (h : HasRunAlone site quota moment state peer count back) (c : Conversation)
+  have_worked : (h : HasRunAlone site quotas moment state peer count back) (c : Conversation)
       → conversations_of (h.lanes 0).visits ≡ c ∷ [] → AllByRecursion (λ t. OutcomesIn 0 (h.lanes 0).heard t t.disposition.verdict) (transactions_in site 0 c)
-      → HaveWorked site quota (transactions_in site 0 c) (all_work (h.lanes 0).heard h.boxes count) back.spools back.tallies
+      → HaveWorked site quotas (transactions_in site 0 c) (all_work (h.lanes 0).heard h.boxes count) back.spools back.tallies
   have_worked h c is answered =
       let ts : List Transaction = transactions_in site 0 c in
       let heard : List Slip = (h.lanes 0).heard in
@@ -346,10 +352,10 @@ module _ (site : Site) (quota : Option ℕ) (moment : ℕ) {P : Type 0} (state :
         as_many = (h.as_many_boxes.0 ∙ many, h.as_many_boxes.1 ∙ many);
       }
 
-  run_of : (h : HasRunAlone site quota moment state peer count back) (c : Conversation) → conversations_of (h.lanes 0).visits ≡ c ∷ []
-      → HaveWorked site quota (transactions_in site 0 c) (all_work (h.lanes 0).heard h.boxes count) back.spools back.tallies
+  run_of : (h : HasRunAlone site quotas moment state peer count back) (c : Conversation) → conversations_of (h.lanes 0).visits ≡ c ∷ []
+      → HaveWorked site quotas (transactions_in site 0 c) (all_work (h.lanes 0).heard h.boxes count) back.spools back.tallies
       → c ≡ conversation c.bytes c.dispositions → count ≡ length site.boxes
-      → IsRunOfRehearsal site quota c.bytes c.dispositions (kept_all back.spools back.tallies)
+      → IsRunOfRehearsal site quotas c.bytes c.dispositions (kept_all back.spools back.tallies)
   run_of h c are worked is size =
       let m : IsRunOfModel site state_in h.lanes h.boxes handed = h.is_run in
       let one : 0 < 1 = omega arith in
@@ -358,7 +364,7 @@ module _ (site : Site) (quota : Option ℕ) (moment : ℕ) {P : Type 0} (state :
       let threads : Threads = threads_of site h.lanes courses in
       let copies : ℕ → Conversation → List Note = λ b x. due site 0 b (x ∷ []) in
       let R : ℕ → Type 0 = λ n.
-      (run : IsOrderlyRunOf RECIPIENT_LIMIT DEFAULT_CAPACITY (record { calendar = civil_at; site = site; quota = quota; lanes = 1; boxes = n }) threads)
+      (run : IsOrderlyRunOf RECIPIENT_LIMIT DEFAULT_CAPACITY (record { calendar = civil_at; site = site; lanes = 1; boxes = n }) threads)
       × ((b : ℕ) → b < n → offers_by 0 b (events_of run.is.run) ≡ copies b (conversation c.bytes c.dispositions)) in
       let first : R (length handed.spools) =
       (m.is, λ b low. m.offered 0 b one low ∙ ap (λ l. due site 0 b l) are ∙ ap (copies b) is) in
@@ -371,8 +377,9 @@ module _ (site : Site) (quota : Option ℕ) (moment : ℕ) {P : Type 0} (state :
             let low : b < count = omega (arith, within, size) in
             let at = worked.each b low in
             let old : (courses b).old ≡ [] = nothing_at count b (empty_mailbox site) refl in
-            let said = said_of_box site quota c (all_work (h.lanes 0).heard h.boxes count) back.spools back.tallies worked b low in
+            let said = said_of_box site quotas c (all_work (h.lanes 0).heard h.boxes count) back.spools back.tallies worked b low in
             record {
+              under = refl;
               old = old;
               taken = worked.taken b low ∙ sym (due_is site b c) ∙ ap (copies b) is;
               outcomes = sym said ∙ sym (told_is site b c) ∙ ap (λ x. outcomes_told site b (x ∷ [])) is;
@@ -382,10 +389,10 @@ module _ (site : Site) (quota : Option ℕ) (moment : ℕ) {P : Type 0} (state :
             };
       }
 
-  pub held : (last : P) (end : EndCause) (faulty : Bool) → site.tells_busy ≡ false → HasRunAlone site quota moment state peer count back → back.visits ≡ unseen (Over last end) ∷ []
+  pub held : (last : P) (end : EndCause) (faulty : Bool) → site.tells_busy ≡ false → HasRunAlone site quotas moment state peer count back → back.visits ≡ unseen (Over last end) ∷ []
       → ((p : P) → (state p).stops ≡ 0)
       → count ≡ length site.boxes → faulty ≡ list_any (λ t. t.faulty) back.tallies
-      → IsHeld site quota moment (streams_of (state peer)) (streams_of (state last)) (record { mailboxes = back.spools; faulty = faulty; end = end })
+      → IsHeld site quotas moment (streams_of (state peer)) (streams_of (state last)) (record { mailboxes = back.spools; faulty = faulty; end = end })
   held last end faulty quiet h after never size faulty_is =
       let lane : LaneWork = h.lanes 0 in
       let number = one_alone back.conversations h.as_many_lanes.1 in
@@ -418,7 +425,7 @@ module _ (site : Site) (quota : Option ℕ) (moment : ℕ) {P : Type 0} (state :
           verdicts = subst N by.unstopped (subst W (ap (λ l. transactions site 0 l) are) work.verdicts);
         };
         mailboxes = kept_all back.spools back.tallies;
-        delivered = delivered site quota c (all_work lane.heard h.boxes count) back.spools back.tallies faulty by.unstopped by.accounted worked size faulty_is;
+        delivered = delivered site quotas c (all_work lane.heard h.boxes count) back.spools back.tallies faulty by.unstopped by.accounted worked size faulty_is;
         run = run_of h c are worked by.unstopped size;
         holds = bytes_are back.spools back.tallies (worked.as_many.1 ∙ sym worked.as_many.0);
         said = by.said;
@@ -428,10 +435,10 @@ module _ (site : Site) (quota : Option ℕ) (moment : ℕ) {P : Type 0} (state :
       }
 
 -- the mailboxes after the replies
-pub rehearsed : (site : Site) (quota : Option ℕ) (moment : ℕ) (old between : Streams) (left : HeldState) (after : Option (List ℕ)) (cut : Bool)
-    → IsHeld site quota moment old between left → IsListed (texts_of_mailboxes site.boxes (bytes_of_all left.mailboxes)) between.written after cut
-    → IsRehearsed site quota moment old (record { unread = between.unread; written = after }) (record { end = left.end; faulty = left.faulty; cut = cut })
-rehearsed site quota moment old between left after cut h w =
+pub rehearsed : (site : Site) (quotas : List (Option ℕ)) (moment : ℕ) (old between : Streams) (left : HeldState) (after : Option (List ℕ)) (cut : Bool)
+    → IsHeld site quotas moment old between left → IsListed (texts_of_mailboxes site.boxes (bytes_of_all left.mailboxes)) between.written after cut
+    → IsRehearsed site quotas moment old (record { unread = between.unread; written = after }) (record { end = left.end; faulty = left.faulty; cut = cut })
+rehearsed site quotas moment old between left after cut h w =
     let L : List (List ℕ) → Type 0 = λ texts. IsWritten (texts_of_mailboxes site.boxes texts) (cut ≡ true) w.listed in
     record {
       read = h.read;
@@ -450,8 +457,8 @@ rehearsed site quota moment old between left after cut h w =
     }
 
 -- there is one for each mailbox of the site
-pub as_many_mailboxes : (site : Site) (quota : Option ℕ) (moment : ℕ) (old new : Streams) (left : HeldState) → IsHeld site quota moment old new left
+pub as_many_mailboxes : (site : Site) (quotas : List (Option ℕ)) (moment : ℕ) (old new : Streams) (left : HeldState) → IsHeld site quotas moment old new left
     → length left.mailboxes ≡ length site.boxes
-as_many_mailboxes site quota moment old new left h =
+as_many_mailboxes site quotas moment old new left h =
     sym (length-map left.mailboxes (λ (x : Mailbox). x.inner.bytes)) ∙ ap length (sym h.holds) ∙ length-map h.mailboxes (λ (k : MailboxContent). k.bytes)
     ∙ h.delivered.count

@@ -14,11 +14,12 @@ use Rattle.mail_world.specs.declared.Verdict.{Verdict}
 use Rattle.mail_world.specs.declared.Verdict.TheVariants as verdicts
 use Rattle.mail_world.specs.Deliveries.{outcomes_for, told_if, told_all}
 use Rattle.mail_world.specs.Prefixes.{IsPrefix}
+use Rattle.mail_world.specs.Quotas.{quota_at}
 use Rattle.mail_world.specs.Lists.{Transaction, OutcomesIn, copies, copies_if, copies_from, copies_owed}
 use Rattle.mail_world.specs.Slips.{names, answer, of_worker, slip_of, slips_from}
 use Rattle.mail_world.proofs.Deliveries.{copy_at}
 use Rattle.box_worker.specs.Told.{owed_to}
-use Rattle.lmtpd_rehearse.specs.Account.{IsSettledOutcome, IsSettledIf, IsAllSettled}
+use Rattle.lmtpd_rehearse.specs.Account.{AreSettled, IsSettledOutcome, IsSettledIf, IsAllSettled}
 use Rattle.mail_runs.proofs.Rising.{NumbersRise, copies_rise}
 use Rattle.lmtpd_rehearse.proofs.Naming.{SayTheSame, all_agree, all_after, all_filter, all_prefix, all_turned, left_after, next_of, slips_all, slips_all-append}
 use Rattle.lmtpd_rehearse.proofs.Naming.{slips_of_box}
@@ -47,7 +48,7 @@ IsHeardAs heard slip = AllByRecursion (λ other. SayTheSame slip other) heard
 
 answer_by : (t : Bool) (slip other : Slip) (found : Option Slip) (o : Outcome) → names slip.txn slip.place other ≡ t → SayTheSame slip other
     → (option_map (λ s. s.outcome) found ≡ Some o → o ≡ slip.outcome) → option_map (λ s. s.outcome) (cond t (Some other) found) ≡ Some o → o ≡ slip.outcome
-answer_by true slip other found o e agrees more is = let same : other.outcome ≡ o = cc in sym same ∙ agrees e
+answer_by true slip other found o e agrees more is = let same : other.outcome ≡ o = cc in sym same ∙ (agrees e).0
 answer_by false slip other found o e agrees more is = more is
 
 answer_is : (heard : List Slip) (slip : Slip) (o : Outcome) → IsHeardAs heard slip → answer slip.txn heard slip.place ≡ Some o → o ≡ slip.outcome
@@ -55,31 +56,27 @@ answer_is [] slip o h e = cc
 answer_is (other ∷ heard) slip o h e =
     answer_by (names slip.txn slip.place other) slip other (find (names slip.txn slip.place) heard) o refl h.0 (λ is. answer_is heard slip o h.1 is) e
 
--- a slip that says such an outcome
-abbrev Says : (Outcome → Type 0) → Slip → Type 0
-Says P slip = P slip.outcome
+-- a slip whose worker may say its outcome
+abbrev MaySay : (ℕ → Outcome → Type 0) → Slip → Type 0
+MaySay P slip = P slip.worker slip.outcome
 
-module _ (P : Outcome → Type 0) where
-  says_by : (t : Bool) (slip : Slip) (found : Option Slip) (o : Outcome) → Says P slip → (option_map (λ s. s.outcome) found ≡ Some o → P o)
-      → option_map (λ s. s.outcome) (cond t (Some slip) found) ≡ Some o → P o
-  says_by true slip found o is more e = let same : slip.outcome ≡ o = cc in subst P same is
-  says_by false slip found o is more e = more e
+module _ (P : ℕ → Outcome → Type 0) where
+  said_by : (t : Bool) (slip other : Slip) (found : Option Slip) (o : Outcome) → names slip.txn slip.place other ≡ t → SayTheSame slip other → MaySay P other
+      → (option_map (λ s. s.outcome) found ≡ Some o → P slip.worker o) → option_map (λ s. s.outcome) (cond t (Some other) found) ≡ Some o → P slip.worker o
+  said_by true slip other found o e agrees says more is =
+      let same : other.outcome ≡ o = cc in
+      subst (λ w. P w o) (agrees e).1 (subst (λ x. P other.worker x) same says)
+  said_by false slip other found o e agrees says more is = more is
 
-  answer_says : (heard : List Slip) (txn : Txn) (place : ℕ) (o : Outcome) → AllByRecursion (Says P) heard → answer txn heard place ≡ Some o → P o
-  answer_says [] txn place o h e = cc
-  answer_says (slip ∷ heard) txn place o h e =
-      says_by (names txn place slip) slip (find (names txn place) heard) o h.0 (λ is. answer_says heard txn place o h.1 is) e
+  -- what is answered for a slip that all agree with is what its worker may say
+  answer_said : (heard : List Slip) (slip : Slip) (o : Outcome) → IsHeardAs heard slip → AllByRecursion (MaySay P) heard
+      → answer slip.txn heard slip.place ≡ Some o → P slip.worker o
+  answer_said [] slip o h says e = cc
+  answer_said (other ∷ heard) slip o h says e =
+      said_by (names slip.txn slip.place other) slip other (find (names slip.txn slip.place) heard) o refl h.0 says.0
+      (λ is. answer_said heard slip o h.1 says.1 is) e
 
-  outcomes_say : (heard : List Slip) (txn : Txn) (outcomes : List Outcome) (place n : ℕ) → AllByRecursion (Says P) heard
-      → map (λ o. Some o) outcomes ≡ map (answer txn heard) (range_with_len place n) → AllByRecursion P outcomes
-  outcomes_say heard txn [] place n h e = tt
-  outcomes_say heard txn (o ∷ outcomes) place zero h e = cc
-  outcomes_say heard txn (o ∷ outcomes) place (suc n) h e =
-      let first : answer txn heard place ≡ Some o = cc in
-      let rest : map (λ (x : Outcome). Some x) outcomes ≡ map (answer txn heard) (range_with_len (place + 1) n) = cc in
-      (answer_says heard txn place o h first, outcomes_say heard txn outcomes (place + 1) n h rest)
-
-  slips_say : (w : ℕ) (outcomes : List Outcome) (notes : List Note) → AllByRecursion P outcomes → AllByRecursion (Says P) (slips_from w outcomes notes)
+  slips_say : (w : ℕ) (outcomes : List Outcome) (notes : List Note) → AllByRecursion (P w) outcomes → AllByRecursion (MaySay P) (slips_from w outcomes notes)
   slips_say w [] notes h = tt
   slips_say w (o ∷ outcomes) [] h = tt
   slips_say w (o ∷ outcomes) (x ∷ notes) h = (h.0, slips_say w outcomes notes h.1)
@@ -155,12 +152,11 @@ module _ (heard : List Slip) where
       let slips : List Slip = slips_from b (told b) (copies_owed 0 b ts) in
       all_prefix P (of_worker b heard) begins.rest (subst Q begins.whole (all_filter P (λ slip. slip.txn.lane == 0) slips (each b low))))
 
-  -- what was told of a mailbox's copies is what its worker said
-  pub told_as_said : (told : ℕ → List Outcome) (n m : ℕ) (ts : List Transaction) → 0 < m → NumbersRise m ts
-      → AllByRecursion (λ t. OutcomesIn 0 heard t t.disposition.verdict) ts
+  -- all that were heard agree with each slip that is owed
+  owed_heard : (told : ℕ → List Outcome) (n m : ℕ) (ts : List Transaction) → 0 < m → NumbersRise m ts
       → AllByRecursion (λ slip. slip.worker < n) heard → ((b : ℕ) → b < n → IsPrefixOfOwed told heard ts b) → AreSized told ts n
-      → (b : ℕ) → b < n → told_all b ts ≡ told b
-  told_as_said told n m ts some rise answered known begun sized b low =
+      → AllByRecursion (IsHeardAs heard) (slips_all told (flat_map (copies 0) ts))
+  owed_heard told n m ts some rise known begun sized =
       let notes : List Note = flat_map (copies 0) ts in
       let all : List Slip = slips_all told notes in
       let AgreesWithAll : Slip → Type 0 = λ slip. AllByRecursion (λ other. SayTheSame other slip) all in
@@ -168,30 +164,63 @@ module _ (heard : List Slip) where
       let agree : AllByRecursion AgreesWithAll all = all_agree notes told 0 0 (copies_rise ts m 0 0 rise some) in
       let heard_agree : AllByRecursion AgreesWithAll heard = heard_owed AgreesWithAll told n ts known begun
       (λ k below. subst Q (slips_of_box k notes told (sized k below)) (all_filter AgreesWithAll (λ slip. slip.worker == k) all agree)) in
-      told_each b ts told answered (all_turned (λ slip other. SayTheSame slip other) heard all heard_agree)
+      all_turned (λ slip other. SayTheSame slip other) heard all heard_agree
+
+  -- what was told of a mailbox's copies is what its worker said
+  pub told_as_said : (told : ℕ → List Outcome) (n m : ℕ) (ts : List Transaction) → 0 < m → NumbersRise m ts
+      → AllByRecursion (λ t. OutcomesIn 0 heard t t.disposition.verdict) ts
+      → AllByRecursion (λ slip. slip.worker < n) heard → ((b : ℕ) → b < n → IsPrefixOfOwed told heard ts b) → AreSized told ts n
+      → (b : ℕ) → b < n → told_all b ts ≡ told b
+  told_as_said told n m ts some rise answered known begun sized b low =
+      let notes : List Note = flat_map (copies 0) ts in
+      told_each b ts told answered (owed_heard told n m ts some rise known begun sized)
       ∙ ap (map (λ (s : Slip). s.outcome)) (slips_of_box b notes told (sized b low))
       ∙ outcomes_of b (told b) (copies_owed 0 b ts) (sized b low)
 
-  verdict_settled : (quota : Option ℕ) (v : Verdict) (t : Transaction) → OutcomesIn 0 heard t v → AllByRecursion (Says (IsSettledOutcome quota)) heard
-      → IsSettledIf quota t.disposition v
-  verdict_settled quota verdicts.Whole t e h =
-      outcomes_say (IsSettledOutcome quota) heard (record { lane = 0; number = t.number }) t.disposition.outcomes 0 (length t.session.recipients) h e
-  verdict_settled quota verdicts.TooLarge t e h = tt
-  verdict_settled quota verdicts.Malformed t e h = tt
-  verdict_settled quota verdicts.NoRoom t e h = tt
+  module _ (quotas : List (Option ℕ)) where
+    -- what the worker of that mailbox says where its copy is settled
+    abbrev Settles : ℕ → Outcome → Type 0
+    Settles b outcome = IsSettledOutcome (quota_at quotas b) outcome
 
-  each_settled : (quota : Option ℕ) (ts : List Transaction) → AllByRecursion (λ t. OutcomesIn 0 heard t t.disposition.verdict) ts
-      → AllByRecursion (Says (IsSettledOutcome quota)) heard
-      → AllByRecursion (IsAllSettled quota) (map (λ t. t.disposition) ts)
-  each_settled quota [] e h = tt
-  each_settled quota (t ∷ ts) e h = (verdict_settled quota t.disposition.verdict t e.0 h, each_settled quota ts e.1 h)
+    copies_settled : (t : Transaction) (boxes : List ℕ) (place : ℕ) (outcomes : List Outcome) (left : ℕ → List Outcome)
+        → map (λ o. Some o) outcomes ≡ map (answer (record { lane = 0; number = t.number }) heard) (range_with_len place (length boxes))
+        → AllByRecursion (IsHeardAs heard) (slips_all left (copies_from 0 t place boxes)) → AllByRecursion (MaySay Settles) heard → AreSettled quotas boxes outcomes
+    copies_settled t [] place [] left e h says = tt
+    copies_settled t [] place (o ∷ outcomes) left e h says = cc
+    copies_settled t (r ∷ boxes) place [] left e h says = cc
+    copies_settled t (r ∷ boxes) place (o ∷ outcomes) left e h says =
+        let txn : Txn = record { lane = 0; number = t.number } in
+        let slip : Slip = slip_of r (copy_at 0 t place r) (next_of (left r)) in
+        let first : answer txn heard place ≡ Some o = cc in
+        let rest : map (λ (x : Outcome). Some x) outcomes ≡ map (answer txn heard) (range_with_len (place + 1) (length boxes)) = cc in
+        (answer_said Settles heard slip o h.0 says first, copies_settled t boxes (place + 1) outcomes _ rest h.1 says)
 
-  -- where all copies are settled, each outcome says so
-  pub all_told_settled : (quota : Option ℕ) (told : ℕ → List Outcome) (n : ℕ) (ts : List Transaction)
-      → AllByRecursion (λ t. OutcomesIn 0 heard t t.disposition.verdict) ts
-      → AllByRecursion (λ slip. slip.worker < n) heard → ((b : ℕ) → b < n → IsPrefixOfOwed told heard ts b)
-      → ((b : ℕ) → b < n → AllByRecursion (IsSettledOutcome quota) (told b)) → AllByRecursion (IsAllSettled quota) (map (λ t. t.disposition) ts)
-  all_told_settled quota told n ts answered known begun settled =
-      each_settled quota ts answered
-      (heard_owed (Says (IsSettledOutcome quota)) told n ts known begun
-      (λ b low. slips_say (IsSettledOutcome quota) b (told b) (copies_owed 0 b ts) (settled b low)))
+    verdict_settled : (v : Verdict) (t : Transaction) (left : ℕ → List Outcome) → OutcomesIn 0 heard t v
+        → AllByRecursion (IsHeardAs heard) (slips_all left (copies_if 0 t v)) → AllByRecursion (MaySay Settles) heard → IsSettledIf quotas t v
+    verdict_settled verdicts.Whole t left e h says = copies_settled t t.session.recipients 0 t.disposition.outcomes left e h says
+    verdict_settled verdicts.TooLarge t left e h says = tt
+    verdict_settled verdicts.Malformed t left e h says = tt
+    verdict_settled verdicts.NoRoom t left e h says = tt
+
+    each_settled : (ts : List Transaction) (left : ℕ → List Outcome) → AllByRecursion (λ t. OutcomesIn 0 heard t t.disposition.verdict) ts
+        → AllByRecursion (IsHeardAs heard) (slips_all left (flat_map (copies 0) ts)) → AllByRecursion (MaySay Settles) heard
+        → AllByRecursion (IsAllSettled quotas) ts
+    each_settled [] left e h says = tt
+    each_settled (t ∷ ts) left e h says =
+        let prefix : List Slip = slips_all left (copies 0 t) in
+        let next : ℕ → List Outcome = λ k. left_after left (copies 0 t) k in
+        let rest : List Slip = slips_all next (flat_map (copies 0) ts) in
+        let split : slips_all left (copies 0 t ++ flat_map (copies 0) ts) ≡ prefix ++ rest = slips_all-append (copies 0 t) (flat_map (copies 0) ts) left in
+        let both : AllByRecursion (IsHeardAs heard) (prefix ++ rest) = let Q : List Slip → Type 0 = λ l. AllByRecursion (IsHeardAs heard) l in subst Q split h in (
+          verdict_settled t.disposition.verdict t left e.0 (all_prefix (IsHeardAs heard) prefix rest both) says,
+          each_settled ts next e.1 (all_after (IsHeardAs heard) prefix rest both) says,
+        )
+
+    -- where all copies are settled, each outcome says so
+    pub all_told_settled : (told : ℕ → List Outcome) (n m : ℕ) (ts : List Transaction) → 0 < m → NumbersRise m ts
+        → AllByRecursion (λ t. OutcomesIn 0 heard t t.disposition.verdict) ts
+        → AllByRecursion (λ slip. slip.worker < n) heard → ((b : ℕ) → b < n → IsPrefixOfOwed told heard ts b) → AreSized told ts n
+        → ((b : ℕ) → b < n → AllByRecursion (Settles b) (told b)) → AllByRecursion (IsAllSettled quotas) ts
+    all_told_settled told n m ts some rise answered known begun sized settled =
+        each_settled ts told answered (owed_heard told n m ts some rise known begun sized)
+        (heard_owed (MaySay Settles) told n ts known begun (λ b low. slips_say Settles b (told b) (copies_owed 0 b ts) (settled b low)))

@@ -1,21 +1,28 @@
 -- What became of the messages of a rehearsal.
-use Rattle.std.specs.Prelude.{◌≡◌, ◌⊎◌, ⊤, ℕ, Option, Some, None}
-use Rattle.std.specs.List.{AllByRecursion}
+use Rattle.std.specs.Prelude.{◌≡◌, ◌⊎◌, ⊤, ℕ, List, [], ◌∷◌, Option, Some, None}
 use Rattle.mail_world.specs.declared.Outcome.{Outcome}
 use Rattle.mail_world.specs.declared.Outcome.TheVariants.{Stored, OverQuota}
 use Rattle.mail_world.specs.declared.Verdict.{Verdict}
 use Rattle.mail_world.specs.declared.Verdict.TheVariants.{Whole}
-use Rattle.mail_world.specs.Conversation.{Disposition}
+use Rattle.mail_world.specs.Lists.{Transaction}
+use Rattle.mail_world.specs.Quotas.{quota_at}
 
 -- what is told of a copy that is settled: Stored, and under a quota it may be OverQuota
 abbrev pub IsSettledOutcome : Option ℕ → Outcome → Type 0
 IsSettledOutcome None outcome = outcome ≡ Stored
 IsSettledOutcome (Some quota) outcome = (outcome ≡ Stored) ⊎ (outcome ≡ OverQuota)
 
--- each outcome of a whole message is that of a copy that is settled
-abbrev pub IsSettledIf : Option ℕ → Disposition → Verdict → Type 0
-IsSettledIf quota d Whole = AllByRecursion (IsSettledOutcome quota) d.outcomes
-IsSettledIf quota d _ = ⊤
+-- an outcome for each of these recipients: that of a copy which is settled, under the quota of its mailbox
+abbrev pub AreSettled : List (Option ℕ) → List ℕ → List Outcome → Type 0
+AreSettled quotas [] [] = ⊤
+AreSettled quotas (box ∷ boxes) (outcome ∷ outcomes) =
+    IsSettledOutcome (quota_at quotas box) outcome × AreSettled quotas boxes outcomes
+AreSettled quotas _ _ = ⊥
 
-abbrev pub IsAllSettled : Option ℕ → Disposition → Type 0
-IsAllSettled quota d = IsSettledIf quota d d.verdict
+-- so it is for each recipient of a whole message
+abbrev pub IsSettledIf : List (Option ℕ) → Transaction → Verdict → Type 0
+IsSettledIf quotas t Whole = AreSettled quotas t.session.recipients t.disposition.outcomes
+IsSettledIf quotas t _ = ⊤
+
+abbrev pub IsAllSettled : List (Option ℕ) → Transaction → Type 0
+IsAllSettled quotas t = IsSettledIf quotas t t.disposition.verdict

@@ -9,7 +9,7 @@ use Rattle.mail_world.specs.Site.{Site}
 use Rattle.mail_world.specs.Conversation.{Disposition, IsAccount, conversation, inputs, replies}
 use Rattle.mail_world.specs.Lists.{VerdictFits, transactions, due}
 use Rattle.mail_world.specs.Records.{mailbox}
-use Rattle.mail_world.specs.Quotas.{are_kept, kept, outcomes_settled}
+use Rattle.mail_world.specs.Quotas.{are_kept, kept, outcomes_settled, quota_at}
 use Rattle.mail_world.specs.Deliveries.{outcomes_told}
 use Rattle.mail_world.specs.Runs.{events_of, offers_by}
 use Rattle.mail_world.specs.Turns.{left_by, last_broke}
@@ -43,35 +43,37 @@ copies_due site read account box = due site 0 box (conversation read account ∷
 abbrev pub told_of_box : Site → List ℕ → List Disposition → ℕ → List Outcome
 told_of_box site read account box = outcomes_told site box (conversation read account ∷ [])
 
--- the mailboxes, in the order of the site, by that account and under that quota
-pub record AreMailboxes (site : Site) (quota : Option ℕ) (read : List ℕ) (account : List Disposition)
+-- the mailboxes, in the order of the site, by that account, each under its quota
+pub record AreMailboxes (site : Site) (quotas : List (Option ℕ)) (read : List ℕ) (account : List Disposition)
     (mailboxes : List MailboxContent) (faulty : Bool) : Type 0 where
   pub count : length mailboxes ≡ length site.boxes
   -- each took the copies that were due to it: the first were settled, kept or over the quota; once its spool failed,
   -- the others were told Failed
   pub each : (box : ℕ) → box < length site.boxes
-      → HoldsCopies civil_at site quota (copies_due site read account box) (told_of_box site read account box)
+      → HoldsCopies civil_at site (quota_at quotas box) (copies_due site read account box) (told_of_box site read account box)
       (kept_at mailboxes box).bytes (kept_at mailboxes box).failed
   -- a spool failed only once its room was used up
   pub full : (box : ℕ) → box < length site.boxes → (kept_at mailboxes box).failed ≡ true
       → length (kept_at mailboxes box).bytes ≡ mailbox_room site.message_limit
   -- a rehearsal is faulty exactly where a spool failed
   pub sound : (faulty ≡ false) ↔ IsCalm mailboxes
-  -- and where it isn't, every outcome is Stored, or under a quota OverQuota
-  pub settled : faulty ≡ false → AllByRecursion (IsAllSettled quota) account
-  -- which of the two says the quota, and each mailbox has the records of its copies that are kept
+  -- and where it isn't, every outcome is Stored, or where its recipient's mailbox has a quota OverQuota
+  pub settled : faulty ≡ false
+      → AllByRecursion (IsAllSettled quotas) (transactions site 0 (conversation read account ∷ []))
+  -- which of the two says that quota, and each mailbox has the records of its copies that are kept
   pub told : faulty ≡ false → (box : ℕ) → box < length site.boxes
       → told_of_box site read account box ≡ outcomes_settled (length (copies_due site read account box))
-      (are_kept civil_at site quota [] (copies_due site read account box))
+      (are_kept civil_at site (quota_at quotas box) [] (copies_due site read account box))
   pub held : faulty ≡ false → (box : ℕ) → box < length site.boxes
       → (kept_at mailboxes box).bytes ≡ mailbox civil_at site []
-      (kept civil_at site quota [] (copies_due site read account box))
+      (kept civil_at site (quota_at quotas box) [] (copies_due site read account box))
 
--- A mailbox of the model came to what this one did: it was empty at first, took these copies, told this of each in its
--- turn, is left with these bytes, and failed where this one did. From the first turn that broke on all were missed, and
--- none before it.
-pub record IsCourseTo (copies : List Note) (told : List Outcome) (mailbox : MailboxContent)
+-- A mailbox of the model came to what this one did: it had that quota, was empty at first, took these copies, told this
+-- of each in its turn, is left with these bytes, and failed where this one did. From the first turn that broke on all
+-- were missed, and none before it.
+pub record IsCourseTo (quota : Option ℕ) (copies : List Note) (told : List Outcome) (mailbox : MailboxContent)
     (course : Course) : Type 0 where
+  pub under : course.quota ≡ quota
   pub old : course.old ≡ []
   pub taken : course.taken ≡ copies
   pub outcomes : outcomes_in course.turns ≡ told
@@ -79,29 +81,28 @@ pub record IsCourseTo (copies : List Note) (told : List Outcome) (mailbox : Mail
   pub failed : last_broke false course.turns ≡ mailbox.failed
   pub refused : AreRefused (λ broke refused. refused ≡ broke) false course.turns
 
--- the model's server: this site, its calendar, this quota, one lane
-abbrev pub model_of : Site → Option ℕ → Server
-model_of site quota = record {
+-- the model's server: this site, its calendar, one lane
+abbrev pub model_of : Site → Server
+model_of site = record {
   calendar = civil_at;
   site = site;
-  quota = quota;
   lanes = 1;
   boxes = length site.boxes;
 }
 
 -- There is an orderly run of the model of one lane and these mailboxes, from a start at which nothing has happened, in
 -- which the lane offers each mailbox just the copies that are due to it, and at whose end each mailbox has come to
--- this. Its mailboxes' channels have the usual capacity, and the lane's channel has room for the slips of a message to
--- as many recipients as there may be. The run has a depot that is large enough.
-pub record IsRunOfRehearsal (site : Site) (quota : Option ℕ) (read : List ℕ) (account : List Disposition)
+-- this under its quota. Its mailboxes' channels have the usual capacity, and the lane's channel has room for the slips
+-- of a message to as many recipients as there may be. The run has a depot that is large enough.
+pub record IsRunOfRehearsal (site : Site) (quotas : List (Option ℕ)) (read : List ℕ) (account : List Disposition)
     (mailboxes : List MailboxContent) : Type 0 where
   pub threads : Threads
-  pub is : IsOrderlyRunOf RECIPIENT_LIMIT DEFAULT_CAPACITY (model_of site quota) threads
+  pub is : IsOrderlyRunOf RECIPIENT_LIMIT DEFAULT_CAPACITY (model_of site) threads
   pub offered : (box : ℕ) → box < length site.boxes
       → offers_by 0 box (events_of is.is.run) ≡ copies_due site read account box
   pub each : (box : ℕ) → box < length site.boxes
-      → IsCourseTo (copies_due site read account box) (told_of_box site read account box) (kept_at mailboxes box)
-      (threads.courses box)
+      → IsCourseTo (quota_at quotas box) (copies_due site read account box) (told_of_box site read account box)
+      (kept_at mailboxes box) (threads.courses box)
 
 -- why the conversation ended
 pub record RehearsalEndsFor (site : Site) (read : List ℕ) (account : List Disposition) (left : Option (List ℕ))
@@ -117,17 +118,16 @@ pub record Streams : Type 0 where
   pub unread : Option (List ℕ)
   pub written : Option (List ℕ)
 
--- From a reader and a writer that stood so to ones that stand so, under a limit of bytes for each mailbox if there is
--- one.
-pub record IsRehearsed (site : Site) (quota : Option ℕ) (moment : ℕ) (old new : Streams)
+-- From a reader and a writer that stood so to ones that stand so, each mailbox under its quota, if it has one.
+pub record IsRehearsed (site : Site) (quotas : List (Option ℕ)) (moment : ℕ) (old new : Streams)
     (ending : Ending) : Type 0 where
   pub read : List ℕ
   pub input : Consumes old.unread new.unread read
   pub account : List Disposition
   pub accounted : IsAccountAt site moment read account
   pub mailboxes : List MailboxContent
-  pub delivered : AreMailboxes site quota read account mailboxes ending.faulty
-  pub run : IsRunOfRehearsal site quota read account mailboxes
+  pub delivered : AreMailboxes site quotas read account mailboxes ending.faulty
+  pub run : IsRunOfRehearsal site quotas read account mailboxes
   -- what was written of the replies, and then of the mailboxes
   pub said : List ℕ
   pub listed : List ℕ
@@ -143,14 +143,14 @@ pub record HeldState : Type 0 where
   pub end : EndCause
 
 -- A conversation that was held, from a reader and a writer that stood so to ones that stand so, and what it left.
-pub record IsHeld (site : Site) (quota : Option ℕ) (moment : ℕ) (old new : Streams) (held : HeldState) : Type 0 where
+pub record IsHeld (site : Site) (quotas : List (Option ℕ)) (moment : ℕ) (old new : Streams) (held : HeldState) : Type 0 where
   pub read : List ℕ
   pub input : Consumes old.unread new.unread read
   pub account : List Disposition
   pub accounted : IsAccountAt site moment read account
   pub mailboxes : List MailboxContent
-  pub delivered : AreMailboxes site quota read account mailboxes held.faulty
-  pub run : IsRunOfRehearsal site quota read account mailboxes
+  pub delivered : AreMailboxes site quotas read account mailboxes held.faulty
+  pub run : IsRunOfRehearsal site quotas read account mailboxes
   pub holds : map (λ k. k.bytes) mailboxes ≡ bytes_of_all held.mailboxes
   pub said : List ℕ
   pub output : Appends old.written new.written said
@@ -160,3 +160,7 @@ pub record IsHeld (site : Site) (quota : Option ℕ) (moment : ℕ) (old new : S
 -- how many blocks there may be
 abbrev pub IsBlockCount : ℕ → Type 0
 IsBlockCount blocks = (1 ≤ blocks) × (blocks ≤ BLOCK_LIMIT)
+
+-- what a rehearsal may be held with: that many blocks, and a quota for each mailbox, or none
+abbrev pub IsSizeFor : Site → ℕ → ℕ → Type 0
+IsSizeFor site blocks quotas = IsBlockCount blocks × (quotas ≡ length site.boxes)

@@ -20,14 +20,13 @@ const LANES: u32 = 1;
 pub type Mailbox = Watched<MemorySpool, ()>;
 
 /// The sizes of a rehearsal's server: a slot for each lane, and the usual number of copies that may wait.
-pub fn sizes(blocks: u32, quota: Option<u64>) -> Sizes
-    ensures { result ≡ record { blocks = blocks; slots = LANES; capacity = DEFAULT_CAPACITY; quota = quota } }
+pub fn sizes(blocks: u32) -> Sizes
+    ensures { result ≡ record { blocks = blocks; slots = LANES; capacity = DEFAULT_CAPACITY } }
 {
     Sizes {
         blocks,
         slots: LANES,
         capacity: DEFAULT_CAPACITY,
-        quota,
     }
 }
 

@@ -6,7 +6,7 @@ ghost use Rattle.lmtpd_rehearse.specs.Mailboxes.{bytes_of_all, texts_of_mailboxe
 ghost use Rattle.lmtpd_rehearse.specs.Client.{IsOnlyOver, unseen};
 ghost use Rattle.lmtpd_rehearse.specs.declared.client.OnlyClient.TheVariants as OnlyClient;
 ghost use Rattle.lmtpd_output.specs.Output.{IsListed};
-ghost use Rattle.lmtpd_rehearse.specs.Rehearsal.{IsRehearsed, IsBlockCount, IsHeld};
+ghost use Rattle.lmtpd_rehearse.specs.Rehearsal.{IsRehearsed, IsHeld, IsSizeFor};
 
 use super::client::OnlyClient;
 use super::clock::FixedClock;
@@ -23,14 +23,14 @@ use std::thread::Threads;
 
 /// Runs a server of one lane at the site for one conversation, and then writes the mailboxes, each after the line
 /// `mailbox NAME LENGTH`. The mailboxes are empty at the start and lie in memory, and each keeps those of its copies
-/// that fit under the quota, if there is one; every message is of the given moment, in seconds since 1970. All memory
-/// is taken first.
+/// that fit under its quota, if it has one: `quotas` has them in the site's order. Every message is of the given moment,
+/// in seconds since 1970. All memory is taken first.
 pub fn rehearse_run<R, W, H>(
     rt: H,
     alloc: Global,
     site: Arc<Site>,
     blocks: u32,
-    quota: Option<u64>,
+    quotas: Vec<Option<u64>>,
     moment: u32,
     reader: R,
     writer: W,
@@ -40,11 +40,12 @@ where
     W: Write + Drop + Send + 'static,
     H: Threads + Wait + Copy + Send + 'static,
     requires quiet { (arc_value site).tells_busy ≡ false }
-    ensures rehearses { IfOk result (λ rehearsed. IsRehearsed (arc_value site) quota moment
+    ensures rehearses { IfOk result (λ rehearsed. IsRehearsed (arc_value site) quotas.items moment
         (record { unread = R.remaining reader; written = W.contents writer })
         (record { unread = R.remaining rehearsed.reader; written = W.contents rehearsed.writer }) rehearsed.ending) }
-    ensures only_size { result ≡ Err HouseFault.Size → ¬ IsBlockCount blocks }
-    ensures size { ¬ IsBlockCount blocks → (result ≡ Err HouseFault.Size) ⊎ (result ≡ Err HouseFault.Memory) }
+    ensures only_size { result ≡ Err HouseFault.Size → ¬ IsSizeFor (arc_value site) blocks (length quotas.items) }
+    ensures size { ¬ IsSizeFor (arc_value site) blocks (length quotas.items)
+        → (result ≡ Err HouseFault.Size) ⊎ (result ≡ Err HouseFault.Memory) }
 {
     let peer = StreamPeer {
         reader,
@@ -56,7 +57,7 @@ where
     };
     let conditions = Conditions {
         blocks,
-        quota,
+        quotas,
         moment,
     };
     let held = hold(rt, alloc, site.clone()?, conditions, peer)?;
@@ -79,11 +80,11 @@ where
 }
 
 /// What a conversation is held under.
-#[derive(Clone, Copy)]
+#[derive(Drop)]
 struct Conditions {
     blocks: u32,
-    /// The bytes that a mailbox may hold, if there is a limit.
-    quota: Option<u64>,
+    /// The bytes that each mailbox may hold, if there is a limit.
+    quotas: Vec<Option<u64>>,
     /// The seconds since 1970 at each delivery.
     moment: u32,
 }
@@ -111,12 +112,13 @@ where
     W: Write + Drop + Send + 'static,
     H: Threads + Wait + Copy + Send + 'static,
     requires quiet { (arc_value site).tells_busy ≡ false }
-    ensures held { IfOk result (λ held. IsHeld (arc_value site) conditions.quota conditions.moment
+    ensures held { IfOk result (λ held. IsHeld (arc_value site) conditions.quotas.items conditions.moment
         (record { unread = R.remaining peer.reader; written = W.contents peer.writer })
         (record { unread = R.remaining held.peer.reader; written = W.contents held.peer.writer })
         (record { mailboxes = held.mailboxes.items; faulty = held.faulty; end = held.end })) }
-    ensures only_size { result ≡ Err HouseFault.Size → ¬ IsBlockCount conditions.blocks }
-    ensures size { ¬ IsBlockCount conditions.blocks
+    ensures only_size { result ≡ Err HouseFault.Size
+        → ¬ IsSizeFor (arc_value site) conditions.blocks (length conditions.quotas.items) }
+    ensures size { ¬ IsSizeFor (arc_value site) conditions.blocks (length conditions.quotas.items)
         → (result ≡ Err HouseFault.Size) ⊎ (result ≡ Err HouseFault.Memory) }
 {
     let count = site.box_count();
@@ -129,7 +131,7 @@ where
     });
     let Conditions {
         blocks,
-        quota,
+        quotas,
         moment,
     } = conditions;
     let clock = FixedClock { moment };
@@ -137,10 +139,11 @@ where
         rt,
         alloc,
         site,
-        sizes(blocks, quota),
+        sizes(blocks),
         visits,
         mailboxes,
         gates,
+        quotas,
         clock,
     )?;
     let faulty = has_failed(&report.tallies);

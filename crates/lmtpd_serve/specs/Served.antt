@@ -80,9 +80,11 @@ pub record ListsOn (was_cut : Bool) (text : List ℕ) (before after : Option (Li
   pub over : was_cut ≡ true → (cut ≡ true) × Keeps before after
   pub listed : was_cut ≡ false → IsListed text before after cut
 
--- what a server is run with: its sizes, its conversations, what it listens on, and whether its lines show addresses
+-- what a server is run with: its sizes, by mailbox its quota, if it has one, its conversations, what it listens on, and
+-- whether its lines show addresses
 pub record Serving (L E : Type 0) : Type 0 where
   pub sizes : Sizes
+  pub quotas : List (Option ℕ)
   pub conversations : Conversations E
   pub listener : L
   pub addresses : Bool
@@ -129,7 +131,7 @@ pub record IsServerRun {L E S G : Type 0} (site : Site) (view : SpoolsView S)
         visits = visits;
         spools = spools;
         capacity = serving.sizes.capacity;
-        quota = serving.sizes.quota;
+        quotas = serving.quotas;
       })
       back
   pub room : (back.blocks ≡ serving.sizes.blocks) × (back.slots ≡ serving.sizes.slots)

@@ -1,5 +1,6 @@
 //! Leaves a busy mailbox to other programs for a moment, time and again.
 
+use super::moment::Moment;
 use box_worker::{Gate, TurnEnd};
 use mail_world::Txn;
 use std::time::{Clock, Duration};
@@ -16,9 +17,8 @@ const REST_MS: u64 = 1_100;
 #[derive(Clone, Copy, Drop)]
 pub(crate) struct RestGate<C> {
     clock: C,
-    // By the monotonic clock.
-    rested: Duration,
-    released: Duration,
+    rested: Moment,
+    released: Moment,
 }
 
 impl<C> RestGate<C> {
@@ -26,8 +26,8 @@ impl<C> RestGate<C> {
     pub(crate) fn new(clock: C) -> RestGate<C> {
         RestGate {
             clock,
-            rested: Duration::ZERO,
-            released: Duration::ZERO,
+            rested: Moment::FIRST,
+            released: Moment::FIRST,
         }
     }
 }
@@ -36,21 +36,20 @@ impl<C: Clock> Gate for RestGate<C> {
     /// Without a clock that tells the time there is no rest.
     fn before(&mut self, txn: Txn, place: u32) {
         let _ = (txn, place);
-        let Ok(now) = self.clock.monotonic() else {
+        let Ok(now) = Moment::now(&self.clock) else {
             return;
         };
-        let rest = Duration::from_millis(REST_MS);
-        if now.saturating_sub(self.released) >= rest {
+        if now.since(self.released) >= REST_MS {
             self.rested = now;
-        } else if now.saturating_sub(self.rested) >= Duration::from_millis(BUSY_MS) {
-            self.clock.sleep(rest);
-            self.rested = self.clock.monotonic().unwrap_or(now);
+        } else if now.since(self.rested) >= BUSY_MS {
+            self.clock.sleep(Duration::from_millis(REST_MS));
+            self.rested = Moment::now(&self.clock).unwrap_or(now);
         }
     }
 
     fn after(&mut self, txn: Txn, place: u32, end: TurnEnd) {
         let _ = (txn, place, end);
-        if let Ok(now) = self.clock.monotonic() {
+        if let Ok(now) = Moment::now(&self.clock) {
             self.released = now;
         }
     }

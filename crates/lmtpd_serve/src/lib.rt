@@ -9,6 +9,7 @@ mod conversations;
 mod hanging;
 mod lane_clock;
 mod lines;
+mod moment;
 mod run;
 mod saying;
 mod served;

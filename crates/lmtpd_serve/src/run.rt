@@ -31,14 +31,15 @@ use std::thread::Threads;
 use std::time::Clock;
 
 /// Says where the server listens, runs it for that many conversations, which the lanes share, and says for each mailbox
-/// how many copies it stored. Each lane's log is told of its conversations, and each mailbox's observer of its turns.
-/// Nothing more is said once a write failed; the server runs all the same, as it does where the listener can't tell its
-/// address. What each mailbox's worker did is handed back.
+/// how many copies it stored. Each mailbox has its own quota, if it has one. Each lane's log is told of its
+/// conversations, and each mailbox's observer of its turns. Nothing more is said once a write failed; the server runs
+/// all the same, as it does where the listener can't tell its address. What each mailbox's worker did is handed back.
 pub fn serve_run<L, E, S, T, G, W, H>(
     rt: H,
     alloc: Global,
     site: Arc<Site>,
     sizes: Sizes,
+    quotas: Vec<Option<u64>>,
     conversations: Conversations<E>,
     listener: L,
     spools: Vec<Watched<S, T>>,
@@ -56,13 +57,16 @@ where
     W: Write,
     H: Threads + Wait + Clock + Copy + Drop + Send + Sync + 'static,
     ensures size { let count = length spools.items in
-        result ≡ Err HouseFault.Size ↔ ¬ IsSize (arc_value site) sizes conversations.lanes count count }
+        result ≡ Err HouseFault.Size
+        ↔ ¬ IsSize (arc_value site) sizes conversations.lanes count count (length quotas.items) }
     ensures sized { let count = length spools.items in
-        (result ≡ Err HouseFault.Size) ⊎ IsSize (arc_value site) sizes conversations.lanes count count }
+        (result ≡ Err HouseFault.Size)
+        ⊎ IsSize (arc_value site) sizes conversations.lanes count count (length quotas.items) }
     ensures ran { IfOk result (IsServerRun (arc_value site) (spools_view S.state S.MayFind S.MayRefuse T.told)
         G.Log.told G.Log.lines
         (record {
           sizes = sizes;
+          quotas = quotas.items;
           conversations = conversations;
           listener = listener;
           addresses = G.addresses logs;
@@ -70,12 +74,14 @@ where
         spools.items (W.contents writer.old) (W.contents writer.new)) }
 {
     let lanes = conversations.lanes as usize;
-    if !is_size(&site, sizes, lanes, spools.len(), spools.len()) {
+    let boxes = spools.len();
+    if !is_size(&site, sizes, lanes, boxes, boxes, quotas.len()) {
         return Err(HouseFault::Size);
     }
     let house = ServedHouse {
         site,
         sizes,
+        quotas,
         spools,
     };
     let clients = Clients {
@@ -85,11 +91,12 @@ where
     run_sized(rt, alloc, house, clients, &logs, writer)
 }
 
-/// The site that is served, its sizes, and the spool of each mailbox with its observer.
+/// The site that is served, its sizes, and of each mailbox its quota, and its spool with its observer.
 #[derive(Drop)]
 struct ServedHouse<S: Drop, T: Drop> {
     site: Arc<Site>,
     sizes: Sizes,
+    quotas: Vec<Option<u64>>,
     spools: Vec<Watched<S, T>>,
 }
 
@@ -131,12 +138,14 @@ where
     W: Write,
     H: Threads + Wait + Clock + Copy + Drop + Send + Sync + 'static,
     requires { let count = length house.spools.items in
-        IsSize (arc_value house.site) house.sizes clients.conversations.lanes count count }
+        IsSize (arc_value house.site) house.sizes clients.conversations.lanes count count
+        (length house.quotas.items) }
     ensures sized { result ≡ Err HouseFault.Size → ⊥ }
     ensures ran { IfOk result (IsServerRun (arc_value house.site)
         (spools_view S.state S.MayFind S.MayRefuse T.told) G.Log.told G.Log.lines
         (record {
           sizes = house.sizes;
+          quotas = house.quotas.items;
           conversations = clients.conversations;
           listener = clients.listener;
           addresses = G.addresses logs.now;
@@ -146,6 +155,7 @@ where
     let ServedHouse {
         site,
         sizes,
+        quotas,
         spools,
     } = house;
     let served_site = Arc::try_clone(&site)?;
@@ -156,7 +166,7 @@ where
         visits,
     } = prepare(rt, alloc, spools.len(), clients, logs, writer)?;
     let clock = LaneClock::new(rt, slow);
-    let report = match run_house(rt, alloc, site, sizes, visits, spools, gates, clock) {
+    let report = match run_house(rt, alloc, site, sizes, visits, spools, gates, quotas, clock) {
         Ok(report) => report,
         Err(fault) => return Err(fault),
     };

@@ -1,8 +1,9 @@
 -- What a server has before it listens, and why it hasn't.
-use Rattle.std.specs.Prelude.{◌≡◌, ◌⊎◌, ◌*◌, ◌&&◌, not, if◌then◌else◌, List, None, map, nat_lt, Bool}
+use Rattle.std.specs.Prelude.{◌≡◌, ◌⊎◌, ◌*◌, ◌&&◌, ℕ, not, if◌then◌else◌, List, None, Option, map, nat_lt, Bool}
 use Rattle.log.specs.declared.level.LevelFilter.{LevelFilter}
 use Rattle.log.specs.declared.level.LevelFilter.TheVariants as filter
 use Rattle.mail_world.specs.declared.limits.TheConstants.{BLOCK_SIZE}
+use Rattle.lmtpd_words.specs.Words.{quotas_for}
 use Rattle.lmtpd_words.specs.declared.words.ServeWords.{ServeWords}
 use Rattle.lmtpd_listen.specs.Opened.{IsUnopened}
 use Rattle.lmtpd_listen.specs.declared.fault.ListenFault.{ListenFault}
@@ -37,13 +38,20 @@ access_asked words = record {
 abbrev pub mailboxes_asked : ServeWords → List Held
 mailboxes_asked words = map (held_at (access_asked words)) words.site.boxes.items
 
+-- the quota of each: its own, and else the one of all
+abbrev pub quotas_asked : ServeWords → List (Option ℕ)
+quotas_asked words = quotas_for words.quota words.site
+
 -- all blocks together can't hold one largest message
 abbrev pub is_short : ServeWords → Bool
 is_short words = nat_lt (words.blocks * BLOCK_SIZE) words.site.message_limit
 
 -- up to which level it is logged: errors in any case where the words alone are checked
+abbrev pub level_told : Bool → LevelFilter → LevelFilter
+level_told checks_words asked = if checks_words && not (is_logged asked) then filter.Error else asked
+
 abbrev pub told_level : ServeWords → LevelFilter
-told_level words = if words.check_words && not (is_logged words.log) then filter.Error else words.log
+told_level words = level_told words.check_words words.log
 
 -- why a server isn't set up: it has no site, memory is lacking, or, its site being sound, one of its mailboxes' files
 -- can't be opened, or only their folder can't where it is to start anyway

@@ -25,7 +25,7 @@ use lmtpd_output::printable;
 use log::{Log, error};
 use mail_post::WORKER_THREADS;
 use mbox_file::ThreadFiles;
-use mbox_rd::{FileSpool, RangeLock, SharedBuffer, StdMailboxFile, Writeback};
+use mbox_rd::{BoxedSpool, FileSpool, RangeLock, SharedBuffer, StdMailboxFile, Writeback};
 use slow_boxes::SlowBoxes;
 use std::alloc::Global;
 use std::fs::Files;
@@ -34,8 +34,8 @@ use std::io::ErrorKind;
 use std::sync::Arc;
 use std::time::Clock;
 
-/// A mailbox that waits for other programs until the server is to end.
-pub type WaitingMailbox<R> = FileSpool<StdMailboxFile<R>, HurriedClock<R>>;
+/// A mailbox that waits for other programs until the server is to end. It stands once, wherever a list has room for it.
+pub type WaitingMailbox<R> = BoxedSpool<StdMailboxFile<R>, HurriedClock<R>>;
 
 /// One whose turns are logged.
 pub type ServedMailbox<R, G> = Watched<WaitingMailbox<R>, MailboxLog<LogSink<G>>>;
@@ -144,12 +144,33 @@ where
     if let Err(reason) = file.look() {
         allow_unopened(access, name, &reason, &log)?;
     }
-    let inner = match FileSpool::new(alloc, file, clock, access.wait, buffer) {
+    let inner = mailbox_over(alloc, file, clock, access.wait, buffer)?;
+    let observer = mailbox_log(alloc, name, log)?;
+    Ok(Watched { inner, observer })
+}
+
+// A mailbox over that file, which locks wait that many seconds for.
+fn mailbox_over<'a, R: Files + Clock + Copy + Drop>(
+    alloc: Global,
+    file: StdMailboxFile<R>,
+    clock: HurriedClock<R>,
+    wait: u32,
+    buffer: Arc<SharedBuffer>,
+) -> Result<WaitingMailbox<R>, Stop<'a>>
+where
+    R::File: RangeLock + Writeback,
+    ensures file { IfOk result (λ mailbox. mailbox.file ≡ file) }
+    ensures wait { IfOk result (λ mailbox. mailbox.wait ≡ wait) }
+    ensures err { IfErr result (λ stop. stop ≡ Stop.Fault Fault.Memory) }
+{
+    let spool = match FileSpool::new(alloc, file, clock, wait, buffer) {
         Ok(spool) => spool,
         Err(_) => return Err(Stop::Fault(Fault::Memory)),
     };
-    let observer = mailbox_log(alloc, name, log)?;
-    Ok(Watched { inner, observer })
+    match BoxedSpool::new(alloc, spool) {
+        Ok(mailbox) => Ok(mailbox),
+        Err(_) => Err(Stop::Fault(Fault::Memory)),
+    }
 }
 
 // It is looked at and not opened, since the owner of a file may have that wait: the first turn opens it, or makes it.

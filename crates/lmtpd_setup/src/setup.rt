@@ -8,7 +8,8 @@ ghost use Rattle.lmtpd_words.specs.Words.{serving_site};
 ghost use Rattle.lmtpd_setup.specs.Curfew.{IsCurfewOf};
 ghost use Rattle.lmtpd_setup.specs.Faults.{site_fault};
 ghost use Rattle.lmtpd_setup.specs.Mailboxes.{IsUntold, held_as};
-ghost use Rattle.lmtpd_setup.specs.Setup.{IsNotSetUp, access_asked, ends_asked, mailboxes_asked, told_level};
+ghost use Rattle.lmtpd_setup.specs.Setup.{IsNotSetUp, access_asked, ends_asked, level_told, mailboxes_asked};
+ghost use Rattle.lmtpd_setup.specs.Setup.{quotas_asked, told_level};
 
 use crate::access::Access;
 use crate::descriptors::limits_told;
@@ -50,6 +51,8 @@ where
     pub slow: Arc<SlowBoxes>,
     /// One for each mailbox of the site, in its order, with its log beside it.
     pub spools: Vec<ServedMailbox<H, ServerLog<H>>>,
+    /// The quota of each of them.
+    pub quotas: Vec<Option<u64>>,
     /// What the lanes' logs have in common.
     pub logs: LineSetting<ServerLog<H>, H>,
 }
@@ -70,6 +73,7 @@ where
     ensures sound { IfOk result (λ setup. site_fault words.now.site ≡ None) }
     ensures count { IfOk result (λ setup. length setup.spools.items ≡ length words.now.site.boxes.items) }
     ensures mailboxes { IfOk result (λ setup. map held_as setup.spools.items ≡ mailboxes_asked words.now) }
+    ensures quotas { IfOk result (λ setup. setup.quotas.items ≡ quotas_asked words.now) }
     ensures untold { IfOk result (λ setup. AllByRecursion (λ mailbox. IsUntold mailbox) setup.spools.items) }
     ensures ends { IfOk result (λ setup. IsCurfewOf (ends_asked words.now) (arc_value setup.curfew)) }
     ensures level { IfOk result (λ setup. max_level setup.log ≡ told_level words.now) }
@@ -90,6 +94,7 @@ where
         threads: share_each(threads, alloc, access, boxes, limits)?,
     };
     let spools = open_mailboxes(threads, alloc, access, boxes, &shared, log)?;
+    let quotas = quotas_asked(alloc, words)?;
     let logs = line_setting(threads, log, words, &site)?;
     let Shared { curfew, slow, .. } = shared;
     Ok(ServerSetup {
@@ -98,6 +103,7 @@ where
         curfew,
         slow,
         spools,
+        quotas,
         logs,
     })
 }
@@ -107,10 +113,16 @@ where
 fn told_level(words: &ServeWords<'_>) -> LevelFilter
     ensures { result ≡ told_level words.now }
 {
-    if words.check_words && matches!(words.log, LevelFilter::Off) {
+    level_told(words.check_words, words.log)
+}
+
+fn level_told(checks_words: bool, asked: LevelFilter) -> LevelFilter
+    ensures { result ≡ level_told checks_words asked }
+{
+    if checks_words && matches!(asked, LevelFilter::Off) {
         LevelFilter::Error
     } else {
-        words.log
+        asked
     }
 }
 
@@ -125,6 +137,15 @@ fn access_asked<'a>(words: &ServeWords<'a>) -> Access<'a>
         mode: words.mailbox_mode,
         anyway: words.start_anyway,
     }
+}
+
+// The quota of each mailbox.
+fn quotas_asked(alloc: Global, words: &ServeWords<'_>) -> Result<Vec<Option<u64>>, Fault>
+    ensures ok { IfOk result (λ quotas. quotas.items ≡ quotas_asked words.now) }
+    ensures err { IfErr result (λ f. f ≡ Fault.Memory) }
+{
+    let quotas = words.site.quotas_for(alloc, words.quota)?;
+    Ok(quotas)
 }
 
 // What ends the server and its conversations, for lanes and mailboxes to share.

@@ -5,5 +5,6 @@ pub mod Calls
 pub mod Lacking
 pub mod Given
 pub mod Numbers
+pub mod Prefixes
 mod ServeRows
 mod UsualNumbers

@@ -1,7 +1,7 @@
 -- What the program's words ask for.
 use Rattle.std.specs.Prelude.{◌≡◌, ◌∷◌, ◌++◌, ◌⊎◌, ◌↔◌, IsTrue, ◌<◌, ◌≤◌, ◌^◌, ◌==◌, ◌+◌, ◌-◌, ◌*◌, ◌/◌, min, max, ℕ}
 use Rattle.std.specs.Prelude.{Bool, true, false, nat_le, ◌&&◌, ◌||◌, List, [], Option, Some, None, option_map, map}
-use Rattle.std.specs.Prelude.{codes, length, String}
+use Rattle.std.specs.Prelude.{codes, length, replicate, String}
 use Rattle.std.specs.Prelude.{string_bytes}
 use Rattle.std.specs.declared.alloc.Global.{Global}
 use Rattle.std.specs.Option.{option_map_or}
@@ -15,7 +15,7 @@ use Rattle.log.specs.declared.level.LevelFilter.TheVariants as filter
 use Rattle.mail_world.specs.Site.{Site, IsMessageLimit, is_delimiter}
 use Rattle.mail_world.specs.Text.{has_byte}
 use Rattle.lmtp_text.specs.Sites.{site_of, texts}
-use Rattle.lmtpd_words.specs.Boxes.{listed_boxes}
+use Rattle.lmtpd_words.specs.Boxes.{listed_boxes, listed_quotas}
 use Rattle.lmtpd_words.specs.declared.words.TheConstants.{DEFAULT_BAD_COMMANDS}
 use Rattle.lmtpd_words.specs.declared.words.TheConstants.{DEFAULT_BLOCKS, DEFAULT_CAPACITY, DEFAULT_LANES}
 use Rattle.lmtpd_words.specs.declared.words.TheConstants.{DEFAULT_LOCK_WAIT, DEFAULT_LOG, DEFAULT_MAILBOX_MODE}
@@ -23,6 +23,8 @@ use Rattle.lmtpd_words.specs.declared.words.TheConstants.{DEFAULT_READS, DEFAULT
 use Rattle.lmtpd_words.specs.declared.words.TheConstants.{DEFAULT_SUFFIX, DEFAULT_TIMEOUT, MODE_DIGIT_LIMIT}
 use Rattle.lmtpd_words.specs.declared.words.TheConstants.{SUFFIX_LIMIT}
 use Rattle.mail_world.specs.declared.limits.TheConstants.{MODE_LIMIT, MESSAGE_LIMIT, BLOCK_SIZE, BLOCK_LIMIT}
+use Rattle.lmtpd_words.specs.Quotas.{quota_for}
+use Rattle.lmtpd_words.specs.declared.quotas.BoxQuota.TheVariants.{Asked}
 use Rattle.lmtpd_words.specs.declared.words.SiteWords.{SiteWords}
 use Rattle.lmtpd_words.specs.declared.words.RehearseWords.{RehearseWords}
 use Rattle.lmtpd_words.specs.declared.words.ServeWords.{ServeWords}
@@ -176,6 +178,7 @@ pub record IsSiteRead (rows : List Row) (words : SiteWords) : Type 0 where
   pub boxes_file : first_of (codes "boxes") rows ≡ option_map (λ path. path.now) words.boxes_file
   pub listed : words.listed.now ≡ []
   pub boxes : texts words.boxes.items ≡ option_map_or (λ names. names) (all_of (codes "box") rows) []
+  pub quotas : words.quotas.items ≡ replicate (length words.boxes.items) Asked
   pub message_limit : IsMessageLimitOr (one_of (codes "message-limit") rows) words.message_limit
   pub recipient_delimiter : IsDelimiterIfGiven (first_of (codes "recipient-delimiter") rows) words.recipient_delimiter
   pub rename_marks : IsFlag (one_of (codes "rename-marks") rows) words.rename_marks
@@ -281,6 +284,7 @@ pub record HasListed (text : Text) (words filled : SiteWords) : Type 0 where
   pub boxes_file : filled.boxes_file ≡ words.boxes_file
   pub listed : filled.listed.now ≡ text
   pub boxes : texts filled.boxes.items ≡ texts words.boxes.items ++ listed_boxes text
+  pub quotas : filled.quotas.items ≡ words.quotas.items ++ listed_quotas text
   pub message_limit : filled.message_limit ≡ words.message_limit
   pub recipient_delimiter : filled.recipient_delimiter ≡ words.recipient_delimiter
   pub rename_marks : filled.rename_marks ≡ words.rename_marks
@@ -288,6 +292,10 @@ pub record HasListed (text : Text) (words filled : SiteWords) : Type 0 where
   pub smtputf8 : filled.smtputf8 ≡ words.smtputf8
   pub reject_over_quota : filled.reject_over_quota ≡ words.reject_over_quota
   pub mailbox_suffix : filled.mailbox_suffix ≡ words.mailbox_suffix
+
+-- the quota that counts for each of their mailboxes, in their order, where that one is asked of all
+abbrev pub quotas_for : Option ℕ → SiteWords → List (Option ℕ)
+quotas_for asked words = map (quota_for asked) words.quotas.items
 
 -- the site that they name
 abbrev pub named_site : SiteWords → Site

@@ -1,13 +1,14 @@
 //! What `lmtpd` is told: the words of its command line, the usual numbers, the version and the help, and the mailboxes
-//! that a text lists.
+//! that a text lists, with their quotas.
 //!
-//! The program uses what `clap` took, the values in it, and the names of a text. It opens no file, and never knows what
-//! is done with the words.
+//! The program uses what `clap` took, the values in it, and the names and quotas of a text. It opens no file, and never
+//! knows what is done with the words.
 #![tactic(auto)]
 
 mod arguments;
 mod boxes;
 mod command;
+mod quotas;
 mod reading;
 mod suffix;
 mod texts;
@@ -15,6 +16,7 @@ mod values;
 mod words;
 
 pub use boxes::{count_names, line_of_name};
+pub use quotas::BoxQuota;
 pub use reading::{not_text, read_words};
 pub use words::{
     BOXES_FILE_LIMIT, CheckWords, CopyWords, DEFAULT_BAD_COMMANDS, DEFAULT_BLOCKS,

@@ -14,6 +14,7 @@ ghost use Rattle.lmtpd_words.specs.Words.{IsLacking, LacksCheck, LacksCopied, La
 ghost use Rattle.lmtpd_words.specs.Words.{LacksServe, LacksSite};
 ghost use Rattle.lmtpd_words.specs.Words.{is_log_level, number, listed};
 
+use crate::quotas::BoxQuota;
 use crate::suffix::suffix_of;
 use crate::texts::{
     BAD_DELIMITER, BAD_FOLDER, BAD_LEVEL, BAD_MAILBOX_MODE, BAD_OVER_QUOTA, BAD_SOCKET_MODE,
@@ -223,12 +224,14 @@ fn site_words<'a>(
     };
     let domains = domains_of(alloc, matches)?;
     let boxes = boxes_of(alloc, matches)?;
+    let quotas = vec![in alloc; BoxQuota::Asked; boxes.len()]?;
     Ok(Some(SiteWords {
         host,
         domains,
         boxes_file: boxes_file_of(matches),
         listed: b"",
         boxes,
+        quotas,
         message_limit,
         recipient_delimiter,
         rename_marks: is_given(matches, "rename-marks"),

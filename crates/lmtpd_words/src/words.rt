@@ -1,9 +1,10 @@
 //! What the words ask for, and the numbers and the level where they name none.
 
-ghost use Rattle.std.specs.Prelude.{◌≡◌, true};
+ghost use Rattle.std.specs.Prelude.{◌≡◌, length, true};
 ghost use Rattle.std.specs.Option.{option_map_or};
 ghost use Rattle.mail_world.specs.Site.{IsMessageLimit, is_delimiter};
 
+use crate::quotas::BoxQuota;
 use log::LevelFilter;
 
 /// The least blocks for messages on their way where the words name no number of them.
@@ -62,6 +63,9 @@ pub struct SiteWords<'a> {
     pub listed: &'a [u8],
     /// The names as they were given, which may be no text, and then those of the file.
     pub boxes: Vec<&'a [u8]>,
+    /// What is said of the quota of each of them, in the same order: of those of the words nothing.
+    pub quotas: Vec<BoxQuota>,
+    ghost matched: { length quotas.items ≡ length boxes.items },
     /// How many bytes a message may have.
     pub message_limit: u32,
     ghost limited: { IsMessageLimit message_limit },

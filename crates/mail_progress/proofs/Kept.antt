@@ -144,8 +144,8 @@ hand_of : (h : House) (box : Box) (copy : Copy) → box.hand ≡ Some copy → H
 hand_of h box copy e r = subst (HandIsRight h) e r
 
 -- a turn that begins, and one that goes on
-part_begun : (h : House) (note : Note) (lock : Standing) → IsPart h note (begun h note lock)
-part_begun h note lock = by (has_room h.calendar h.site h.quota note lock.bytes)
+part_begun : (h : House) (quota : Option ℕ) (note : Note) (lock : Standing) → IsPart h note (begun h quota note lock)
+part_begun h quota note lock = by (has_room h.calendar h.site quota note lock.bytes)
   where
     by : (t : Bool) → IsPart h note (if t then Going lock 0 else Full lock)
     by true = omega arith
@@ -192,7 +192,7 @@ kept_step h (Lock w bytes) new s st =
     let lock : Standing = record { bytes = bytes; synced = st.kept; failures = st.failures } in
     subst KeptSoFar (sym st.after) (kept_box h _ w st.box _ s (λ note bytes. refl) st.is refl refl
     (λ ok. let r = hand_of h st.box st.copy st.in_hand ok.hand in
-    record { posts = ok.posts; hand = (r.0, part_begun h st.copy.post.note lock); prefix = ok.prefix }))
+    record { posts = ok.posts; hand = (r.0, part_begun h st.box.quota st.copy.post.note lock); prefix = ok.prefix }))
 kept_step h (Write w bytes) new s st =
     subst KeptSoFar (sym st.after) (kept_box h _ w st.box _ s (λ note bytes. refl) st.is refl refl
     (λ ok. let r = hand_of h st.box st.copy st.in_hand ok.hand in

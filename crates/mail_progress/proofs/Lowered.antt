@@ -224,9 +224,10 @@ lowers blocks room bound h (Take w) new s st o b =
 lowers blocks room bound h (Lock w bytes) new s st o b =
     let lock : Standing = record { bytes = bytes; synced = st.kept; failures = st.failures } in
     let note = st.copy.post.note in
+    let quota = st.box.quota in
     subst (Left blocks room bound h) (sym st.after)
-    (turn_lowers blocks room bound h w st.box st.copy bytes st.kept st.box.turns (begun h note lock) s.turns st.is st.in_hand (ap open_by st.first)
-    (subst (λ p. steps_of_turn h note (begun h note lock) < steps_of_turn h note p) (sym st.first) (lock_lowers h note lock)))
+    (turn_lowers blocks room bound h w st.box st.copy bytes st.kept st.box.turns (begun h quota note lock) s.turns st.is st.in_hand (ap open_by st.first)
+    (subst (λ p. steps_of_turn h note (begun h quota note lock) < steps_of_turn h note p) (sym st.first) (lock_lowers h quota note lock)))
 lowers blocks room bound h (Miss w) new s st o b =
     let note = st.copy.post.note in
     subst (Left blocks room bound h) (sym st.after)

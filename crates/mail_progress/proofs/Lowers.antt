@@ -1,5 +1,5 @@
 -- Each event of a turn lowers the number of the steps that are left of its copy.
-use Rattle.std.proofs.Common.{◌≡◌, ℕ, ◌+◌, ◌-◌, ◌<◌, ◌≤◌, List, ◌++◌, length, drop, Bool, true, false, Some, ap, sym, ◌∙◌, arith, length-append}
+use Rattle.std.proofs.Common.{◌≡◌, ℕ, ◌+◌, ◌-◌, ◌<◌, ◌≤◌, List, ◌++◌, length, drop, Bool, true, false, Option, Some, ap, sym, ◌∙◌, arith, length-append}
 use Rattle.std.specs.Prelude.{if◌then◌else◌}
 use Rattle.std.proofs.lemmas.List.{length-drop}
 use Rattle.mail_world.specs.declared.Note.{Note}
@@ -15,8 +15,9 @@ lock_by : (h : House) (note : Note) (lock : Standing) (t : Bool) → steps_of_tu
 lock_by h note lock true = omega (arith, mended_few lock.bytes, length-append (mended lock.bytes) (record_of h.calendar h.site note))
 lock_by h note lock false = omega arith
 
-pub lock_lowers : (h : House) (note : Note) (lock : Standing) → steps_of_turn h note (begun h note lock) < steps_of_turn h note Taken
-lock_lowers h note lock = lock_by h note lock (has_room h.calendar h.site h.quota note lock.bytes)
+pub lock_lowers : (h : House) (quota : Option ℕ) (note : Note) (lock : Standing)
+    → steps_of_turn h note (begun h quota note lock) < steps_of_turn h note Taken
+lock_lowers h quota note lock = lock_by h note lock (has_room h.calendar h.site quota note lock.bytes)
 
 pub write_lowers : (h : House) (note : Note) (lock : Standing) (written : ℕ) (bytes more : List ℕ) → 1 ≤ length bytes
     → drop written (added h note lock.bytes) ≡ bytes ++ more

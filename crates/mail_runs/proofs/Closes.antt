@@ -11,6 +11,7 @@ use Rattle.mail_world.specs.Turns.{Told as HadTurn}
 use Rattle.mail_world.specs.Lists.{of_lane}
 use Rattle.mail_world.specs.House.{House, Lane, Box, Copy, Post, notes_of, with_box}
 use Rattle.mail_world.specs.Events.{LaneIs, BoxIs, CloseStep}
+use Rattle.mail_world.specs.Quotas.{quota_at}
 use Rattle.mail_world.specs.Runs.{last_house}
 use Rattle.mail_world.proofs.LastSeal.{length_set}
 use Rattle.mail_world.proofs.OtherSteps.{there_is}
@@ -22,7 +23,7 @@ use Rattle.mail_runs.specs.Histories.{Threads}
 use Rattle.mail_runs.specs.RunOf.{kept_by, EndsAs, HeardAs, IsRunOf}
 use Rattle.mail_runs.proofs.Manners.{Manner, Owed}
 use Rattle.mail_runs.proofs.Parts.{each_set}
-use Rattle.mail_runs.proofs.Same.{Frame, frame_of, frame_run}
+use Rattle.mail_runs.proofs.Same.{Frame, frame_of, frame_run, quota_there}
 use Rattle.mail_runs.proofs.Story.{Story, goes_on}
 use Rattle.mail_runs.proofs.Stands.{BeginsCopy, TurnsLeft, BoxStands, LaneStands, IsIdle, IsGiving}
 use Rattle.mail_runs.proofs.Next.{Next}
@@ -75,6 +76,7 @@ closed s capacity b course box stands =
           (no_posts (drop box.taken box.accepted) (sym (append-nil (notes_of (drop box.taken box.accepted))) ∙ stands.work.queue ∙ d.none));
       closed = refl;
       free_hand = d.free_hand;
+      quota = stands.quota;
       old = stands.old;
       turns = d.turns;
       spool = d.bytes;
@@ -86,7 +88,7 @@ record IsClosing (m : Manner) (s : Server) (t : Threads) (capacity n : ℕ) : Ty
   house : House
   story : Story m house
   room : house.capacity ≡ capacity
-  setting : (house.calendar ≡ s.calendar) × (house.site ≡ s.site) × (house.quota ≡ s.quota)
+  setting : (house.calendar ≡ s.calendar) × (house.site ≡ s.site)
   as_many : (length house.boxes ≡ s.boxes) × (length house.lanes ≡ s.lanes)
   shut : (b : ℕ) (box : Box) → BoxIs house b box → b < n → EndsAs (t.courses b) box
   open_yet : (b : ℕ) (box : Box) → BoxIs house b box → n ≤ b → BoxStands s capacity b (t.courses b) [] box
@@ -170,8 +172,13 @@ ends {m} s t next =
         run = story.run;
         starts = story.starts;
         runs = story.runs;
-        setting = (sym (ap (λ (f : Frame). f.calendar) frame) ∙ c.setting.0, site, sym (ap (λ (f : Frame). f.quota) frame) ∙ c.setting.2);
+        setting = (sym (ap (λ (f : Frame). f.calendar) frame) ∙ c.setting.0, site);
         as_many = (sym (ap (λ (f : Frame). f.boxes) frame) ∙ c.as_many.0, sym (ap (λ (f : Frame). f.lanes) frame) ∙ c.as_many.1);
+        quotas = λ b box is.
+            let low : b < s.boxes = subst (λ n. b < n) (sym (ap (λ (f : Frame). f.boxes) frame) ∙ c.as_many.0) (slice_get_within story.start.boxes b box is) in
+            let last = there_is c.house.boxes b (subst (λ n. b < n) (sym c.as_many.0) low) in
+            sym (quota_there story.start.boxes b box is) ∙ sym (ap (λ (f : Frame). quota_at f.quotas b) frame)
+            ∙ quota_there c.house.boxes b last.0 last.1 ∙ (c.shut b last.0 last.1 low).quota;
         offered = λ k b low.
             let box = there_is c.house.boxes b (subst (λ n. b < n) (sym c.as_many.0) low) in
             sym (accepts.order k b box.0 (box_is b box.0 box.1)) ∙ ap (of_lane k) (c.shut b box.0 box.1 low).accepted;

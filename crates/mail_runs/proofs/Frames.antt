@@ -115,6 +115,7 @@ box_past s capacity b course d rest box past stands =
     let none_taken : length (taken_by b (d ∷ [])) ≡ 0 = ap length (p.taken []) in
     let none_given : length (given_to b (d ∷ [])) ≡ 0 = ap length (p.given []) in
     record {
+      quota = stands.quota;
       old = stands.old;
       still_open = stands.still_open;
       prefix = stands.prefix;

@@ -127,6 +127,7 @@ given_here s capacity t note key rest box stands =
     ∙ map-append (λ (p : Post). p.note) (drop box.taken box.accepted) (post ∷ []) in
     let low = stands.prefix in
     record {
+      quota = stands.quota;
       old = stands.old;
       still_open = stands.still_open;
       prefix = omega arith;

@@ -136,7 +136,7 @@ told_in_turns b (note ∷ notes) (outcome ∷ outcomes) = ap (λ l. slip_of b no
 
 turns_take : (s : Server) (b : ℕ) (c : Course) → IsCourse s c → flat_map taken_in (turns_of b c.taken (outcomes_in c.turns)) ≡ c.taken
 turns_take s b c is =
-    taken_in_turns b c.taken (outcomes_in c.turns) (many s c.taken c.turns is.0)
+    taken_in_turns b c.taken (outcomes_in c.turns) (many s c.quota c.taken c.turns is.0)
 
 -- what passed a channel, as deeds: what they are, their times, and those of one lane or worker
 module _ {A : Type 0} (make : A → Deed) where

@@ -1,6 +1,6 @@
 -- With one lane all copies can be given first. Then, for each slip that was heard, its worker takes the next copy of its
 -- mailbox and tells the slip, and the lane hears it.
-use Rattle.std.proofs.Common.{◌≡◌, ◌≢◌, ℕ, ◌+◌, ◌<◌, ◌≤◌, ◌==◌, List, [], ◌∷◌, ◌++◌, length, map, Bool, true, false, cond, refl, ap, sym, ◌∙◌, subst, ⊎_elim}
+use Rattle.std.proofs.Common.{◌≡◌, ◌≢◌, ℕ, ◌+◌, ◌<◌, ◌≤◌, ◌==◌, List, [], ◌∷◌, ◌++◌, length, map, Bool, true, false, cond, refl, ap, sym, ◌∙◌, subst, ⊎_elim, Option}
 use Rattle.std.proofs.Common.{arith, length-append}
 use Rattle.std.specs.Prelude.{flat_map}
 use Rattle.std.specs.List.{AllByRecursion}
@@ -263,11 +263,12 @@ all_fit b [] all = tt
 all_fit b (note ∷ notes) all = fit_if b note notes (note.mailbox == b) refl all.0 (all_fit b notes all.1)
 
 -- as many outcomes as copies
-pub many : (s : Server) (notes : List Note) (turns : List HadTurn) → HaveTurns s.calendar s.site s.quota notes turns → length (outcomes_in turns) ≡ length notes
-many s [] [] t = refl
-many s [] (told ∷ turns) t = absurd t
-many s (note ∷ notes) [] t = absurd t
-many s (note ∷ notes) (told ∷ turns) t = let m = many s notes turns t.1 in omega arith
+pub many : (s : Server) (quota : Option ℕ) (notes : List Note) (turns : List HadTurn) → HaveTurns s.calendar s.site quota notes turns
+    → length (outcomes_in turns) ≡ length notes
+many s quota [] [] t = refl
+many s quota [] (told ∷ turns) t = absurd t
+many s quota (note ∷ notes) [] t = absurd t
+many s quota (note ∷ notes) (told ∷ turns) t = let m = many s quota notes turns t.1 in omega arith
 
 -- copies that are given before other deeds
 abbrev giving : List Note → List Deed
@@ -324,7 +325,7 @@ one_lane s t is =
     let outcomes : ℕ → List Outcome = λ b. outcomes_in (t.courses b).turns in
     let l : AreLeft s takes outcomes (t.heard 0) = record {
       told = is.told;
-      as_many = λ b below. many s (t.courses b).taken (t.courses b).turns (is.courses b below).0;
+      as_many = λ b below. many s (t.courses b).quota (t.courses b).taken (t.courses b).turns (is.courses b below).0;
       fits = λ b below. subst (λ ns. AllByRecursion (IsFor b) ns) (sym (is.taken b below)) (all_fit b notes ours);
       workers = is.told_only;
     } in

@@ -34,7 +34,7 @@ use Rattle.mail_runs.proofs.Gives.{IsOpening, IsPlaced, opening, message_is, pla
 pub record MayOpen (m : Manner) (s : Server) (t : Threads) (note : Note) (rest : List Deed) : Type 0 where
   pub house : House
   pub story : Story m house
-  pub setting : (house.calendar ≡ s.calendar) × (house.site ≡ s.site) × (house.quota ≡ s.quota)
+  pub setting : (house.calendar ≡ s.calendar) × (house.site ≡ s.site)
   pub as_many : (length house.boxes ≡ s.boxes) × (length house.lanes ≡ s.lanes)
   pub within : AllByRecursion (IsWithin s) (Gave note ∷ rest)
   pub boxes : (b : ℕ) (box : Box) → BoxIs house b box → BoxStands s house.capacity b (t.courses b) (Gave note ∷ rest) box

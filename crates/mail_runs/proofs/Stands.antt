@@ -26,7 +26,7 @@ BeginsCopy b all turns (Some copy) = (copy.released ≡ true) × (all ≡ Told (
 
 -- the turns that are left of a course, where the mailbox holds these bytes, keeps so many and had these turns
 pub record TurnsLeft (s : Server) (course : Course) (notes : List Note) (turns : List HadTurn) (spool : List ℕ) (kept : ℕ) (had : List HadTurn) : Type 0 where
-  pub have : HaveTurns s.calendar s.site s.quota notes turns
+  pub have : HaveTurns s.calendar s.site course.quota notes turns
   pub keep : AllKeep turns
   pub all : had ++ turns ≡ course.turns
   pub bytes : left_by spool turns ≡ left_by course.old course.turns
@@ -46,6 +46,7 @@ pub record Flows (capacity b waiting : ℕ) (left : List Deed) : Type 0 where
 
 -- a mailbox
 pub record BoxStands (s : Server) (capacity b : ℕ) (course : Course) (left : List Deed) (box : Box) : Type 0 where
+  pub quota : box.quota ≡ course.quota
   pub old : box.old ≡ course.old
   pub still_open : box.closed ≡ false
   pub prefix : box.taken ≤ length box.accepted
@@ -110,7 +111,7 @@ pub record DepotStands (left : List Deed) (d : Depot) : Type 0 where
 
 -- the house
 pub record Stands (m : Manner) (s : Server) (t : Threads) (left : List Deed) (h : House) : Type 0 where
-  pub setting : (h.calendar ≡ s.calendar) × (h.site ≡ s.site) × (h.quota ≡ s.quota)
+  pub setting : (h.calendar ≡ s.calendar) × (h.site ≡ s.site)
   pub as_many : (length h.boxes ≡ s.boxes) × (length h.lanes ≡ s.lanes)
   pub within : AllByRecursion (IsWithin s) left
   pub boxes : (b : ℕ) (box : Box) → BoxIs h b box → BoxStands s h.capacity b (t.courses b) left box

@@ -96,7 +96,17 @@ large_once slots blocks x = ap (λ bs. occurrences x (numbers_below blocks ++ bs
     ∙ each_once blocks x
 
 abbrev first_box : Course → Box
-first_box course = record { old = course.old; accepted = []; taken = 0; closed = false; spool = course.old; kept = 0; turns = []; hand = None }
+first_box course = record {
+  quota = course.quota;
+  old = course.old;
+  accepted = [];
+  taken = 0;
+  closed = false;
+  spool = course.old;
+  kept = 0;
+  turns = [];
+  hand = None;
+}
 
 abbrev first_lane : Lane
 first_lane = record {
@@ -124,6 +134,7 @@ a_first_box m s t deeds p b low =
       record {
         fresh = record { accepted = refl; taken = refl; closed = refl; spool = refl; kept = omega arith; turns = refl; hand = refl };
         stands = record {
+          quota = refl;
           old = refl;
           still_open = refl;
           prefix = omega arith;
@@ -183,7 +194,6 @@ begins m s t deeds p =
     let start : House = record {
       calendar = s.calendar;
       site = s.site;
-      quota = s.quota;
       capacity = m.capacity;
       depot = large slots blocks;
       boxes = boxes.all;
@@ -199,7 +209,7 @@ begins m s t deeds p =
       house = start;
       story = record { blocks = blocks; start = start; run = []; starts = starts; runs = tt; last = refl; capacity_is = refl; orderly = λ o. tt };
       stands = record {
-        setting = (refl, refl, refl);
+        setting = (refl, refl);
         as_many = (boxes.long, lanes.long);
         within = p.history.within;
         boxes = λ b box is. (boxes.each b box is).stands;

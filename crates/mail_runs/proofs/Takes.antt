@@ -36,7 +36,7 @@ record NextTurn (s : Server) (b : ℕ) (course : Course) (note : Note) (left : L
   turns : List HadTurn
   program : left ≡ Told (slip_of b note told.outcome) ∷ turns_of b notes (outcomes_in turns)
   queue : waiting ≡ note ∷ notes
-  is : IsTurn s.calendar s.site s.quota note told.outcome told.turn
+  is : IsTurn s.calendar s.site course.quota note told.outcome told.turn
   keeps : KeepsInTurn told.outcome told.turn
   takes : TurnsLeft s course notes turns (left_after spool told.turn) (kept_after kept told.turn) (had ++ told ∷ [])
 
@@ -57,7 +57,7 @@ turn_free s b course note left waiting (n ∷ notes) (told ∷ turns) spool kept
           let l : left ≡ Told (slip_of b n told.outcome) ∷ turns_of b notes (outcomes_in turns) = cc in
           l ∙ ap (λ m. Told (slip_of b m told.outcome) ∷ turns_of b notes (outcomes_in turns)) same;
       queue = queue ∙ ap (λ m. m ∷ notes) same;
-      is = subst (λ m. IsTurn s.calendar s.site s.quota m told.outcome told.turn) same takes.have.0;
+      is = subst (λ m. IsTurn s.calendar s.site course.quota m told.outcome told.turn) same takes.have.0;
       keeps = takes.keep.0;
       takes = record {
         have = takes.have.1;
@@ -119,6 +119,7 @@ oldest_of note given notes box low queue =
 -- a mailbox whose worker took a copy: what it holds and keeps, its turns, and the copy
 abbrev handed : Box → List ℕ → ℕ → List HadTurn → Copy → Box
 handed box spool kept turns copy = record {
+  quota = box.quota;
   old = box.old;
   accepted = box.accepted;
   taken = box.taken + 1;
@@ -151,6 +152,7 @@ box_after s capacity course note rest box stands turn oldest =
     let some : 1 ≤ length box.accepted - box.taken = one_waits note (length box.accepted - box.taken) rest stands.flows.taken_later in
     let one : length (taken_by b (Took note ∷ [])) ≡ 1 = ap length (passes (λ (n : Note). n.mailbox == b) note [] (same_number b b refl)) in
     record {
+      quota = stands.quota;
       old = stands.old;
       still_open = stands.still_open;
       prefix = omega arith;
@@ -207,7 +209,7 @@ miss_story h b box old spool kept turns post is story =
 
 -- or begins
 lock_story : {m : Manner} (h : House) (b : ℕ) (box old : Box) (spool : List ℕ) (kept : ℕ) (turns : List HadTurn) (post : Post) (lock : Standing)
-    (progress : Progress) → BoxIs h b old → lock.synced ≤ length lock.bytes → begun h post.note lock ≡ progress
+    (progress : Progress) → BoxIs h b old → lock.synced ≤ length lock.bytes → begun h box.quota post.note lock ≡ progress
     → StoryAt m h b box spool kept turns (at_hand post Taken) → StoryAt m h b box lock.bytes lock.synced turns (at_hand post progress)
 lock_story h b box old spool kept turns post lock progress is within begins story =
     let mid : Box = handed box spool kept turns (at_hand post Taken) in
@@ -221,7 +223,7 @@ lock_story h b box old spool kept turns post lock progress is within begins stor
       in_hand = refl;
       first = refl;
       within = within;
-      after = sym (ap (λ p. with_box h b (new p)) begins) ∙ again h b mid (new (begun h post.note lock));
+      after = sym (ap (λ p. with_box h b (new p)) begins) ∙ again h b mid (new (begun h box.quota post.note lock));
     }) (λ o. tt)
 
 -- a part of what the turn appends is written, where it isn't empty
@@ -331,42 +333,42 @@ release_story h b box old spool kept turns post outcome is story =
     }
 
 abbrev IsSetting : Server → House → Type 0
-IsSetting s h = (h.calendar ≡ s.calendar) × (h.site ≡ s.site) × (h.quota ≡ s.quota)
+IsSetting s h = (h.calendar ≡ s.calendar) × (h.site ≡ s.site)
 
 added_is : (s : Server) (h : House) (post : Post) (note : Note) (bytes : List ℕ) → IsSetting s h → post.note ≡ note
     → added h post.note bytes ≡ addition s.calendar s.site note bytes
 added_is s h post note bytes setting is = rw (setting.0, setting.1, is) refl
 
-begins_so : (s : Server) (h : House) (post : Post) (note : Note) (lock : Standing) (room : Bool) → IsSetting s h → post.note ≡ note
-    → has_room s.calendar s.site s.quota note lock.bytes ≡ room → begun h post.note lock ≡ (if room then Going lock 0 else Full lock)
-begins_so s h post note lock room setting is e =
-    let here : has_room h.calendar h.site h.quota post.note lock.bytes ≡ room = rw (setting.0, setting.1, setting.2, is) e in
+begins_so : (s : Server) (h : House) (quota : Option ℕ) (post : Post) (note : Note) (lock : Standing) (room : Bool) → IsSetting s h → post.note ≡ note
+    → has_room s.calendar s.site quota note lock.bytes ≡ room → begun h quota post.note lock ≡ (if room then Going lock 0 else Full lock)
+begins_so s h quota post note lock room setting is e =
+    let here : has_room h.calendar h.site quota post.note lock.bytes ≡ room = rw (setting.0, setting.1, is) e in
     ap (λ r. if r then Going lock 0 else Full lock) here
 
 -- a turn from its lock to its unlock
 turn_had : {m : Manner} (s : Server) (h : House) (b : ℕ) (box old : Box) (note : Note) (post : Post) (spool : List ℕ) (kept : ℕ) (turns : List HadTurn)
     (outcome : Outcome) (lock unlock : Standing) → IsSetting s h → BoxIs h b old → post.note ≡ note
-    → IsTurn s.calendar s.site s.quota note outcome (Had lock unlock) → KeepsInTurn outcome (Had lock unlock)
+    → IsTurn s.calendar s.site box.quota note outcome (Had lock unlock) → KeepsInTurn outcome (Had lock unlock)
     → StoryAt m h b box spool kept turns (at_hand post Taken)
     → StoryAt m h b box unlock.bytes unlock.synced (turns ++ record { outcome = outcome; turn = Had lock unlock } ∷ []) (at_hand post (Done outcome))
 turn_had {m} s h b box old note post spool kept turns Stored lock unlock setting is same turn keeps story =
     let add : List ℕ = addition s.calendar s.site note lock.bytes in
     let e : added h post.note lock.bytes ≡ add = added_is s h post note lock.bytes setting same in
     let size : length (added h post.note lock.bytes) ≡ length add = ap length e in
-    let begins = begins_so s h post note lock true setting same turn.room in
+    let begins = begins_so s h box.quota post note lock true setting same turn.room in
     let locked = lock_story h b box old spool kept turns post lock (Going lock 0) is keeps.0 begins story in
     let wrote = write_story h b box old lock.bytes lock.synced turns post lock add [] is (e ∙ sym (append-nil add)) locked in
     let synced = sync_story h b box old (lock.bytes ++ add) lock.synced turns post lock (0 + length add) is (omega arith) wrote in
     let there = subst (λ x. StoryAt m h b box x (length x) turns (at_hand post (Synced lock))) (sym turn.whole) synced in
     unlock_story h b box old (length unlock.bytes) turns post (Synced lock) lock unlock Stored is refl turn.covered turn.sound there
 turn_had {m} s h b box old note post spool kept turns OverQuota lock unlock setting is same turn keeps story =
-    let begins = begins_so s h post note lock false setting same turn.room in
+    let begins = begins_so s h box.quota post note lock false setting same turn.room in
     let locked = lock_story h b box old spool kept turns post lock (Full lock) is keeps.0 begins story in
     let there = subst (λ x. StoryAt m h b box x lock.synced turns (at_hand post (Full lock))) (sym turn.same) locked in
     unlock_story h b box old lock.synced turns post (Full lock) lock unlock OverQuota is refl keeps.1 turn.sound there
 turn_had {m} s h b box old note post spool kept turns Failed lock unlock setting is same turn keeps story =
     let e : added h post.note lock.bytes ≡ turn.prefix ++ turn.part.rest = added_is s h post note lock.bytes setting same ∙ turn.part.whole in
-    let begins = begins_so s h post note lock true setting same turn.room in
+    let begins = begins_so s h box.quota post note lock true setting same turn.room in
     let locked = lock_story h b box old spool kept turns post lock (Going lock 0) is keeps.0 begins story in
     let wrote = write_story h b box old lock.bytes lock.synced turns post lock turn.prefix turn.part.rest is e locked in
     let there = subst (λ x. StoryAt m h b box x lock.synced turns (at_hand post (Going lock (0 + length turn.prefix)))) (sym turn.left) wrote in
@@ -375,7 +377,7 @@ turn_had s h b box old note post spool kept turns _ lock unlock setting is same 
 
 -- a turn of a copy that was taken, had or missed
 turned : {m : Manner} (s : Server) (h : House) (b : ℕ) (box : Box) (note : Note) (post : Post) (outcome : Outcome) (turn : Turn) → IsSetting s h
-    → BoxIs h b box → post.note ≡ note → IsTurn s.calendar s.site s.quota note outcome turn → KeepsInTurn outcome turn
+    → BoxIs h b box → post.note ≡ note → IsTurn s.calendar s.site box.quota note outcome turn → KeepsInTurn outcome turn
     → StoryAt m h b box box.spool box.kept box.turns (at_hand post Taken)
     → StoryAt m h b box (left_after box.spool turn) (kept_after box.kept turn) (box.turns ++ record { outcome = outcome; turn = turn } ∷ [])
     (at_hand post (Done outcome))
@@ -409,8 +411,10 @@ takes s t note rest h stands story =
     let turn = turn_next s h.capacity (t.courses b) note rest box here in
     let some : 1 ≤ length box.accepted - box.taken = one_waits note (length box.accepted - box.taken) rest here.flows.taken_later in
     let oldest = oldest_of note (given_to b rest) turn.notes box (omega arith) turn.queue in
+    let its : IsTurn s.calendar s.site box.quota note turn.told.outcome turn.told.turn =
+    subst (λ q. IsTurn s.calendar s.site q note turn.told.outcome turn.told.turn) (sym here.quota) turn.is in
     let took = take_story h b box oldest.post there.1 turn.free_hand oldest.at story in
-    let told = turned s h b box note oldest.post turn.told.outcome turn.told.turn stands.setting there.1 oldest.is turn.is turn.keeps took in
+    let told = turned s h b box note oldest.post turn.told.outcome turn.told.turn stands.setting there.1 oldest.is its turn.keeps took in
     let gone = release_story h b box box (left_after box.spool turn.told.turn) (kept_after box.kept turn.told.turn) (box.turns ++ turn.told ∷ []) oldest.post
     turn.told.outcome there.1 told in
     let changed : Box = after_turn box turn.told oldest.post in

@@ -64,6 +64,7 @@ box_after : (s : Server) (capacity : ℕ) (course : Course) (slip : Slip) (rest 
     → BoxStands s capacity slip.worker course rest (freed box)
 box_after s capacity course slip rest box stands =
     record {
+      quota = stands.quota;
       old = stands.old;
       still_open = stands.still_open;
       prefix = stands.prefix;

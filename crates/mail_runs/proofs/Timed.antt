@@ -387,7 +387,7 @@ module _ (s : Server) (t : Threads) (x : Timed) (h : AreTimed s t x) where
       sym (notes_taken (x.copies b)) ∙ ap (λ l. flat_map taken_in (whats l)) (sym (h.agree.took b low)) ∙ sym ((takings b).are (x.workers b))
       ∙ own_takings b (x.workers b) ∙ ap (λ l. flat_map taken_in (whats l)) (h.of_workers b low) ∙ ap (flat_map taken_in) (h.workers b low)
       ∙ taken_in_turns b (t.courses b).taken (outcomes_in (t.courses b).turns)
-      (many s (t.courses b).taken (t.courses b).turns (h.courses b low).0)
+      (many s (t.courses b).quota (t.courses b).taken (t.courses b).turns (h.courses b low).0)
 
   slips_are : (k : ℕ) → k < s.lanes → map (λ p. p.what) (x.slips k) ≡ t.heard k
   slips_are k low =

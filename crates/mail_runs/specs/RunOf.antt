@@ -20,12 +20,13 @@ kept_by kept [] = kept
 kept_by kept (told ∷ turns) = kept_by (kept_after kept told.turn) turns
 
 -- a mailbox in the last house: its channel is closed, all that it accepted was taken, in the worker's order, it had the
--- worker's turns, and it holds what these left, and keeps as much
+-- worker's turns under its quota, and it holds what these left, and keeps as much
 pub record EndsAs (course : Course) (box : Box) : Type 0 where
   pub accepted : notes_of box.accepted ≡ course.taken
   pub taken : box.taken ≡ length box.accepted
   pub closed : box.closed ≡ true
   pub free_hand : box.hand ≡ None
+  pub quota : box.quota ≡ course.quota
   pub old : box.old ≡ course.old
   pub turns : box.turns ≡ course.turns
   pub spool : box.spool ≡ left_by course.old course.turns
@@ -39,15 +40,17 @@ pub record HeardAs (all : List Slip) (lane : Lane) : Type 0 where
   pub no_draft : lane.draft ≡ None
   pub no_hold : lane.holds ≡ []
 
--- a run of a server's model, over a depot that is large enough and channels with room
+-- a run of a server's model, in which each mailbox has its own quota, over a depot that is large enough and channels
+-- with room
 pub record IsRunOf (s : Server) (t : Threads) : Type 0 where
   pub blocks : ℕ
   pub start : House
   pub run : List Happened
   pub starts : IsStart blocks start
   pub runs : Run start run
-  pub setting : (start.calendar ≡ s.calendar) × (start.site ≡ s.site) × (start.quota ≡ s.quota)
+  pub setting : (start.calendar ≡ s.calendar) × (start.site ≡ s.site)
   pub as_many : (length start.boxes ≡ s.boxes) × (length start.lanes ≡ s.lanes)
+  pub quotas : (b : ℕ) (box : Box) → BoxIs start b box → box.quota ≡ (t.courses b).quota
   pub offered : (k b : ℕ) → b < s.boxes → offers_by k b (events_of run) ≡ of_lane k (t.courses b).taken
   pub mailboxes : (b : ℕ) (box : Box) → BoxIs (last_house start run) b box → EndsAs (t.courses b) box
   pub lanes : (k : ℕ) (lane : Lane) → LaneIs (last_house start run) k lane → HeardAs (t.heard k) lane

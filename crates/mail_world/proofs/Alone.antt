@@ -111,13 +111,13 @@ records : (h : House) → HaveTheirTurns h → HasRecords h
 records h all b box first later is e by ok =
     let s = all b box is in
     let posts : List Post = take (length box.turns) box.accepted in
-    let have : HaveTurns h.calendar h.site h.quota (notes_of posts) (first ++ later) =
-    subst (λ ts. HaveTurns h.calendar h.site h.quota (notes_of posts) ts) e s.turns in
+    let have : HaveTurns h.calendar h.site box.quota (notes_of posts) (first ++ later) =
+    subst (λ ts. HaveTurns h.calendar h.site box.quota (notes_of posts) ts) e s.turns in
     let few : length first ≤ length box.turns = (let n = ap length e in omega (arith, length-append first later)) in
     let notes : take (length first) (notes_of posts) ≡ notes_of (take (length first) box.accepted) =
     take-notes (length first) posts ∙ ap notes_of (take_less (length first) (length box.turns) box.accepted few) in
-    first_turns_leave h.calendar h.site h.quota box.old (notes_of posts) first later have by ok
-    ∙ ap (λ ns. mailbox h.calendar h.site box.old (kept h.calendar h.site h.quota box.old ns)) notes
+    first_turns_leave h.calendar h.site box.quota box.old (notes_of posts) first later have by ok
+    ∙ ap (λ ns. mailbox h.calendar h.site box.old (kept h.calendar h.site box.quota box.old ns)) notes
   where
     take-notes : (n : ℕ) (posts : List Post) → take n (notes_of posts) ≡ notes_of (take n posts)
     take-notes zero posts = refl
@@ -139,7 +139,7 @@ every_run_drains blocks start run is r b box at by ok closed all none =
     let s = every_run_has_turns blocks start run is r b box at in
     let len : length box.turns ≡ length box.accepted =
     (let t : length box.turns + 0 ≡ box.taken = ap (λ n. length box.turns + n) (sym (ap open_in_hand none)) ∙ s.taken in omega arith) in
-    subst (StandsIn h.calendar h.site h.quota box) none s.stands
+    subst (StandsIn h.calendar h.site box.quota box) none s.stands
     ∙ every_run_stores blocks start run is r b box box.turns [] at (sym (append-nil box.turns)) by ok
-    ∙ ap (λ n. mailbox h.calendar h.site box.old (kept h.calendar h.site h.quota box.old (notes_of (take n box.accepted)))) len
-    ∙ ap (λ l. mailbox h.calendar h.site box.old (kept h.calendar h.site h.quota box.old (notes_of l))) (take-length box.accepted)
+    ∙ ap (λ n. mailbox h.calendar h.site box.old (kept h.calendar h.site box.quota box.old (notes_of (take n box.accepted)))) len
+    ∙ ap (λ l. mailbox h.calendar h.site box.old (kept h.calendar h.site box.quota box.old (notes_of l))) (take-length box.accepted)

@@ -9,11 +9,21 @@ abbrev pub start : (capacity : ℕ) (quota : Option ℕ) → House
 start capacity quota = record {
   calendar = calendar;
   site = site;
-  quota = quota;
   capacity = capacity;
   depot = record { slots = record { generation = 0; held = Free } ∷ []; free = 0 ∷ 1 ∷ [] };
   boxes =
-      record { old = []; accepted = []; taken = 0; closed = false; spool = []; kept = 0; turns = []; hand = None } ∷ [];
+      record {
+        quota = quota;
+        old = [];
+        accepted = [];
+        taken = 0;
+        closed = false;
+        spool = [];
+        kept = 0;
+        turns = [];
+        hand = None;
+      }
+      ∷ [];
   lanes =
       record {
         number = 0;

@@ -1,12 +1,17 @@
 -- A limit of bytes for each mailbox: which copies are kept, and what is told of them.
 use Rattle.std.specs.Prelude.{ℕ, zero, suc, ◌+◌, nat_le, Bool, true, false, List, [], ◌∷◌, ◌++◌, length, if◌then◌else◌}
-use Rattle.std.specs.Prelude.{Option, Some, None}
+use Rattle.std.specs.Prelude.{Option, Some, None, get_or}
 use Rattle.mail_world.specs.declared.Note.{Note}
 use Rattle.mail_world.specs.declared.Outcome.{Outcome}
 use Rattle.mail_world.specs.declared.Outcome.TheVariants.{Stored, Failed, OverQuota}
 use Rattle.mail_world.specs.Records.{Calendar, record_of}
 use Rattle.mail_world.specs.Endings.{mended}
 use Rattle.mail_world.specs.Site.{Site}
+
+-- the quota of the mailbox with that number, where these are those of the mailboxes in their order; none where there is
+-- no such mailbox
+abbrev pub quota_at : List (Option ℕ) → ℕ → Option ℕ
+quota_at quotas b = get_or quotas b None
 
 -- a record of that size may stand after that many bytes
 abbrev pub fits : Option ℕ → ℕ → ℕ → Bool

@@ -1,8 +1,15 @@
 -- What the file in the file system has, where its bytes are known: those of a runtime in memory, say.
-use Rattle.std.specs.Prelude.{◌≡◌, ℕ, List, Option, Some, None, true}
+use Rattle.std.specs.Prelude.{◌≡◌, ℕ, List, Option, Some, None, true, Box}
+use Rattle.std.specs.declared.alloc.Global.{Global}
 use Rattle.mbox_file.specs.declared.entry.Entry.{Entry}
 use Rattle.mbox_file.specs.declared.plain.Identity.{Identity}
 use Rattle.mbox_file.specs.declared.plain.OpenNode.{OpenNode}
+use Rattle.mbox_file.specs.declared.workspace.Workspace.{Workspace}
+
+-- the open file of a mailbox that has this at hand; a mailbox without a workspace has none open
+abbrev pub open_of : {R F D : Type 0} → Option (Box (Workspace R F D) Global) → Option (OpenNode F)
+open_of None = None
+open_of (Some workspace) = workspace.value.open
 
 -- what is known of the open file, if there is one
 abbrev pub known_of : {F : Type 0} → (F → Option (List ℕ)) → Option (OpenNode F) → Option (List ℕ)

@@ -7,22 +7,22 @@ use std::time::{Clock, Duration, SystemTime, UNIX_EPOCH};
 /// For how many seconds after a try it isn't tried again to make what lock files are linked from.
 const TRY_SECONDS: u64 = 60;
 
-/// A server's own lock file.
-#[derive(Drop)]
-pub(crate) enum Held<F: Drop> {
+/// A server's own lock file, by which file it is.
+#[derive(Clone, Copy)]
+pub(crate) enum Held {
     No,
     /// It is another name of the source.
     Linked(Node),
-    Made(OpenNode<F>),
+    Made(Node),
 }
 
-impl<F: Drop> Held<F> {
+impl Held {
     /// Which file it is.
-    pub fn node(&self) -> Option<Node> {
+    pub fn node(self) -> Option<Node> {
         match self {
             Held::No => None,
-            Held::Linked(node) => Some(*node),
-            Held::Made(own) => Some(own.node()),
+            Held::Linked(node) => Some(node),
+            Held::Made(node) => Some(node),
         }
     }
 }

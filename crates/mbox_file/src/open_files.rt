@@ -1,7 +1,8 @@
 //! The files of a thread's mailboxes that stay open between turns.
 ghost use Rattle.std.specs.Prelude.{◌≡◌, ◌≤◌, ◌+◌, ◌-◌, [], ◌∷◌, ◌++◌, Contains, drop, length, min};
-ghost use Rattle.std.specs.Prelude.{vec_capacity, vec_len, IfOk, IfSome, None};
+ghost use Rattle.std.specs.Prelude.{vec_capacity, vec_len, IfOk, IfSome, MatchOption, None};
 ghost use Rattle.std.specs.List.{AllByRecursion};
+ghost use Rattle.mbox_file.specs.OpenFiles.{IsWithoutOne};
 
 use crate::plain::OpenNode;
 use std::alloc::{AllocError, Global};
@@ -37,10 +38,13 @@ impl<F: Drop> OpenFiles<F> {
         })
     }
 
-    /// The file of the mailbox with that number, where it is still open.
+    /// The file of the mailbox with that number, where it is still open. The others stay open.
     pub fn take(&mut self, place: u32) -> Option<OpenNode<F>>
         ensures own { IfSome result (λ file. Contains self.old.files.items (record { place = place; file = file })) }
         ensures none { result ≡ None → AllByRecursion (λ it. it.place ≡ place → ⊥) self.old.files.items }
+        ensures others { MatchOption result (self.new.files.items ≡ self.old.files.items) (λ file. IsWithoutOne
+            (record { place = place; file = file }) self.old.files.items self.new.files.items) }
+        ensures most { self.new.most ≡ self.old.most }
     {
         let at = self.files.iter().position(|it| it.place == place)?;
         Some(self.files.remove(at).file)

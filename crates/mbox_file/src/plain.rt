@@ -7,7 +7,7 @@ use mbox_spool::InUse;
 use std::fs::{Files, Metadata, OpenFile, OpenOptions};
 use std::io::ErrorKind;
 use std::os::unix::fs::MetadataExt;
-use std::time::SystemTime;
+use std::time::UNIX_EPOCH;
 use std::{fs, io};
 
 /// Which file it is, of those that exist now.
@@ -28,14 +28,20 @@ pub(crate) fn node_of(metadata: &Metadata) -> Node {
 #[derive(Clone, Copy, PartialEq, Eq)]
 pub(crate) struct Identity {
     pub node: Node,
-    pub born: Option<SystemTime>,
+    /// Nanoseconds since 1970.
+    pub born: Option<u64>,
 }
 
 fn identity_of(metadata: &Metadata) -> Identity {
     Identity {
         node: node_of(metadata),
-        born: metadata.created().ok(),
+        born: birth_of(metadata),
     }
+}
+
+fn birth_of(metadata: &Metadata) -> Option<u64> {
+    let born = metadata.created().ok()?.duration_since(UNIX_EPOCH).ok()?;
+    u64::try_from(born.as_nanos()).ok()
 }
 
 /// A file, and which one it is. Its number isn't given to another file while it is open.

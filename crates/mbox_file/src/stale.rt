@@ -16,24 +16,25 @@ const SLOW_SECONDS: u64 = 1;
 /// For how many seconds after one that took longer no lock file of another user is looked at.
 const CAUTION_SECONDS: u64 = 600;
 
-/// Since when lock files of other users aren't looked at: the owner of a file may have its opening wait.
+/// Until when lock files of other users aren't looked at: the owner of a file may have its opening wait.
 #[derive(Clone, Copy)]
 pub(crate) struct Caution {
-    since: Option<Duration>,
+    // in seconds of the clock that never goes back; 0: they are looked at
+    until: u32,
 }
 
 impl Caution {
     /// They are looked at.
     pub fn none() -> Caution {
-        Caution { since: None }
+        Caution { until: 0 }
     }
 
     // A clock that tells no time ends nothing.
     fn is_on<R: Clock>(&self, rt: &R) -> bool {
-        match (self.since, rt.monotonic()) {
-            (None, _) => false,
-            (Some(since), Ok(now)) => now.saturating_sub(since).as_secs() < CAUTION_SECONDS,
-            (Some(_), Err(_)) => true,
+        match (self.until, rt.monotonic()) {
+            (0, _) => false,
+            (until, Ok(now)) => now.as_secs() < u64::from(until),
+            (_, Err(_)) => true,
         }
     }
 
@@ -41,7 +42,8 @@ impl Caution {
     fn note(&mut self, began: io::Result<Duration>, ended: io::Result<Duration>) {
         if let (Ok(began), Ok(ended)) = (began, ended) {
             if ended.saturating_sub(began) > Duration::from_secs(SLOW_SECONDS) {
-                self.since = Some(ended);
+                let until = ended.as_secs().saturating_add(CAUTION_SECONDS);
+                self.until = u32::try_from(until).unwrap_or(u32::MAX);
             }
         }
     }

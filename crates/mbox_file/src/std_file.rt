@@ -1,7 +1,7 @@
 //! The file under a spool in the file system, which tells what it asked of the system and what was answered.
 //!
 //! Each call of the system and what is told of it stand side by side here, and nowhere else is anything told.
-ghost use Rattle.std.specs.Prelude.{◌≡◌, [], None, Some, IfOk, OnOk, OnErr};
+ghost use Rattle.std.specs.Prelude.{◌≡◌, [], None, Some, false, IfOk, OnOk, OnErr};
 ghost use Rattle.mbox_file.specs.StdFile.{file_mode, file_path, mode_made};
 
 use crate::entry::Entry;
@@ -149,7 +149,7 @@ where
     ghost use Rattle.std.specs.Io.{appended_bytes};
     ghost use Rattle.std.specs.Io.KnownBytes.{Appends};
     ghost use Rattle.mbox_file.specs.MailboxFile.{HasAppended, HasNotAppended, IsHeld};
-    ghost use Rattle.mbox_file.specs.SystemFile.{known_of};
+    ghost use Rattle.mbox_file.specs.SystemFile.{open_of, known_of};
 
     ghost state = { λ s. s.told.state };
 
@@ -192,7 +192,12 @@ where
         self.told.add(Step::RangeUnlocked);
     }
 
-    fn rest(&mut self) {
+    /// The workspace of its thread isn't at hand any more.
+    fn rest(&mut self)
+        ensures state { self.new.told.state ≡ record self.old.told.state { has_range_lock = false } }
+        ensures workspace { self.new.system.workspace ≡ None }
+        ensures lock_file { self.new.system.lock_file ≡ self.old.system.lock_file }
+    {
         self.system.rest();
         self.told.add(Step::Rested);
     }
@@ -263,8 +268,8 @@ where
         requires settled { self.old.told.state.cut_off ≡ [] }
         ensures ok { OnOk result (HasAppended self.old.told.state self.new.told.state bytes.now) }
         ensures err { OnErr result (HasNotAppended self.old.told.state self.new.told.state bytes.now) }
-        ensures taken { Appends (known_of R.File.contents self.old.system.open)
-            (known_of R.File.contents self.new.system.open)
+        ensures taken { Appends (known_of R.File.contents (open_of self.old.system.workspace))
+            (known_of R.File.contents (open_of self.new.system.workspace))
             (appended_bytes self.old.told.state.bytes self.new.told.state.bytes) }
     {
         match self.system.write(bytes) {
@@ -316,11 +321,11 @@ where
     R::File: RangeLock + Writeback,
 {
     ghost use Rattle.std.specs.Prelude.{false};
-    ghost use Rattle.mbox_file.specs.SystemFile.{known_of};
+    ghost use Rattle.mbox_file.specs.SystemFile.{open_of, known_of};
 
     ghost is_known = { false };
 
-    ghost unread = { λ s. known_of R.File.remaining s.system.open };
+    ghost unread = { λ s. known_of R.File.remaining (open_of s.system.workspace) };
 
     fn rewind(&mut self) -> io::Result<()> {
         self.system.rewind()

@@ -1,12 +1,12 @@
 //! A mailbox's file in the file system, beside its lock file: what the system is asked, and what it answers.
 //!
-//! From its first call of a turn until it rests it has the workspace of its thread, by which its lock file is made and
-//! removed.
-ghost use Rattle.std.specs.Prelude.{◌≡◌, ◌≤◌, true, false, IfOk, OnOk, OnErr, length, take};
+//! From its first call of a turn until it rests it has the workspace of its thread, in which its open file is, and by
+//! which its lock file is made and removed. One that couldn't be put back as it rested it has for its own next turn.
+ghost use Rattle.std.specs.Prelude.{◌≡◌, ◌≤◌, true, false, IfOk, OnOk, OnErr, length, option_map, take};
 ghost use Rattle.std.specs.Io.{ReadsAtMost};
 ghost use Rattle.std.specs.Io.KnownBytes.{Appends, ReadConsumes};
-ghost use Rattle.std.specs.Prelude.{string_bytes};
-ghost use Rattle.mbox_file.specs.SystemFile.{known_of, identity_of_open, IsKeptFor};
+ghost use Rattle.std.specs.Prelude.{None, string_bytes};
+ghost use Rattle.mbox_file.specs.SystemFile.{open_of, known_of, identity_of_open, IsKeptFor};
 ghost use Rattle.mbox_file.specs.Told.{IsEndBy};
 
 use crate::entry::Entry;
@@ -14,7 +14,7 @@ use crate::file::{FileEnd, read_end};
 use crate::lock_file::Held;
 use crate::plain::{Node, OpenNode, Taken, names_plain, node_of, open_plain, system_fault};
 use crate::stale::Caution;
-use crate::thread_files::ThreadFiles;
+use crate::thread_files::{ThreadFiles, Unreturned};
 use crate::workspace::{Workspace, none_open};
 use mail_world::limits::TAIL_SIZE;
 use mbox_locks::{LockKind, RangeLock, Writeback};
@@ -32,13 +32,14 @@ pub(crate) struct SystemFile<R: Files + Clock + Drop> {
     rt: R,
     path: String,
     taken: Taken,
+    caution: Caution,
     // which of its thread's mailboxes it is, and what these share
     place: u32,
     shared: Arc<ThreadFiles<R>>,
     workspace: Option<Box<Workspace<R>>>,
-    open: Option<OpenNode<R::File>>,
-    caution: Caution,
-    lock_file: Held<R::File>,
+    // the workspace where it rests, and couldn't put that back
+    unreturned: Option<Unreturned<R>>,
+    lock_file: Held,
 }
 
 impl<R: Files + Clock + Drop> SystemFile<R>
@@ -62,11 +63,11 @@ where
         Ok(SystemFile {
             path: format!(in alloc; "{path}")?,
             taken,
+            caution: Caution::none(),
             place,
             shared,
             workspace: None,
-            open: None,
-            caution: Caution::none(),
+            unreturned: None,
             lock_file: Held::No,
             rt,
         })
@@ -86,35 +87,56 @@ where
         if self.workspace.is_some() {
             return Ok(());
         }
-        let Some(mut workspace) = self.shared.take() else {
+        let Some(mut workspace) = self.lent() else {
             return Err(InUse::Locked);
         };
-        let served = workspace.serve(self.path.as_str());
-        if self.open.is_none() {
-            self.open = workspace.open_files.take(self.place);
+        if workspace.serve(self.path.as_str()).is_err() {
+            self.unreturned = self.shared.put_back(workspace);
+            return Err(InUse::System(libc::ENOMEM));
         }
+        workspace.fetch_open(self.place);
         self.workspace = Some(workspace);
-        match served {
-            Ok(()) => Ok(()),
-            Err(_) => Err(InUse::System(libc::ENOMEM)),
-        }
+        Ok(())
     }
 
-    /// Puts the workspace back, with the open file on it.
-    pub fn rest(&mut self)
+    // The workspace that it couldn't put back, or its thread's, unless another mailbox has that.
+    fn lent(&mut self) -> Option<Box<Workspace<R>>>
         ensures path { string_bytes self.new.path ≡ string_bytes self.old.path }
         ensures taken { self.new.taken ≡ self.old.taken }
     {
-        let Some(mut workspace) = self.workspace.take() else {
-            return;
-        };
-        if self.lock_file.node().is_some() {
-            workspace.leave_source();
+        match self.unreturned.take() {
+            Some(unreturned) => Some(unreturned.again()),
+            None => self.shared.take(),
         }
-        if let Some(open) = self.open.take() {
-            workspace.open_files.keep(self.place, open);
+    }
+
+    /// Puts the workspace back, with the open file on it. One that can't be put back now is this mailbox's at its next
+    /// turn, unless an earlier call puts it back.
+    pub fn rest(&mut self)
+        ensures path { string_bytes self.new.path ≡ string_bytes self.old.path }
+        ensures taken { self.new.taken ≡ self.old.taken }
+        ensures workspace { self.new.workspace ≡ None }
+        ensures lock_file { self.new.lock_file ≡ self.old.lock_file }
+    {
+        match self.workspace.take() {
+            Some(mut workspace) => {
+                workspace.rest(self.place, self.lock_file);
+                self.unreturned = self.shared.put_back(workspace);
+            }
+            None => self.return_again(),
         }
-        self.workspace = self.shared.put_back(workspace);
+    }
+
+    // Puts back what couldn't be put back before.
+    fn return_again(&mut self)
+        ensures path { string_bytes self.new.path ≡ string_bytes self.old.path }
+        ensures taken { self.new.taken ≡ self.old.taken }
+        ensures workspace { self.new.workspace ≡ self.old.workspace }
+        ensures lock_file { self.new.lock_file ≡ self.old.lock_file }
+    {
+        if let Some(unreturned) = self.unreturned.take() {
+            self.unreturned = self.shared.put_back(unreturned.again());
+        }
     }
 
     /// Before the first turn, of a mailbox that shares nothing: removes a lock file that was left behind.
@@ -134,9 +156,12 @@ where
         }
     }
 
-    fn open_node(&self) -> Option<Node> {
-        match &self.open {
-            Some(open) => Some(open.node()),
+    // The open file, which it has no longer than the workspace.
+    fn opened(&self) -> Option<&OpenNode<R::File>>
+        ensures { option_map (λ file. file.now) result ≡ open_of self.now.workspace }
+    {
+        match &self.workspace {
+            Some(workspace) => workspace.open.as_ref(),
             None => None,
         }
     }
@@ -156,7 +181,7 @@ where
         let Some(workspace) = &mut self.workspace else {
             return Err(InUse::Locked);
         };
-        self.lock_file = workspace.make_lock_file(self.open.is_some(), &mut self.caution)?;
+        self.lock_file = workspace.make_lock_file(&mut self.caution)?;
         Ok(self.lock_file.node().is_some())
     }
 
@@ -179,17 +204,20 @@ where
         if self.take_workspace().is_err() {
             return Err(none_open());
         }
-        self.at_hand()?.remove_lock_file(node)?;
+        let Some(workspace) = &mut self.workspace else {
+            return Err(none_open());
+        };
+        workspace.remove_lock_file(node)?;
         self.lock_file = Held::No;
         Ok(())
     }
 
     /// Has the folder keep its entry for the open file.
     pub fn keep_entry(&self, entry: &mut Entry) -> io::Result<()>
-        ensures ok { OnOk result (IsKeptFor entry.new self.now.open) }
+        ensures ok { OnOk result (IsKeptFor entry.new (open_of self.now.workspace)) }
         ensures err { OnErr result (entry.new.is_kept ≡ false) }
     {
-        match &self.open {
+        match self.opened() {
             Some(open) => entry.keep(&self.rt, self.path.as_str(), open.identity),
             None => {
                 entry.forget();
@@ -202,7 +230,10 @@ where
     pub fn names_open(&self) -> Result<bool, InUse> {
         match fs::symlink_metadata(&self.rt, self.path.as_str()) {
             Ok(found) if !self.taken.is_plain(&found) => Err(InUse::NotPlain),
-            Ok(found) => Ok(Some(node_of(&found)) == self.open_node()),
+            Ok(found) => match self.opened() {
+                Some(open) => Ok(node_of(&found) == open.node()),
+                None => Ok(false),
+            },
             Err(error) if error.kind() == ErrorKind::NotFound => Ok(false),
             Err(error) => Err(system_fault(error)),
         }
@@ -215,14 +246,18 @@ where
         ensures path { string_bytes self.new.path ≡ string_bytes self.old.path }
         ensures taken { self.new.taken ≡ self.old.taken }
     {
+        self.take_workspace()?;
+        let Some(workspace) = &mut self.workspace else {
+            return Err(InUse::Locked);
+        };
         let opened = open_plain(&self.rt, self.path.as_str(), self.taken)?;
         entry.see(opened.identity);
-        self.open = Some(opened);
+        workspace.open = Some(opened);
         Ok(())
     }
 
     pub fn lock_open(&self) -> Result<(), InUse> {
-        let Some(open) = &self.open else {
+        let Some(open) = self.opened() else {
             // a look at what the path names is next, which opens it
             return Ok(());
         };
@@ -238,12 +273,15 @@ where
         ensures path { string_bytes self.new.path ≡ string_bytes self.old.path }
         ensures taken { self.new.taken ≡ self.old.taken }
     {
-        let is_unlocked = match &self.open {
+        let Some(workspace) = &mut self.workspace else {
+            return;
+        };
+        let is_unlocked = match &workspace.open {
             Some(open) => open.file.unlock_bytes().is_ok(),
             None => true,
         };
         if !is_unlocked {
-            self.open = None;
+            workspace.open = None;
         }
     }
 
@@ -288,9 +326,13 @@ where
         many: &'a mut [u8; TAIL_SIZE],
     ) -> io::Result<(FileEnd, &'a [u8])>
         ensures end { IfOk result (λ read. IsEndBy read.1.now read.0) }
-        ensures stays { identity_of_open self.new.open ≡ identity_of_open self.old.open }
+        ensures stays { identity_of_open (open_of self.new.workspace)
+            ≡ identity_of_open (open_of self.old.workspace) }
     {
-        match &mut self.open {
+        let Some(workspace) = &mut self.workspace else {
+            return Err(none_open());
+        };
+        match &mut workspace.open {
             Some(open) => read_end(&mut open.file, few, many),
             None => Err(none_open()),
         }
@@ -300,11 +342,16 @@ where
     pub fn write(&mut self, bytes: &[u8]) -> (usize, io::Result<()>)
         ensures within { result.0 ≤ length bytes.now }
         ensures whole { OnOk result.1 (result.0 ≡ length bytes.now) }
-        ensures taken { Appends (known_of R.File.contents self.old.open) (known_of R.File.contents self.new.open)
+        ensures taken { Appends (known_of R.File.contents (open_of self.old.workspace))
+            (known_of R.File.contents (open_of self.new.workspace))
             (take result.0 bytes.now) }
-        ensures stays { identity_of_open self.new.open ≡ identity_of_open self.old.open }
+        ensures stays { identity_of_open (open_of self.new.workspace)
+            ≡ identity_of_open (open_of self.old.workspace) }
     {
-        match &mut self.open {
+        let Some(workspace) = &mut self.workspace else {
+            return (0, Err(none_open()));
+        };
+        match &mut workspace.open {
             Some(open) => write_on(&mut open.file, bytes),
             None => (0, Err(none_open())),
         }
@@ -312,9 +359,13 @@ where
 
     /// Has the system begin to write the last bytes, so many, to the disk.
     pub fn begin_writeback(&mut self, size: u64)
-        ensures stays { identity_of_open self.new.open ≡ identity_of_open self.old.open }
+        ensures stays { identity_of_open (open_of self.new.workspace)
+            ≡ identity_of_open (open_of self.old.workspace) }
     {
-        if let Some(open) = &mut self.open {
+        let Some(workspace) = &mut self.workspace else {
+            return;
+        };
+        if let Some(open) = &mut workspace.open {
             // a write leaves the position at the file's end
             if let Ok(end) = open.file.seek(SeekFrom::Current(0)) {
                 open.file.begin_writeback(end.saturating_sub(size), size);
@@ -323,9 +374,10 @@ where
     }
 
     pub fn sync(&mut self) -> io::Result<()>
-        ensures stays { identity_of_open self.new.open ≡ identity_of_open self.old.open }
+        ensures stays { identity_of_open (open_of self.new.workspace)
+            ≡ identity_of_open (open_of self.old.workspace) }
     {
-        match &mut self.open {
+        match self.opened() {
             Some(open) => open.file.sync_data(),
             None => Err(none_open()),
         }
@@ -333,19 +385,23 @@ where
 
     /// Only while the lock file is its own.
     pub fn cut(&mut self, size: u64) -> io::Result<()>
-        ensures stays { identity_of_open self.new.open ≡ identity_of_open self.old.open }
+        ensures stays { identity_of_open (open_of self.new.workspace)
+            ≡ identity_of_open (open_of self.old.workspace) }
     {
         if !self.owns_lock_file()? {
             return Err(io::Error::from(ErrorKind::ResourceBusy));
         }
-        match &mut self.open {
+        match self.opened() {
             Some(open) => open.file.set_len(size),
             None => Err(none_open()),
         }
     }
 
     pub fn rewind(&mut self) -> io::Result<()> {
-        match &mut self.open {
+        let Some(workspace) = &mut self.workspace else {
+            return Err(none_open());
+        };
+        match &mut workspace.open {
             Some(open) => {
                 open.file.seek(SeekFrom::Start(0))?;
                 Ok(())
@@ -357,10 +413,14 @@ where
     /// Reads what comes next of the open file.
     pub fn read(&mut self, buffer: &mut [u8]) -> io::Result<usize>
         ensures bound { ReadsAtMost result buffer.new }
-        ensures bytes { ReadConsumes (known_of R.File.remaining self.old.open) (known_of R.File.remaining self.new.open)
+        ensures bytes { ReadConsumes (known_of R.File.remaining (open_of self.old.workspace))
+            (known_of R.File.remaining (open_of self.new.workspace))
             result buffer.new }
     {
-        match &mut self.open {
+        let Some(workspace) = &mut self.workspace else {
+            return Err(none_open());
+        };
+        match &mut workspace.open {
             Some(open) => read_some(&mut open.file, buffer),
             None => Err(none_open()),
         }
@@ -369,7 +429,7 @@ where
     /// Sets the time of the lock file to now. `InUse::Locked`: it is no longer its own.
     pub fn renew_lock_file(&self) -> Result<(), InUse> {
         let workspace = self.at_hand().map_err(system_fault)?;
-        workspace.renew(&self.lock_file).map_err(system_fault)?;
+        workspace.renew(self.lock_file).map_err(system_fault)?;
         if !self.owns_lock_file().map_err(system_fault)? {
             return Err(InUse::Locked);
         }

@@ -68,14 +68,27 @@ impl<R: Files + Clock + Drop> ThreadFiles<R> {
         self.workspace.try_lock()?.take()
     }
 
-    /// Puts the workspace back. Some: it can't be now.
-    pub(crate) fn put_back(&self, workspace: Box<Workspace<R>>) -> Option<Box<Workspace<R>>> {
+    /// Puts the workspace back, unless it can't be now.
+    pub(crate) fn put_back(&self, workspace: Box<Workspace<R>>) -> Option<Unreturned<R>> {
         match self.workspace.try_lock() {
             Some(mut place) => {
                 *place = Some(workspace);
                 None
             }
-            None => Some(workspace),
+            None => Some(Unreturned { workspace }),
         }
+    }
+}
+
+/// A workspace that couldn't be put back, which only `put_back` says.
+#[derive(Drop)]
+pub(crate) struct Unreturned<R: Files + Clock + Drop> {
+    workspace: Box<Workspace<R>>,
+}
+
+impl<R: Files + Clock + Drop> Unreturned<R> {
+    /// The workspace, for its mailbox's next turn or to be put back again.
+    pub fn again(self) -> Box<Workspace<R>> {
+        self.workspace
     }
 }

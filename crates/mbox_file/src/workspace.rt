@@ -1,10 +1,12 @@
-//! What one mailbox of a thread has at hand for its turn: room for the path of its lock file, the files that others of
-//! the thread left open, and what lock files are made of.
+//! What one mailbox of a thread has at hand for its turn: its open file, room for the path of its lock file, the files
+//! that others of the thread left open, and what lock files are made of.
 //!
 //! A lock file is linked from one that is made at the first turn and stays, `PATH.source.lock` of the thread's first
 //! mailbox: to make a file and write to it for each turn takes ten times as long. Where there is none to link it from
 //! it is made.
-ghost use Rattle.std.specs.Prelude.{◌≡◌, ◌++◌, codes, string_bytes, IfOk, OnOk};
+ghost use Rattle.std.specs.Prelude.{◌≡◌, ◌+◌, ◌-◌, [], ◌∷◌, ◌++◌, codes, drop, length, string_bytes};
+ghost use Rattle.std.specs.Prelude.{Contains, IfOk, IfSome, MatchOption, None, OnOk};
+ghost use Rattle.mbox_file.specs.OpenFiles.{IsWithoutOne};
 
 use crate::lock_file::{Held, LockSource, SourceTries};
 use crate::open_files::OpenFiles;
@@ -29,7 +31,10 @@ const PATH_SIZE: usize = 4_096;
 pub(crate) struct Workspace<R: Files + Clock + Drop> {
     rt: R,
     // of the mailbox that has it
+    pub open: Option<OpenNode<R::File>>,
     lock_path: String,
+    // its lock file, where that was made and not linked
+    made: Option<R::File>,
     owner: String,
     source_path: String,
     source: Option<LockSource<R::File>>,
@@ -42,7 +47,9 @@ impl<R: Files + Clock + Drop> Drop for Workspace<R> {
     fn drop(self) {
         let Workspace {
             rt,
+            open: _,
             lock_path: _,
+            made: _,
             owner: _,
             source_path,
             source,
@@ -67,10 +74,13 @@ impl<R: Files + Clock + Drop> Workspace<R> {
         ensures source { IfOk result (λ made. string_bytes made.source_path ≡ path.now ++ codes ".source.lock") }
         ensures tries { IfOk result (λ made. made.source_tries ≡ source_tries) }
         ensures files { IfOk result (λ made. made.open_files ≡ open_files) }
+        ensures closed { IfOk result (λ made. made.open ≡ None) }
     {
         Ok(Workspace {
             rt,
+            open: None,
             lock_path: String::with_capacity(alloc, PATH_SIZE)?,
+            made: None,
             owner: owner_text(alloc)?,
             source_path: format!(in alloc; "{path}.source.lock")?,
             source: None,
@@ -87,6 +97,38 @@ impl<R: Files + Clock + Drop> Workspace<R> {
         self.lock_path.clear();
         self.lock_path.push_str(path)?;
         self.lock_path.push_str(".lock")
+    }
+
+    /// Its mailbox, of that number, has the file at hand that it left open.
+    pub fn fetch_open(&mut self, place: u32)
+        ensures own { IfSome self.new.open (λ file. Contains self.old.open_files.files.items
+            (record { place = place; file = file })) }
+        ensures others { MatchOption self.new.open
+            (self.new.open_files.files.items ≡ self.old.open_files.files.items)
+            (λ file. IsWithoutOne (record { place = place; file = file })
+            self.old.open_files.files.items self.new.open_files.files.items) }
+        ensures most { self.new.open_files.most ≡ self.old.open_files.most }
+    {
+        self.open = self.open_files.take(place);
+    }
+
+    /// What its mailbox, of that number, had at hand goes, but for its open file, which is among those that stay open.
+    pub fn rest(&mut self, place: u32, lock_file: Held)
+        ensures none { self.new.open ≡ None }
+        ensures made { self.new.made ≡ None }
+        ensures kept { MatchOption self.old.open (self.new.open_files ≡ self.old.open_files)
+            (λ file. self.new.open_files.files.items
+            ≡ drop (length self.old.open_files.files.items + 1 - self.old.open_files.most)
+            (self.old.open_files.files.items ++ record { place = place; file = file } ∷ [])) }
+        ensures most { self.new.open_files.most ≡ self.old.open_files.most }
+    {
+        if lock_file.node().is_some() {
+            self.leave_source();
+        }
+        self.made = None;
+        if let Some(open) = self.open.take() {
+            self.open_files.keep(place, open);
+        }
     }
 
     // Makes the file that lock files are linked from. One that was left behind goes; where a server has one, or it
@@ -176,13 +218,9 @@ impl<R: Files + Clock + Drop> Workspace<R> {
     }
 
     /// Makes the lock file, unless there is one, which is `Held::No`. What it is linked from is made where the
-    /// mailbox's own file `is_open`.
-    pub fn make_lock_file(
-        &mut self,
-        is_open: bool,
-        caution: &mut Caution,
-    ) -> Result<Held<R::File>, InUse> {
-        if is_open {
+    /// mailbox's own file is open.
+    pub fn make_lock_file(&mut self, caution: &mut Caution) -> Result<Held, InUse> {
+        if self.open.is_some() {
             self.have_source(caution);
         }
         match self.link_lock_file() {
@@ -191,7 +229,11 @@ impl<R: Files + Clock + Drop> Workspace<R> {
             Link::None => self.source = None,
         }
         match self.make_file(self.lock_path.as_str()) {
-            Ok(made) => Ok(Held::Made(made)),
+            Ok(made) => {
+                let node = made.node();
+                self.made = Some(made.file);
+                Ok(Held::Made(node))
+            }
             Err(error) if error.kind() == ErrorKind::AlreadyExists => Ok(Held::No),
             Err(error) => Err(system_fault(error)),
         }
@@ -226,24 +268,29 @@ impl<R: Files + Clock + Drop> Workspace<R> {
     }
 
     /// Removes the lock file, where it is still that one.
-    pub fn remove_lock_file(&self, node: Node) -> io::Result<()> {
-        remove_node(&self.rt, self.lock_path.as_str(), node)
+    pub fn remove_lock_file(&mut self, node: Node) -> io::Result<()> {
+        remove_node(&self.rt, self.lock_path.as_str(), node)?;
+        self.made = None;
+        Ok(())
     }
 
     /// Sets the time of the lock file that is its own to now.
-    pub fn renew(&self, own: &Held<R::File>) -> io::Result<()> {
+    pub fn renew(&self, own: Held) -> io::Result<()> {
         let now = SystemTime::now(&self.rt)?;
         let times = FileTimes::new().set_modified(now);
-        match (own, &self.source) {
-            (Held::Made(own), _) => own.file.set_times(times),
-            (Held::Linked(_), Some(source)) => source.made.file.set_times(times),
+        match (own, &self.made, &self.source) {
+            (Held::Made(_), Some(made), _) => made.set_times(times),
+            (Held::Linked(_), _, Some(source)) => source.made.file.set_times(times),
             _ => Err(none_open()),
         }
     }
 
-    /// Has the next lock file linked from another source, since this one's time is also that of a lock file which
-    /// couldn't be removed.
-    pub fn leave_source(&mut self) {
+    // Has the next lock file linked from another source, since this one's time is also that of a lock file which
+    // couldn't be removed.
+    fn leave_source(&mut self)
+        ensures open { self.new.open ≡ self.old.open }
+        ensures files { self.new.open_files ≡ self.old.open_files }
+    {
         if let Some(source) = self.source.take() {
             let _ = remove_node(&self.rt, self.source_path.as_str(), source.made.node());
             self.source_tries = SourceTries::NotYet;

@@ -5,7 +5,12 @@ use Rattle.mbox_rd.specs.Patience.{IsGivenUp, IsUnpaused, pauses_ms}
 
 -- so many pauses were made
 pub record HasMade (old new : Patience) (made : ℕ) : Type 0 where
-  pub same : new ≡ record old { pauses = new.pauses; paused_ms = new.paused_ms; paused_at = new.paused_at; woke = new.woke }
+  pub same : new ≡ record old {
+    pauses = new.pauses;
+    paused_ms = new.paused_ms;
+    lasted_ms = new.lasted_ms;
+    paused_none = new.paused_none;
+  }
   pub pauses : new.pauses ≡ made
   pub paused : new.paused_ms ≡ pauses_ms made
 

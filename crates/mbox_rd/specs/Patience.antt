@@ -58,17 +58,28 @@ pub record HasAsked (old new : Patience) (seconds : ℕ) : Type 0 where
     left_ms = min seconds LONGEST * 1_000 - waited_before old new.asked;
     pauses = 0;
     paused_ms = 0;
-    paused_at = None;
-    woke = None;
+    lasted_ms = 0;
+    paused_none = false;
   }
+
+-- The time for this turn was over as a pause was asked for: by the clock, or, where that told none as the turn was
+-- asked for, by its pauses.
+abbrev pub IsOverByThen : Patience → Type 0
+IsOverByThen new = (new.left_ms ≤ new.lasted_ms)
+    × (new.paused_ms ≤ new.lasted_ms) × (new.asked ≡ None → new.lasted_ms ≡ new.paused_ms)
 
 -- By the clock the time for this turn was over as a pause was asked for, or the pause took none.
 abbrev pub IsTimeOver : Patience → Type 0
-IsTimeOver new = (new.left_ms ≤ spent_ms new.asked new.paused_at new.paused_ms) ⊎ (took_none new.paused_at new.woke ≡ true)
+IsTimeOver new = IsOverByThen new ⊎ (new.paused_none ≡ true)
 
 -- it paused between its tries, so many at most
 pub record HasPaused (old new : Patience) (tries : ℕ) : Type 0 where
-  pub same : new ≡ record old { pauses = new.pauses; paused_ms = new.paused_ms; paused_at = new.paused_at; woke = new.woke }
+  pub same : new ≡ record old {
+    pauses = new.pauses;
+    paused_ms = new.paused_ms;
+    lasted_ms = new.lasted_ms;
+    paused_none = new.paused_none;
+  }
   pub paused : new.paused_ms ≡ pauses_ms new.pauses
   pub within : new.pauses ≤ tries - 1
 

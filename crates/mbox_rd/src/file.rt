@@ -41,7 +41,6 @@ use turn_buffer::TurnBuffer;
 pub struct FileSpool<F: MailboxFile + Drop, C: Clock + Drop> {
     file: F,
     clock: C,
-    wait: u32,
     patience: Patience,
     waiting: TurnBuffer,
     buffer: Arc<SharedBuffer>,
@@ -49,12 +48,14 @@ pub struct FileSpool<F: MailboxFile + Drop, C: Clock + Drop> {
     tail: Tail,
     failures: u64,
     refusals: u64,
+    // why what was cut off couldn't be kept so at this turn's lock
+    unkept: SpoolFault,
+    // fields lie in memory as they stand here: these fill eight bytes
+    wait: u32,
     in_turn: bool,
     has_failed: bool,
     is_unsynced: bool,
     is_unsettled: bool,
-    // why what was cut off couldn't be kept so at this turn's lock
-    unkept: SpoolFault,
     turns: Turns,
 }
 

@@ -6,12 +6,14 @@
 //! never known here.
 #![tactic(auto)]
 
+mod boxed;
 mod file;
 mod opening;
 mod patience;
 mod shared_buffer;
 mod turn;
 
+pub use boxed::BoxedSpool;
 pub use file::FileSpool;
 pub use mbox_file::{
     FileEnd, FileLock, LockKind, MailboxFile, MailboxSource, MemoryFile, RangeLock, StdMailboxFile,

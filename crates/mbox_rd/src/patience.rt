@@ -2,7 +2,7 @@
 ghost use Rattle.std.specs.Prelude.{◌≡◌, ◌+◌, ◌-◌, ◌*◌, ◌<◌, ◌≤◌, true, false};
 ghost use Rattle.mail_world.specs.Counts.{counted};
 ghost use Rattle.mbox_rd.specs.Patience.{HasAsked, is_minute_over, ms_between, pause_ms, pauses_ms};
-ghost use Rattle.mbox_rd.specs.Patience.{spent_ms, took_none, IsTimeOver};
+ghost use Rattle.mbox_rd.specs.Patience.{spent_ms, took_none, IsOverByThen, IsTimeOver};
 
 use mail_world::limits::LOCK_WAIT_LIMIT;
 use std::time::{Clock, Duration};
@@ -20,10 +20,13 @@ const PAUSE_MS: u64 = 100;
 /// What decides how long the next turn is waited for: how long turns were waited for within this minute, which begins
 /// with the first that was, and whether one was missed within the last. A wait is all that passes from a turn's first
 /// call to its lock, since any of these calls may be held up.
+/// Each mailbox has one: flags stand side by side, since fields lie in memory as they stand here.
 #[derive(Clone, Copy)]
 pub(crate) struct Patience {
     // a turn was missed, and no minute has passed since
     was_missed: bool,
+    // the last pause of this turn took no time, by the clock
+    paused_none: bool,
     missed: Duration,
     // how long earlier turns of this minute were waited for
     waited_ms: u64,
@@ -33,9 +36,8 @@ pub(crate) struct Patience {
     left_ms: u64,
     pauses: u64,
     paused_ms: u64,
-    // when the last of them was asked for and was over, where the clock tells it
-    paused_at: Option<Duration>,
-    woke: Option<Duration>,
+    // how long it had been waited for as the last of them was asked for
+    lasted_ms: u64,
 }
 
 impl Patience {
@@ -46,6 +48,7 @@ impl Patience {
     {
         Patience {
             was_missed: false,
+            paused_none: false,
             missed: Duration::ZERO,
             waited_ms: 0,
             began: Duration::ZERO,
@@ -53,8 +56,7 @@ impl Patience {
             left_ms: 0,
             pauses: 0,
             paused_ms: 0,
-            paused_at: None,
-            woke: None,
+            lasted_ms: 0,
         }
     }
 
@@ -77,8 +79,8 @@ impl Patience {
         self.asked = asked;
         self.pauses = 0;
         self.paused_ms = 0;
-        self.paused_at = None;
-        self.woke = None;
+        self.lasted_ms = 0;
+        self.paused_none = false;
         if self.was_missed {
             1
         } else {
@@ -92,30 +94,51 @@ impl Patience {
         ensures paused { result ≡ true → self.new ≡ record self.old {
           pauses = counted (made + 1);
           paused_ms = counted (self.old.paused_ms + pause_ms made);
-          paused_at = self.new.paused_at;
-          woke = self.new.woke;
+          lasted_ms = self.new.lasted_ms;
+          paused_none = self.new.paused_none;
         } }
         ensures none { result ≡ false → self.new ≡ record self.old {
-          paused_at = self.new.paused_at;
-          woke = self.new.woke;
+          lasted_ms = self.new.lasted_ms;
+          paused_none = self.new.paused_none;
         } }
         ensures over { result ≡ false → IsTimeOver self.new }
         ensures late { self.old.left_ms ≤ self.old.paused_ms → result ≡ false }
     {
-        self.paused_at = clock.monotonic().ok();
-        self.woke = None;
-        if self.spent_by(self.paused_at) >= self.left_ms {
+        let asked = clock.monotonic().ok();
+        if self.is_over_by(asked) {
             return false;
         }
         let ms = pause_after(made);
         clock.sleep(Duration::from_millis(ms));
-        self.woke = clock.monotonic().ok();
-        if has_taken_none(self.paused_at, self.woke) {
+        if self.has_paused_none(asked, clock.monotonic().ok()) {
             return false;
         }
         self.pauses = made.saturating_add(1);
         self.paused_ms = self.paused_ms.saturating_add(ms);
         true
+    }
+
+    // Whether the time for this turn is over as a pause is asked for then.
+    fn is_over_by(&mut self, then: Option<Duration>) -> bool
+        ensures new { self.new ≡ record self.old {
+          lasted_ms = spent_ms self.old.asked then self.old.paused_ms;
+          paused_none = false;
+        } }
+        ensures over { result ≡ true → IsOverByThen self.new }
+        ensures late { self.old.left_ms ≤ self.old.paused_ms → result ≡ true }
+    {
+        self.lasted_ms = self.spent_by(then);
+        self.paused_none = false;
+        self.lasted_ms >= self.left_ms
+    }
+
+    // Whether the pause that began and was over then took no time.
+    fn has_paused_none(&mut self, began: Option<Duration>, woke: Option<Duration>) -> bool
+        ensures new { self.new ≡ record self.old { paused_none = took_none began woke } }
+        ensures result { result ≡ took_none began woke }
+    {
+        self.paused_none = has_taken_none(began, woke);
+        self.paused_none
     }
 
     // How long this turn is waited for by then. Where the clock tells no time its pauses count.

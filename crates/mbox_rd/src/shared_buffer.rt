@@ -15,7 +15,7 @@ use std::sync::Mutex;
 pub(crate) const BUFFER_SIZE: usize = 262_144;
 
 /// The bytes of a mailbox's own buffer.
-pub(crate) const OWN_SIZE: usize = 128;
+pub(crate) const OWN_SIZE: usize = 64;
 
 /// A buffer of 262,144 bytes, in which what a turn takes waits until it is written. The mailboxes that share it have
 /// it one after the other.
@@ -47,6 +47,7 @@ impl SharedBuffer {
         requires room { OWN_SIZE ≤ vec_capacity own.old }
         ensures empty { own.new.items ≡ [] }
         ensures room { OWN_SIZE ≤ vec_capacity own.new }
+        ensures larger { vec_capacity own.old ≤ vec_capacity own.new }
     {
         if let Some(mut place) = self.spare.try_lock() {
             let spare = &mut *place;
@@ -62,6 +63,7 @@ impl SharedBuffer {
         requires room { OWN_SIZE ≤ vec_capacity lent.old }
         ensures empty { lent.new.items ≡ [] }
         ensures room { OWN_SIZE ≤ vec_capacity lent.new }
+        ensures smaller { vec_capacity lent.new ≤ vec_capacity lent.old }
     {
         if let Some(mut place) = self.spare.try_lock() {
             let spare = &mut *place;

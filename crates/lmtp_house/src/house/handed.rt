@@ -3,15 +3,15 @@
 use lmtp_threads::Watched;
 use std::marker::Model;
 
-/// All that is handed in, by lane and by mailbox, how many copies may wait for a worker thread, and the limit of bytes
-/// for each mailbox. There are as many gates as spools.
+/// All that is handed in, by lane and by mailbox, and how many copies may wait for a worker thread. There are as many
+/// gates as spools.
 #[derive(Drop)]
 pub struct HandedIn<V, O, S, T, G> {
     pub visits: Vec<Watched<V, O>>,
     pub spools: Vec<Watched<S, T>>,
     pub gates: Vec<G>,
+    pub quotas: Vec<Option<u64>>,
     pub capacity: usize,
-    pub quota: Option<u64>,
 }
 
 impl<V, O, S, T, G> Model for HandedIn<V, O, S, T, G> {
@@ -22,7 +22,7 @@ impl<V, O, S, T, G> Model for HandedIn<V, O, S, T, G> {
 
     ghost Value = { parts.HandedIn (Watched V O) (Watched S T) };
 
-    ghost view = { λ h. handed_in h.visits.items h.spools.items h.capacity h.quota };
+    ghost view = { λ h. handed_in h.visits.items h.spools.items h.capacity h.quotas.items };
 
     ghost invariant = { λ h. vec_len h.gates ≡ vec_len h.spools };
 }

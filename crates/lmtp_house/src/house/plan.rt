@@ -96,11 +96,11 @@ where
             visits,
             spools,
             gates,
+            quotas,
             capacity: _,
-            quota,
         } = handed;
         let lanes = Lanes::new(shared, visits, rows, takers)?;
-        let workers = Workers::new(shared, receivers, slip_rows, spools, gates, quota)?;
+        let workers = Workers::new(shared, receivers, slip_rows, spools, gates, quotas)?;
         Ok(Plan {
             lanes,
             workers,

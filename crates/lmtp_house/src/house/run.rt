@@ -27,8 +27,8 @@ use std::sync::{Arc, Wait};
 use std::thread::Threads;
 
 /// Runs a server until its lanes have no more clients: a lane for each of the visits, in a thread of its own, and for
-/// each mailbox of the site a worker with its spool and its gate, in one of at most 256 threads, each with its observer.
-/// All memory is taken first; the messages have the blocks and slots of the sizes.
+/// each mailbox of the site a worker with its spool, its gate and its quota, if it has one, in one of at most 256
+/// threads, each with its observer. All memory is taken first; the messages have the blocks and slots of the sizes.
 pub fn run_house<V, O, S, T, G, C, R>(
     rt: R,
     alloc: Global,
@@ -37,6 +37,7 @@ pub fn run_house<V, O, S, T, G, C, R>(
     visits: Vec<Watched<V, O>>,
     spools: Vec<Watched<S, T>>,
     gates: Vec<G>,
+    quotas: Vec<Option<u64>>,
     clock: C,
 ) -> Result<HouseReport<V, O, S, T, G>, HouseFault>
 where
@@ -51,12 +52,20 @@ where
     requires none_out { AllByRecursion (λ watched. V.out watched.inner ≡ false) visits.items }
     ensures ran { IfOk result (HasRun (arc_value site) (C.May clock)
         (visits_view V.MayGive V.finished V.over O.told) (spools_view S.state S.MayFind S.MayRefuse T.told)
-        (handed_in visits.items spools.items sizes.capacity sizes.quota)) }
+        (handed_in visits.items spools.items sizes.capacity quotas.items)) }
     ensures room { IfOk result (λ report. (report.blocks ≡ sizes.blocks) × (report.slots ≡ sizes.slots)) }
     ensures size { result ≡ Err HouseFault.Size
-        ↔ ¬ IsSize (arc_value site) sizes (length visits.items) (length spools.items) (length gates.items) }
+        ↔ ¬ IsSize (arc_value site) sizes (length visits.items) (length spools.items) (length gates.items)
+        (length quotas.items) }
 {
-    if !is_size(&site, sizes, visits.len(), spools.len(), gates.len()) {
+    if !is_size(
+        &site,
+        sizes,
+        visits.len(),
+        spools.len(),
+        gates.len(),
+        quotas.len(),
+    ) {
         return Err(HouseFault::Size);
     }
     let clock = Arc::new(alloc, clock)?;
@@ -69,8 +78,8 @@ where
         visits,
         spools,
         gates,
+        quotas,
         capacity: sizes.capacity as usize,
-        quota: sizes.quota,
     };
     run_at::<Brand, V, O, S, T, G, C, R>(rt, alloc, memory, site, clock, handed)
 }

@@ -15,13 +15,18 @@ pub struct Sizes {
     pub slots: u32,
     /// Copies that wait for a worker thread, 1 to 1,024.
     pub capacity: u32,
-    /// A limit of bytes for each mailbox, if there is one.
-    pub quota: Option<u64>,
 }
 
 /// Whether a server may be made so.
-pub fn is_size(site: &Site, sizes: Sizes, lanes: usize, spools: usize, gates: usize) -> bool
-    ensures size { IsTrue result ↔ IsSize site.now sizes lanes spools gates }
+pub fn is_size(
+    site: &Site,
+    sizes: Sizes,
+    lanes: usize,
+    spools: usize,
+    gates: usize,
+    quotas: usize,
+) -> bool
+    ensures size { IsTrue result ↔ IsSize site.now sizes lanes spools gates quotas }
     ensures some { IsTrue result → 0 < spools }
 {
     let boxes = site.box_count() as usize;
@@ -31,4 +36,5 @@ pub fn is_size(site: &Site, sizes: Sizes, lanes: usize, spools: usize, gates: us
         && (1..=LANE_LIMIT as usize).contains(&lanes)
         && spools == boxes
         && gates == boxes
+        && quotas == boxes
 }

@@ -8,16 +8,16 @@ ghost use Rattle.lmtpd_words.specs.Words.{serving_site};
 ghost use Rattle.lmtpd_setup.specs.Curfew.{IsCurfewOf};
 ghost use Rattle.lmtpd_setup.specs.Faults.{site_fault};
 ghost use Rattle.lmtpd_setup.specs.Mailboxes.{IsUntold, held_as};
-ghost use Rattle.lmtpd_setup.specs.Setup.{ends_asked, mailboxes_asked};
+ghost use Rattle.lmtpd_setup.specs.Setup.{ends_asked, mailboxes_asked, quotas_asked};
 ghost use Rattle.lmtpd.specs.Program.{IsListenedAt, IsNotServed, IsServedAsAsked};
 
-use super::numbers::{bounds_asked, connections_asked, sizes_asked};
+use super::numbers::{conversations_asked, sizes_asked};
 use crate::lacking::house_fault;
 use box_worker::TurnObserver;
 use lmtp_house::{HouseFault, Observer};
 use lmtpd_listen::{Opened, listen_address_of};
 use lmtpd_log::{LaneLog, LineLog, LogSink, MailboxLog};
-use lmtpd_serve::{Conversations, Served, serve_run, watch_stop};
+use lmtpd_serve::{Served, serve_run, watch_stop};
 use lmtpd_setup::{
     ServerLog, ServerSetup, Stop, WaitingMailbox, open_address, set_up, tell_of_sizes,
 };
@@ -90,6 +90,7 @@ where
     requires sound { site_fault words.now.site ≡ None }
     requires count { length setup.spools.items ≡ length words.now.site.boxes.items }
     requires mailboxes { map held_as setup.spools.items ≡ mailboxes_asked words.now }
+    requires quotas { setup.quotas.items ≡ quotas_asked words.now }
     requires untold { AllByRecursion (λ mailbox. IsUntold mailbox) setup.spools.items }
     requires ends { IsCurfewOf (ends_asked words.now) (arc_value setup.curfew) }
     requires addresses { setup.logs.addresses ≡ words.now.log_addresses }
@@ -109,22 +110,18 @@ where
         curfew,
         slow,
         spools,
+        quotas,
         logs,
     } = setup;
     let Opened { socket, file } = opened;
-    let conversations = Conversations {
-        lanes: words.lanes,
-        count: connections_asked(words),
-        bounds: bounds_asked(words),
-        curfew,
-        slow,
-    };
     let sizes = sizes_asked(words);
+    let conversations = conversations_asked(words, curfew, slow);
     let served = serve_run(
         threads,
         alloc,
         site,
         sizes,
+        quotas,
         conversations,
         socket,
         spools,

@@ -38,12 +38,12 @@ fn look_at_sizes<'a, G: Log>(
     boxes: usize,
     log: &G,
 ) -> Result<(), Stop<'a>>
-    ensures { MatchResult result (λ _. IsSize site.now (sizes_asked words.now) words.now.lanes boxes boxes)
+    ensures { MatchResult result (λ _. IsSize site.now (sizes_asked words.now) words.now.lanes boxes boxes boxes)
         (λ stop. (stop ≡ Stop.Fault Fault.Size)
-        × ¬ IsSize site.now (sizes_asked words.now) words.now.lanes boxes boxes) }
+        × ¬ IsSize site.now (sizes_asked words.now) words.now.lanes boxes boxes boxes) }
 {
     let sizes = sizes_asked(words);
-    if is_size(site, sizes, words.lanes as usize, boxes, boxes) {
+    if is_size(site, sizes, words.lanes as usize, boxes, boxes, boxes) {
         Ok(())
     } else {
         tell_of_sizes(words, log);

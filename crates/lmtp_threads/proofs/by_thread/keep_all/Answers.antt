@@ -15,7 +15,7 @@ loop-own-preserved g c =
     let own = c.in-Some.own in
     let kept = c.keep.result in
     let pushed = c.push_reserved.ensures in
-    let Kept = IsKept (spools_view g.S.Spool.state g.S.Spool.MayFind g.S.Spool.MayRefuse g.T.TurnObserver.told) c.args.quota in record {
+    let Kept = IsKept (spools_view g.S.Spool.state g.S.Spool.MayFind g.S.Spool.MayRefuse g.T.TurnObserver.told) c.args.quotas.now in record {
       room = omega (arith, was.room, steps.1, pushed.len, pushed.capacity);
       done = (
         was.done.0 ++ own ∷ [],
@@ -28,7 +28,7 @@ loop-own-preserved g c =
 pub returns : goal.returns
 returns g c =
     let was = c.loop-own.invariant in
-    let Kept = IsKept (spools_view g.S.Spool.state g.S.Spool.MayFind g.S.Spool.MayRefuse g.T.TurnObserver.told) c.args.quota in
+    let Kept = IsKept (spools_view g.S.Spool.state g.S.Spool.MayFind g.S.Spool.MayRefuse g.T.TurnObserver.told) c.args.quotas.now in
     let rest : into_iter_items c.loop-own.own-iterator ≡ [] = nil_from_length (into_iter_items c.loop-own.own-iterator) (search rules) in
     let all : was.done.0 ≡ vec_items c.args.boxes = sym (append-nil was.done.0) ∙ (ap (λ l. was.done.0 ++ l) (sym rest) ∙ was.done.1) in
     subst (λ l. AllZip Kept l (vec_items c.loop-own.kept)) all was.done.2

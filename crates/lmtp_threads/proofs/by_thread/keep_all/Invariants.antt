@@ -10,5 +10,5 @@ abbrev pub invariant-loop-own : goal.invariant-loop-own
 invariant-loop-own g l = record {
   room : vec_len l.kept + into_iter_len l.own-iterator ≤ vec_capacity l.kept;
   done : (before : List _) × (before ++ into_iter_items l.own-iterator ≡ vec_items l.fn.boxes)
-      × AllZip (IsKept (spools_view g.S.Spool.state g.S.Spool.MayFind g.S.Spool.MayRefuse g.T.TurnObserver.told) l.fn.quota) before (vec_items l.kept);
+      × AllZip (IsKept (spools_view g.S.Spool.state g.S.Spool.MayFind g.S.Spool.MayRefuse g.T.TurnObserver.told) l.fn.quotas) before (vec_items l.kept);
 }

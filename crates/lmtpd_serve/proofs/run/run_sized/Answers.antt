@@ -48,4 +48,5 @@ returns-in-Err-clause-sized g c e =
       some_lanes = subst (λ n. (1 ≤ n) × (n ≤ LANE_LIMIT)) (sym lanes) c.requires.some_lanes;
       each_spool = c.requires.each_spool;
       each_gate = omega (arith, gates, c.len.ensures, c.requires.each_gate);
+      each_quota = c.requires.each_quota;
     })

@@ -1,4 +1,4 @@
-use Rattle.std.proofs.Common.{◌==◌, ◌≡◌, ◌+◌, ◌∙◌, ap, sym, rules, false, not, [], length, take, get_or, arith}
+use Rattle.std.proofs.Common.{◌==◌, ◌≡◌, ◌+◌, ◌∙◌, ap, sym, rules, [], length, take, get_or, arith}
 use Rattle.std.proofs.lemmas.Iterator.Consumers.{YieldsList-end, YieldsList-so_far, YieldsList-turn}
 use Rattle.std.proofs.lemmas.Iterator.Splits.{YieldsList-from_slice_split}
 use Rattle.std.proofs.lemmas.List.{get_or_default}
@@ -27,14 +27,12 @@ returns-then-names-number c =
     (ap split_callee c.into_iter-line-iterator.ensures.into_iter_gives ∙ c.split-line-items.ensures.closure)
     (λ x r q k. search (rules, tests)))
     yielded _ c.loop-line.yielded_by in
-    let name : c.name_in.result.now ≡ name_in (get_or lines (length yielded) []) =
-    c.name_in.ensures ∙ ap name_in (turn.1 ∙ get_or_default lines (length yielded) line.now [] turn.0) in
-    let named : (length c.name_in.result.now == 0) ≡ false = sym c.is_empty.ensures ∙ c.if-not-is_empty.true in
+    let here : line.now ≡ get_or lines (length yielded) [] = turn.1 ∙ get_or_default lines (length yielded) line.now [] turn.0 in
     record {
       above = length yielded;
       counted = ap (λ n. n + 1) c.loop-line.invariant.0;
       within = turn.0;
-      named = ap is_named (sym name) ∙ ap not named;
+      named = ap (λ l. is_named (name_in l)) (sym here) ∙ (sym c.lists_box.ensures ∙ c.if-lists_box.true);
       names_above = ap (λ l. length (names_in l)) (sym so_far) ∙ (sym c.loop-line.invariant.1 ∙ c.if-names-number.true);
     }
 

@@ -1,8 +1,4 @@
-use Rattle.std.proofs.Common.{◌∙◌, ap, ap₂}
-use Rattle.std.proofs.lemmas.Result.{IfOk-weaker}
-use Rattle.clap.specs.Simple.{App, with_subcommand}
 use Rattle.lmtpd_words.proofs.command.with_serve.Goals as goal
 
 pub returns : goal.returns
-returns c = IfOk-weaker c.subcommand.result _ _ (λ command added. added.shape c.in_ok-serve.ensures.local
-    ∙ ap₂ with_subcommand c.in_ok-command.ensures (ap (λ (a : App). a.top) c.in_ok-serve.ensures.shape)) c.subcommand.ensures
+returns c = c.added.ensures _ _ c.with_rehearse.ensures c.serve.ensures.shape c.serve.ensures.local

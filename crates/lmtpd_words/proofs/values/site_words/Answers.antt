@@ -1,4 +1,6 @@
-use Rattle.std.proofs.Common.{◌∙◌, sym, inl, codes, refl}
+use Rattle.std.proofs.Common.{◌≡◌, ◌∙◌, ap, sym, inl, codes, length, refl, arith, rules}
+use Rattle.std.specs.Prelude.{replicate}
+use Rattle.lmtpd_words.specs.declared.quotas.BoxQuota.TheVariants.{Asked}
 use Rattle.clap.specs.Words.{found_of}
 use Rattle.clap.proofs.WalkLemmas.{first_value-rows}
 use Rattle.lmtpd_words.proofs.values.site_words.Goals as goal
@@ -8,12 +10,15 @@ returns-in_default c = inl (sym (first_value-rows (found_of c.args.matches.now) 
 
 pub returns : goal.returns
 returns c =
-    let f = found_of c.args.matches.now in record {
+    let f = found_of c.args.matches.now in
+    let count : c.len.result ≡ length c.in_ok-boxes.boxes.items = omega (arith, c.len.ensures) in
+    record {
       host = sym (first_value-rows f (codes "host")) ∙ sym c.in-Some.ensures;
       domains = c.in_ok-domains.ensures;
       boxes_file = c.boxes_file_of.ensures;
       listed = refl;
       boxes = c.in_ok-boxes.ensures;
+      quotas = c.in_ok-quotas.ensures.items_if_clones_equal (λ y h. search rules) ∙ ap (λ n. replicate n Asked) count;
       message_limit = c.in-Some-message_limit_of.ensures;
       recipient_delimiter = c.in-Some-delimiter_of.ensures;
       rename_marks = c.is_given.ensures;

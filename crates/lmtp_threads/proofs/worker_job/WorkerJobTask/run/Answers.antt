@@ -1,4 +1,4 @@
-use Rattle.std.proofs.Common.{sym, subst, vec_items}
+use Rattle.std.proofs.Common.{ℕ, List, Option, sym, subst, vec_items}
 use Rattle.std.specs.Arc.{arc_value}
 use Rattle.mail_world.specs.Site.{Site}
 use Rattle.mail_post.specs.Offered.{HaveNumber}
@@ -14,14 +14,14 @@ pub thread_run-requires-clause-places : goal.thread_run-requires-clause-places
 thread_run-requires-clause-places g c =
     let view = spools_view g.S.Spool.state g.S.Spool.MayFind g.S.Spool.MayRefuse g.T.TurnObserver.told in
     let me = c.self.inside in
-    places view me.quota (arc_value me.base.site) me.thread me.receiver (vec_items me.slips) (vec_items me.boxes) (vec_items c.keep_all-kept.result)
+    places view c.deref.result.now (arc_value me.base.site) me.thread me.receiver (vec_items me.slips) (vec_items me.boxes) (vec_items c.keep_all-kept.result)
     c.keep_all-kept.ensures (subst (λ t. IsOwner t) (sym c.self.view_is) c.requires.1)
 
 pub thread_run-requires-clause-numbered : goal.thread_run-requires-clause-numbered
 thread_run-requires-clause-numbered g c =
     let view = spools_view g.S.Spool.state g.S.Spool.MayFind g.S.Spool.MayRefuse g.T.TurnObserver.told in
     let me = c.self.inside in
-    of_thread view me.quota (arc_value me.base.site) me.thread me.receiver (vec_items me.slips) (vec_items me.boxes) (vec_items c.keep_all-kept.result)
+    of_thread view c.deref.result.now (arc_value me.base.site) me.thread me.receiver (vec_items me.slips) (vec_items me.boxes) (vec_items c.keep_all-kept.result)
     c.keep_all-kept.ensures (subst (λ t. IsOwner t) (sym c.self.view_is) c.requires.1)
     (subst (λ (t : ThreadTask _). HaveNumber t.thread t.slips) (sym c.self.view_is) c.requires.0.thread)
 
@@ -31,14 +31,15 @@ returns g c =
     let me = c.self.inside in
     let back = thread_back c.thread_run.result in
     let says = c.thread_run.ensures in
-    let made = thread_work view me.quota c.deref-2.result.now me.thread me.receiver (vec_items me.slips) (vec_items me.boxes) (vec_items c.keep_all-kept.result)
+    let made = thread_work view c.deref.result.now c.deref-3.result.now me.thread me.receiver (vec_items me.slips) (vec_items me.boxes) (vec_items c.keep_all-kept.result)
     c.keep_all-kept.ensures back says.worked says.numbers says.channel says.lost says.numbered says.only in
     let Made : ThreadTask _ → Type 0 = λ t. IsThreadWork view t back in
-    let At : Site → Type 0 = λ s. Made (record {
-      share = share_of s me.quota;
+    let At : Site → List (Option ℕ) → Type 0 = λ s quotas. Made (record {
+      share = share_of s quotas;
       thread = me.thread;
       receiver = me.receiver;
       slips = vec_items me.slips;
       boxes = vec_items me.boxes;
     }) in
-    subst Made c.self.view_is (subst At c.deref-2.ensures made)
+    subst Made c.self.view_is
+    (subst (λ quotas. At (arc_value me.base.site) quotas) c.deref.ensures (subst (λ s. At s c.deref.result.now) c.deref-3.ensures made))

@@ -1,7 +1,7 @@
 use Rattle.std.proofs.Common.{◌∙◌, ap, refl}
 use Rattle.std.proofs.lemmas.Str.Ascii.{trim_ascii_is}
 use Rattle.lmtpd_words.specs.Boxes.{without_white_space, without_prefix}
-use Rattle.lmtpd_words.proofs.boxes.name_in.Goals as goal
+use Rattle.lmtpd_words.proofs.boxes.text_in.Goals as goal
 
 pub returns : goal.returns
 returns c =

@@ -1,0 +1,13 @@
+use Rattle.std.proofs.Common.{rules}
+use Rattle.std.proofs.lemmas.Iterator.{YieldsList-from_slice}
+use Rattle.std.proofs.lemmas.Iterator.Search.{position_from_yields_List}
+use borrow.Author.Tests.{tests}
+use Rattle.lmtpd_words.specs.Boxes.{is_blank}
+use Rattle.lmtpd_words.proofs.Prefixes.{place_is}
+use Rattle.lmtpd_words.proofs.boxes.word_len.Goals as goal
+
+pub returns-clause-value : goal.returns-clause-value
+returns-clause-value c =
+    let e = position_from_yields_List is_blank _ _ c.position.result c.position.ensures.ran (YieldsList-from_slice c.args.text.now cc)
+    (λ x b q k. search (rules, tests)) in
+    place_is is_blank c.args.text.now c.position.result c.unwrap_or.result e c.unwrap_or.ensures
