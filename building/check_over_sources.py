@@ -23,7 +23,7 @@ KIT = pathlib.Path(rtlib.KIT)
 
 def source_of(crate):
     """The words that have a crate below read as sources, with the libraries that it may name."""
-    uses = dict.fromkeys(["core", *crate.of_kit, *(it.name for it in crate.deps)])
+    uses = dict.fromkeys([*crate.of_kit, *(it.name for it in crate.deps)])
     return ["--lib", f"{crate.name}:{','.join(uses)}={crate.folder}/src/lib.rt"]
 
 
@@ -34,7 +34,7 @@ def library_of(crate):
 def words_for(crate, changed):
     """The words of a check over these crates as sources, and over the others as libraries."""
     below = crate.below()
-    of_kit = {"core", *crate.of_kit, *(kit for it in below if it.name in changed for kit in it.of_kit)}
+    of_kit = {*crate.of_kit, *(kit for it in below if it.name in changed for kit in it.of_kit)}
     words = [word for kit in sorted(of_kit) for word in ("--extern", f"{kit}={KIT}/rlibs/{kit}.rlib")]
     for it in below:
         words += source_of(it) if it.name in changed else library_of(it)
