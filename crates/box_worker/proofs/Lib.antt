@@ -13,3 +13,6 @@ pub mod Within
 pub mod Passing
 pub mod Gives
 pub mod OwnSlips
+pub mod PutOff
+pub mod Patience
+pub mod Modelled

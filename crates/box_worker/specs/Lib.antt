@@ -7,3 +7,5 @@ pub mod TurnTimes
 pub mod Worked
 pub mod Shares
 pub mod Passing
+pub mod PutOff
+pub mod Modelled

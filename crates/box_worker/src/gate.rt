@@ -1,4 +1,4 @@
-//! Where a test may hold a worker.
+//! Where a test may hold a worker, and what a thread calls that can't go on.
 
 use crate::turn::TurnEnd;
 use mail_world::Txn;
@@ -6,6 +6,11 @@ use mail_world::Txn;
 /// What a worker calls before it begins a copy's record, and once it has let the copy go. Nothing is promised of it: a
 /// gate may wait, and count.
 pub trait Gate {
+    /// Whether the mailbox may have a turn now. A thread that can put copies off goes on with its others meanwhile.
+    fn is_free(&mut self) -> bool {
+        true
+    }
+
     /// Nothing of the copy is in the spool yet.
     fn before(&mut self, txn: Txn, place: u32);
 
@@ -25,4 +30,10 @@ impl Gate for OpenGate {
     fn after(&mut self, txn: Txn, place: u32, end: TurnEnd) {
         let _ = (txn, place, end);
     }
+}
+
+/// What a thread calls where all copies that it has were put off, and no other has come. Nothing is promised of it: it
+/// may wait.
+pub trait Pause {
+    fn pause(&mut self);
 }

@@ -60,6 +60,13 @@ impl<S: Spool, G: Gate, O: TurnObserver> Kept<S, G, O> {
         }
     }
 
+    /// Whether it may have a turn now that waits for nobody, as far as can be told.
+    pub(crate) fn is_free(&mut self) -> bool
+        ensures { self.new ≡ self.old }
+    {
+        self.gate.is_free() && !self.mailbox.is_waited_for()
+    }
+
     /// One copy, from gate to slip. A slip takes what `release` makes of the hold, so that no lane is told before. In
     /// proofs the receiver says when the copy was taken.
     pub(crate) fn handle<N: DepotName, R: Wait>(

@@ -95,6 +95,13 @@ impl<S: Spool> Mailbox<S> {
         }
     }
 
+    /// Whether others have it, and may still be waited for.
+    pub fn is_waited_for(&mut self) -> bool
+        ensures { self.new ≡ self.old }
+    {
+        self.spool.is_waited_for()
+    }
+
     // What became of a record that was let in.
     fn count(&mut self, kept: Result<(), SpoolFault>) -> TurnEnd
         ensures stored { OnOk kept ((result ≡ TurnEnd.Stored) × (self.new ≡ record self.old {

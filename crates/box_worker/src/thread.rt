@@ -79,8 +79,8 @@ fn take_next<K: Moment, N: DepotName, R: Wait>(
     receiver.take::<K, R>(rt)
 }
 
-// One copy, by its own mailbox. A copy of another thread's mailbox is let go; no lane offers one.
-fn handle_copy<N: DepotName, S: Spool, G: Gate, O: TurnObserver, R: Wait>(
+/// One copy, by its own mailbox. A copy of another thread's mailbox is let go; no lane offers one.
+pub(crate) fn handle_copy<N: DepotName, S: Spool, G: Gate, O: TurnObserver, R: Wait>(
     rt: &R,
     depot: &Depot<N>,
     site: &Site,
@@ -104,8 +104,8 @@ fn handle_copy<N: DepotName, S: Spool, G: Gate, O: TurnObserver, R: Wait>(
     }
 }
 
-// Where the mailbox of that number stands among a thread's, if it is one of them.
-fn place_of<S: Spool, G: Gate, O: TurnObserver>(
+/// Where the mailbox of that number stands among a thread's, if it is one of them.
+pub(crate) fn place_of<S: Spool, G: Gate, O: TurnObserver>(
     boxes: &[Kept<S, G, O>],
     number: u32,
 ) -> Option<usize>
@@ -119,8 +119,8 @@ fn place_of<S: Spool, G: Gate, O: TurnObserver>(
     }
 }
 
-// What a thread hands back once nothing more comes.
-fn report<N: DepotName, S: Spool, G: Gate, O: TurnObserver>(
+/// What a thread hands back once nothing more comes.
+pub(crate) fn report<N: DepotName, S: Spool, G: Gate, O: TurnObserver>(
     receiver: Receiver<N>,
     slips: SlipSenders,
     boxes: Vec<Kept<S, G, O>>,

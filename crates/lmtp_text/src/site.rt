@@ -30,7 +30,7 @@ pub enum SiteFault {
     Domain = 3,
     #[error("a mailbox has 1 to 32 of a-z, 0-9, dash, underscore and dot, and no dot at its front")]
     Box = 4,
-    #[error("a site has 1 to 256 mailboxes")]
+    #[error("a site has 1 to 65536 mailboxes")]
     Count = 5,
     #[error("two mailboxes have the same name")]
     Twice = 6,

@@ -4,7 +4,9 @@ ghost use Rattle.std.specs.Prelude.{◌≡◌, true, false, ◌<◌, ◌+◌, []
 ghost use Rattle.std.specs.Prelude.{length};
 ghost use Rattle.crossbeam_channel.specs.Claims.{IsSeatAt};
 ghost use Rattle.crossbeam_channel.specs.Ends.{sends_on, receives_on, ruled_capacity};
-ghost use Rattle.mail_post.specs.Views.{sender, taker};
+ghost use Rattle.mail_post.specs.Views.{sender, taker, IsTook};
+ghost use Rattle.mail_post.specs.Rule.{IsFair};
+ghost use Rattle.mail_post.specs.Times.{HaveMoments};
 ghost use Rattle.mail_post.specs.Channel.{view_of, taken, IsNext, IsDrained, TookSome, TookAll};
 ghost use Rattle.mail_post.specs.Channel.{new_senders, new_inbox, AreSenders, AreSendersOf, sent_by, sent_at_by};
 ghost use Rattle.mail_post.specs.Channel.{IsAccepted, IsTimed, HasSameTimes, HasPassedThrough};
@@ -12,7 +14,7 @@ ghost use Rattle.mail_post.specs.Channel.{IsAccepted, IsTimed, HasSameTimes, Has
 use crate::rule::{
     Ends, FromSender, LaneOrder, Lanes, Moment, Offers, Opens, Parcel, Room, Settles, Takes, View,
 };
-use crossbeam_channel::{Pass, RuledReceiver, RuledSender, bounded_with};
+use crossbeam_channel::{Pass, RuledReceiver, RuledSender, TryRecvError, bounded_with};
 use std::alloc::{AllocError, Global};
 use std::marker::{Brand, Model};
 use std::sync::Wait;
@@ -203,21 +205,33 @@ impl<M: FromSender> ChannelReceiver<M> {
             return Err(why);
         }
         for _ in rt.forever() {
-            if let Some(answer) = self.next::<K, R>(rt) {
+            if let Some(answer) = self.next::<K, R>(rt, true) {
                 return answer;
             }
         }
         unreachable!()
     }
 
-    // What one parcel answers: None where it was a mark, and another is missing.
-    fn next<K: Moment, R: Wait>(&mut self, rt: &R) -> Option<Result<M, Gone>>
+    /// As `take`, where nothing was found gone yet, but it doesn't wait: None where nothing is there now, or what came
+    /// was the closing mark of a lane while another's is missing.
+    pub fn try_take<K: Moment, R: Wait>(&mut self, rt: &R) -> Option<Result<M, Gone>>
         requires { self.old.gone ≡ None }
         ensures same { (self.new.channel ≡ self.old.channel) × (self.new.lanes ≡ self.old.lanes)
             × (self.new.capacity ≡ self.old.capacity) }
         ensures next { IsNext M.sender K.after self.old self.new result }
     {
-        match self.end.recv_as::<Takes<K>, R>(rt, &mut self.pass) {
+        self.next::<K, R>(rt, false)
+    }
+
+    // What one parcel answers: None where it was a mark, and another is missing, or where it isn't waited for and none
+    // is there.
+    fn next<K: Moment, R: Wait>(&mut self, rt: &R, waits: bool) -> Option<Result<M, Gone>>
+        requires { self.old.gone ≡ None }
+        ensures same { (self.new.channel ≡ self.old.channel) × (self.new.lanes ≡ self.old.lanes)
+            × (self.new.capacity ≡ self.old.capacity) }
+        ensures next { IsNext M.sender K.after self.old self.new result }
+    {
+        match receive::<M, K, R>(rt, &self.end, &mut self.pass, waits) {
             Ok(Parcel::Copy(post)) => Some(Ok(post)),
             Ok(Parcel::Mark(_)) => {
                 let lanes = self.lanes;
@@ -228,11 +242,36 @@ impl<M: FromSender> ChannelReceiver<M> {
                 self.gone = Some(Gone::Closed);
                 Some(Err(Gone::Closed))
             }
-            Err(_) => {
+            Err(TryRecvError::Empty) => None,
+            Err(TryRecvError::Disconnected) => {
                 self.gone = Some(Gone::Lost);
                 Some(Err(Gone::Lost))
             }
         }
+    }
+}
+
+// The oldest parcel, a message taken after the picked time. Where it isn't waited for there may be none.
+fn receive<M: FromSender, K: Moment, R: Wait>(
+    rt: &R,
+    end: &RuledReceiver<Parcel<M>, View<M>, LaneOrder<M>>,
+    pass: &mut Pass<Parcel<M>, View<M>>,
+    waits: bool,
+) -> Result<Parcel<M>, TryRecvError>
+    requires seat { IsSeatAt (receives_on end.now) pass.old }
+    requires takes { (view_of pass.old).takes ≡ true }
+    ensures seat { IsSeatAt (receives_on end.now) pass.new }
+    ensures took { IfOk result (λ parcel. IsTook K.after (view_of pass.old) parcel (view_of pass.new)
+        × IsFair M.sender (view_of pass.new).lanes (view_of pass.new).got
+        × HaveMoments (view_of pass.new).got_at (view_of pass.new).took_at) }
+    ensures nothing { OnErr result (view_of pass.new ≡ view_of pass.old) }
+{
+    if !waits {
+        return end.try_recv_as::<Takes<K>, R>(rt, pass);
+    }
+    match end.recv_as::<Takes<K>, R>(rt, pass) {
+        Ok(parcel) => Ok(parcel),
+        Err(_) => Err(TryRecvError::Disconnected),
     }
 }
 

@@ -35,7 +35,7 @@ pub const SIZE_DIGIT_LIMIT: usize = 20;
 pub const RECIPIENT_LIMIT: usize = 1_000;
 
 /// The mailboxes of a site.
-pub const BOX_LIMIT: usize = 256;
+pub const BOX_LIMIT: usize = 65_536;
 
 /// The transactions that one lane may number, from 1.
 pub const NUMBER_LIMIT: u32 = 4_294_967_295;

@@ -7,3 +7,4 @@ pub mod Failing
 pub mod Leaving
 pub mod Letters
 pub mod Lined
+pub mod Seen

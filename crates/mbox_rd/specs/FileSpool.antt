@@ -1,18 +1,19 @@
 -- What contracts see of a spool over a file, which other programs use too.
 use Rattle.std.specs.Prelude.{◌≡◌, ℕ, ◌+◌, ◌-◌, ◌≤◌, ◌^◌, min, ◌||◌, Bool, true, false, List, [], ◌++◌, length, take}
-use Rattle.std.specs.Prelude.{Option, Some, None}
+use Rattle.std.specs.Prelude.{Option, Some, None, if◌then◌else◌}
 use Rattle.mail_world.specs.Counts.{counted}
 use Rattle.mail_world.specs.Failures.{Rises}
 use Rattle.mail_world.specs.Prefixes.{IsPrefix}
 use Rattle.mail_world.specs.Turns.{Standing}
 use Rattle.mbox_spool.specs.Lines.{CopiesLines}
 use Rattle.mbox_spool.specs.Spool.{SpoolState}
-use Rattle.mbox_spool.specs.TurnLog.{TurnLog, no_turns, begun_at, missed, ended_at}
+use Rattle.mbox_spool.specs.TurnLog.{TurnLog, no_turns_at, begun_at, missed, left_at}
 use Rattle.mbox_spool.specs.declared.tail.Tail.{Tail}
 use Rattle.mbox_file.specs.MailboxFile.{FileState, IsHeld}
 use Rattle.mail_world.specs.Endings.{ending}
 use Rattle.mbox_spool.specs.Tail.{ending_of}
-use Rattle.mbox_rd.specs.Turn.{HasEndedTurn}
+use Rattle.mbox_rd.specs.Patience.{IsPutOff}
+use Rattle.mbox_rd.specs.Turn.{HasBegun, HasEndedTurn}
 use Rattle.mbox_rd.specs.declared.patience.Patience.{Patience}
 
 pub record FileSpool (F : Type 0) : Type 0 where
@@ -31,7 +32,9 @@ pub record FileSpool (F : Type 0) : Type 0 where
   pub is_unsynced : Bool
   -- what an earlier turn cut off may not be kept so, and nothing is appended over that
   pub is_unsettled : Bool
-  -- how long the file was as the turn began
+  -- its locks were taken before a turn is asked for
+  pub is_ready : Bool
+  -- how long the file was as the turn began, or as these locks were taken
   pub began : ℕ
   -- how the file ended then, with what was written since, as long as no call failed
   pub tail : Tail
@@ -49,13 +52,13 @@ contents_of state spool = (state spool.file).bytes ++ spool.waiting
 abbrev pub standing_of : FileState → ℕ → Standing
 standing_of file failures = record { bytes = file.bytes; synced = file.kept; failures = failures }
 
--- what contracts see of it as a spool
-abbrev pub state_of : {F : Type 0} → (F → FileState) → FileSpool F → SpoolState
-state_of state spool = record {
-  bytes = contents_of state spool;
+-- what contracts see of it as a spool, by whether they see its file or how the last turn left that
+abbrev pub seen_by : {F : Type 0} → (F → FileState) → Bool → FileSpool F → SpoolState
+seen_by state sees_file spool = record {
+  bytes = if sees_file then contents_of state spool else spool.log.stands.bytes;
   failures = spool.failures;
   limit = None;
-  synced = (state spool.file).kept;
+  synced = if sees_file then (state spool.file).kept else spool.log.stands.synced;
   turn = record {
     in_turn = spool.in_turn;
     has_failed = spool.has_failed;
@@ -65,6 +68,11 @@ state_of state spool = record {
     turns = spool.log.turns;
   };
 }
+
+-- The file is seen in a turn alone. Between two turns it stays as the last one left it, and before the first one as the
+-- spool found it.
+abbrev pub state_of : {F : Type 0} → (F → FileState) → FileSpool F → SpoolState
+state_of state spool = seen_by state spool.in_turn spool
 
 -- it knows how the file ends
 abbrev pub KnowsEnd : {F : Type 0} → (F → FileState) → FileSpool F → Type 0
@@ -83,9 +91,17 @@ abbrev pub StandsOn : Option Standing → ℕ → FileState → Type 0
 StandsOn None began file = ⊥
 StandsOn (Some lock) began file = BeginsWith lock began file
 
+-- Locks were taken before a turn is asked for, on the file that the path names, where a crash leaves it: its length and
+-- end are known. The last turn didn't break.
+pub record IsReady {F : Type 0} (state : F → FileState) (spool : FileSpool F) : Type 0 where
+  pub begun : HasBegun (state spool.file) (state spool.file) (record { at = spool.began; tail = spool.tail })
+  pub entry : (state spool.file).has_entry ≡ true
+  pub sound : spool.has_failed ≡ false
+
 -- What holds of it between two calls: outside a turn nothing waits, nor after a good sync; in a turn both locks are
 -- held, a crash leaves the file at its path, and it still begins with what stood there at the lock, of which as much is
--- kept; and as long as no call failed in it, its end is known.
+-- kept; and as long as no call failed in it, its end is known. Locks that were taken before a turn are held until it is
+-- asked for. Where a turn was put off its wait goes on.
 pub record IsInOrder {F : Type 0} (state : F → FileState) (spool : FileSpool F) : Type 0 where
   pub free : spool.in_turn ≡ false → (spool.waiting ≡ []) × (spool.log.began ≡ None)
   pub synced : spool.is_unsynced ≡ false → spool.waiting ≡ []
@@ -94,17 +110,21 @@ pub record IsInOrder {F : Type 0} (state : F → FileState) (spool : FileSpool F
   pub stands : spool.in_turn ≡ true → StandsOn spool.log.began spool.began (state spool.file)
   pub ends : spool.in_turn ≡ true → spool.has_failed ≡ false → KnowsEnd state spool
   pub settled : spool.is_unsettled ≡ false → (state spool.file).cut_off ≡ []
+  pub ready : spool.in_turn ≡ false → spool.is_ready ≡ true → IsReady state spool
+  pub unready : spool.in_turn ≡ true → spool.is_ready ≡ false
+  pub put_off : spool.patience.goes_on ≡ true → IsPutOff spool.patience spool.wait
 
--- Just opened: nothing waits, nothing failed, and it is in no turn. What was cut off before, by another process too,
--- may not be kept so.
-pub record IsOpened {F : Type 0} (spool : FileSpool F) : Type 0 where
+-- Just opened: nothing waits, nothing failed, and it is in no turn, and had none: it stands as its file does. What was
+-- cut off before, by another process too, may not be kept so.
+pub record IsOpened {F : Type 0} (state : F → FileState) (spool : FileSpool F) : Type 0 where
   pub empty : spool.waiting ≡ []
   pub sound : spool.has_failed ≡ false
   pub free : spool.in_turn ≡ false
   pub unsettled : spool.is_unsettled ≡ true
   pub failures : spool.failures ≡ 0
   pub refusals : spool.refusals ≡ 0
-  pub turns : spool.log ≡ no_turns
+  pub unready : spool.is_ready ≡ false
+  pub turns : spool.log ≡ no_turns_at (standing_of (state spool.file) 0)
 
 -- A turn began: both locks are on the file that the path names, where a crash leaves it, and its length and end are
 -- those that it has now. Nothing waits.
@@ -121,6 +141,7 @@ pub record StartsTurn {F : Type 0} (state : F → FileState) (old new : FileSpoo
   pub same : new ≡ record old {
     file = new.file;
     patience = new.patience;
+    is_ready = false;
     waiting = [];
     in_turn = true;
     has_failed = false;
@@ -136,6 +157,7 @@ abbrev pub CountsRefusal : {F : Type 0} → FileSpool F → FileSpool F → Type
 CountsRefusal old new = new ≡ record old {
   file = new.file;
   patience = new.patience;
+  is_ready = false;
   refusals = counted (old.refusals + 1);
   log = missed old.log;
 }
@@ -152,7 +174,7 @@ StopsTurn state old new = new ≡ record old {
   waiting = [];
   in_turn = false;
   is_unsettled = new.is_unsettled;
-  log = ended_at old.log (standing_of (state new.file) old.failures);
+  log = left_at old.log (standing_of (state new.file) old.failures);
 }
 
 -- the bytes were taken: the file's and what waits grow by them, and no lock changes

@@ -60,7 +60,17 @@ pub record HasAsked (old new : Patience) (seconds : ℕ) : Type 0 where
     paused_ms = 0;
     lasted_ms = 0;
     paused_none = false;
+    goes_on = false;
   }
+
+-- A turn was asked for, and put off.
+abbrev pub IsPutOff : Patience → ℕ → Type 0
+IsPutOff patience seconds = HasAsked patience (record patience { goes_on = false }) seconds
+
+-- it has more than one try, and its pauses took less than there was time for
+pub record HasTime (patience : Patience) : Type 0 where
+  pub was_missed : patience.was_missed ≡ false
+  pub left : patience.paused_ms < patience.left_ms
 
 -- The time for this turn was over as a pause was asked for: by the clock, or, where that told none as the turn was
 -- asked for, by its pauses.

@@ -50,6 +50,11 @@ impl<F: MailboxFile + Drop, C: Clock + Drop> Spool for BoxedSpool<F, C> {
     }
 
     /// As the spool does.
+    fn is_waited_for(&mut self) -> bool {
+        self.inner.as_mut().is_waited_for()
+    }
+
+    /// As the spool does.
     fn unlock(&mut self) {
         self.inner.as_mut().unlock()
     }

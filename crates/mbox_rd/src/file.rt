@@ -1,7 +1,7 @@
 //! A mailbox in a file, which other programs read and empty too: it takes bytes in turns, and what stands there is
 //! looked at again in each. Nothing of it lasts from one turn to the next but its file and whether the last turn broke.
 ghost use Rattle.std.specs.Prelude.{◌≡◌, ◌≢◌, ◌<◌, ◌≤◌, ◌-◌, ◌⊎◌, ℕ, List, [], ◌∷◌, ◌++◌, true, false, length, take};
-ghost use Rattle.std.specs.Prelude.{drop, ⊤, Err, IsErr, IfOk, IfErr, OnOk, OnErr};
+ghost use Rattle.std.specs.Prelude.{drop, ⊤, Ok, Err, IsErr, IfOk, IfErr, OnOk, OnErr};
 ghost use Rattle.mail_world.specs.Endings.{ending, ending_from};
 ghost use Rattle.mail_world.specs.Failures.{Rises};
 ghost use Rattle.mail_world.specs.Prefixes.{IsPrefix};
@@ -46,6 +46,8 @@ pub struct FileSpool<F: MailboxFile + Drop, C: Clock + Drop> {
     buffer: Arc<SharedBuffer>,
     began: u64,
     tail: Tail,
+    // its locks were taken before a turn is asked for, and it was so long then, and ended so
+    is_ready: bool,
     failures: u64,
     refusals: u64,
     // why what was cut off couldn't be kept so at this turn's lock
@@ -68,6 +70,7 @@ impl<F: MailboxFile + Drop, C: Clock + Drop> Model for FileSpool<F, C> {
       file = s.file;
       wait = s.wait;
       patience = s.patience;
+      is_ready = s.is_ready;
       waiting = s.waiting;
       in_turn = s.in_turn;
       has_failed = s.has_failed;
@@ -84,6 +87,7 @@ impl<F: MailboxFile + Drop, C: Clock + Drop> Model for FileSpool<F, C> {
       file = s.file;
       wait = s.wait;
       patience = s.patience;
+      is_ready = s.is_ready;
       waiting = s.waiting;
       in_turn = s.in_turn;
       has_failed = s.has_failed;
@@ -111,19 +115,23 @@ impl<F: MailboxFile + Drop, C: Clock + Drop> FileSpool<F, C> {
         wait: u32,
         buffer: Arc<SharedBuffer>,
     ) -> Result<FileSpool<F, C>, AllocError>
-        ensures opened { IfOk result IsOpened }
+        ensures opened { IfOk result (IsOpened F.state) }
         ensures file { IfOk result (λ spool. spool.file ≡ file) }
         ensures wait { IfOk result (λ spool. spool.wait ≡ wait) }
     {
+        let waiting = TurnBuffer::new(alloc)?;
+        let none = Turns::none();
+        let turns = Turns::after::<Brand, F>(&none, &file, 0);
         Ok(FileSpool {
             file,
             clock,
             wait,
             patience: Patience::new(),
-            waiting: TurnBuffer::new(alloc)?,
+            waiting,
             buffer,
             began: 0,
             tail: Tail::Empty,
+            is_ready: false,
             failures: 0,
             refusals: 0,
             in_turn: false,
@@ -131,17 +139,17 @@ impl<F: MailboxFile + Drop, C: Clock + Drop> FileSpool<F, C> {
             is_unsynced: false,
             is_unsettled: true,
             unkept: SpoolFault::NoTurn,
-            turns: Turns::none(),
+            turns,
         })
     }
 }
 
 impl<F: MailboxFile + Drop, C: Clock + Drop> FileSpool<F, C> {
     ghost use Rattle.mbox_file.specs.MailboxFile.{IsEnd};
-    ghost use Rattle.mbox_rd.specs.Turn.{HasBegun, HasMissed, StaysThere, OpensAfter};
+    ghost use Rattle.mbox_rd.specs.Turn.{HasBegun, HasMissed, IsUntouched, StaysThere, OpensAfter};
     ghost use Rattle.mbox_rd.specs.FileSpool.{StartsTurn, CountsRefusal, failed_again};
     ghost use Rattle.mbox_rd.specs.Patience.{HasPaused, HasWaited, IsGivenUp, IsTimeOver, IsUnpaused, KeepsMiss};
-    ghost use Rattle.mbox_rd.specs.Patience.{pauses_ms};
+    ghost use Rattle.mbox_rd.specs.Patience.{HasTime, IsPutOff, pauses_ms};
 
     // Why a call is refused that the file isn't asked for: it is in no turn in which none failed, or else what was cut
     // off couldn't be kept so as this turn began.
@@ -171,7 +179,14 @@ impl<F: MailboxFile + Drop, C: Clock + Drop> FileSpool<F, C> {
     // Asks for a turn. After one that broke, what the path names is opened first.
     fn ask(&mut self) -> Result<FileEnd, InUse>
         requires free { self.old.in_turn ≡ false }
-        ensures same { self.new ≡ record self.old { file = self.new.file; patience = self.new.patience } }
+        ensures same { self.new ≡ record self.old {
+          file = self.new.file;
+          patience = self.new.patience;
+          is_ready = self.new.is_ready;
+        } }
+        ensures unready { self.new.is_ready ≡ false }
+        ensures ready { self.old.is_ready ≡ true
+            → result ≡ Ok (record { at = self.old.began; tail = self.old.tail }) }
         ensures ok { IfOk result (HasBegun (F.state self.old.file) (F.state self.new.file)) }
         ensures entry { OnOk result ((F.state self.new.file).has_entry ≡ true) }
         ensures anew { self.old.has_failed ≡ true
@@ -180,6 +195,8 @@ impl<F: MailboxFile + Drop, C: Clock + Drop> FileSpool<F, C> {
         ensures opened { IfErr result (OpensAfter (F.state self.old.file) (F.state self.new.file)) }
         ensures waits { HasWaited self.old.patience self.new.patience self.old.wait }
         ensures keeps_miss { KeepsMiss self.old.patience self.new.patience }
+        ensures since { self.old.patience.goes_on ≡ true → self.new.patience.asked ≡ self.old.patience.asked }
+        ensures ended { self.new.patience.goes_on ≡ false }
         ensures given_up { IfErr result (λ in_use. in_use ≡ InUse.Locked
             → IsGivenUp self.old.patience self.new.patience
             ⊎ Rises (F.state self.old.file).unopened (F.state self.new.file).unopened) }
@@ -190,12 +207,20 @@ impl<F: MailboxFile + Drop, C: Clock + Drop> FileSpool<F, C> {
         answer
     }
 
-    // Tries for a turn that often.
+    // Tries for a turn that often. Locks that were taken before are its own.
     fn try_for_turn(&mut self, tries: u64) -> Result<FileEnd, InUse>
         requires free { self.old.in_turn ≡ false }
         requires unpaused { IsUnpaused self.old.patience }
         requires time { pauses_ms (tries - 1) ≤ 3_600_000 }
-        ensures same { self.new ≡ record self.old { file = self.new.file; patience = self.new.patience } }
+        requires asked { self.old.patience.goes_on ≡ false }
+        ensures same { self.new ≡ record self.old {
+          file = self.new.file;
+          patience = self.new.patience;
+          is_ready = self.new.is_ready;
+        } }
+        ensures unready { self.new.is_ready ≡ false }
+        ensures ready { self.old.is_ready ≡ true
+            → result ≡ Ok (record { at = self.old.began; tail = self.old.tail }) }
         ensures ok { IfOk result (HasBegun (F.state self.old.file) (F.state self.new.file)) }
         ensures entry { OnOk result ((F.state self.new.file).has_entry ≡ true) }
         ensures anew { self.old.has_failed ≡ true
@@ -207,13 +232,81 @@ impl<F: MailboxFile + Drop, C: Clock + Drop> FileSpool<F, C> {
             → (self.new.patience.pauses ≡ tries - 1) ⊎ IsTimeOver self.new.patience
             ⊎ Rises (F.state self.old.file).unopened (F.state self.new.file).unopened) }
     {
+        if self.is_ready {
+            return Ok(self.take_ready());
+        }
         open_anew(&mut self.file, self.has_failed)?;
         wait_for_turn(&mut self.file, &self.clock, &mut self.patience, tries, true)
+    }
+
+    // The end of the file whose locks were taken before.
+    fn take_ready(&mut self) -> FileEnd
+        requires free { self.old.in_turn ≡ false }
+        requires ready { self.old.is_ready ≡ true }
+        ensures same { self.new ≡ record self.old { is_ready = false } }
+        ensures end { result ≡ record { at = self.old.began; tail = self.old.tail } }
+        ensures begun { HasBegun (F.state self.old.file) (F.state self.old.file) result }
+        ensures entry { (F.state self.old.file).has_entry ≡ true }
+        ensures sound { self.old.has_failed ≡ false }
+    {
+        self.is_ready = false;
+        FileEnd {
+            at: self.began,
+            tail: self.tail,
+        }
+    }
+
+    // Tries once to have the locks before the turn is asked for. Whether others have them, and there is time yet.
+    fn try_ahead(&mut self) -> bool
+        requires free { self.old.in_turn ≡ false }
+        requires sound { self.old.has_failed ≡ false }
+        requires unready { self.old.is_ready ≡ false }
+        ensures same { self.new ≡ record self.old {
+          file = self.new.file;
+          patience = self.new.patience;
+          is_ready = self.new.is_ready;
+          began = self.new.began;
+          tail = self.new.tail;
+        } }
+        ensures untouched { IsUntouched (F.state self.old.file) (F.state self.new.file) }
+        ensures missed { result ≡ true → HasMissed (F.state self.old.file) (F.state self.new.file) }
+        ensures unready { result ≡ true → self.new.is_ready ≡ false }
+        ensures held { self.new.is_ready ≡ true → IsHeld (F.state self.new.file) }
+        ensures since { self.old.patience.goes_on ≡ true → self.new.patience.asked ≡ self.old.patience.asked }
+        ensures time { result ≡ true → HasTime self.new.patience }
+        ensures waits { result ≡ true → IsPutOff self.new.patience self.new.wait }
+    {
+        self.patience.tries(&self.clock, self.wait);
+        let answer = self.try_for_turn(1);
+        self.patience.put_off();
+        match answer {
+            Ok(end) => {
+                self.began = end.at;
+                self.tail = end.tail;
+                self.is_ready = true;
+                false
+            }
+            Err(in_use) => {
+                self.file.rest();
+                self.may_wait(in_use)
+            }
+        }
+    }
+
+    // Whether a turn that was missed for that reason may still be waited for.
+    fn may_wait(&self, in_use: InUse) -> bool
+        ensures { result ≡ true → HasTime self.now.patience }
+    {
+        match in_use {
+            InUse::Locked => self.patience.has_time(&self.clock),
+            _ => false,
+        }
     }
 
     // Has what an earlier turn cut off kept so, where that is owed.
     fn settle(&mut self)
         requires free { self.old.in_turn ≡ false }
+        requires unready { self.old.is_ready ≡ false }
         ensures same { self.new ≡ record self.old { file = self.new.file; is_unsettled = self.new.is_unsettled } }
         ensures stays { StaysThere (F.state self.old.file) (F.state self.new.file) }
         ensures covered { (F.state self.old.file).kept ≤ length (F.state self.old.file).bytes
@@ -247,6 +340,7 @@ impl<F: MailboxFile + Drop, C: Clock + Drop> FileSpool<F, C> {
     {
         self.began = end.at;
         self.tail = end.tail;
+        self.is_ready = false;
         self.waiting.begin(&self.buffer, end.at);
         self.in_turn = true;
         self.has_failed = false;
@@ -262,6 +356,7 @@ impl<F: MailboxFile + Drop, C: Clock + Drop> FileSpool<F, C> {
         ensures patience { self.new.patience ≡ self.old.patience }
         ensures result { result ≡ Err in_use }
     {
+        self.is_ready = false;
         self.refusals = self.refusals.saturating_add(1);
         self.turns.miss();
         Err(in_use)
@@ -273,8 +368,8 @@ impl<F: MailboxFile + Drop, C: Clock + Drop> Spool for FileSpool<F, C> {
     ghost use Rattle.mbox_rd.specs.FileSpool.{HasTaken, KeepsAll, StaysSound, Breaks, HasLost, failed_again};
     ghost use Rattle.mbox_rd.specs.FileSpool.{AddsLines, KnowsEnd, contents_of, state_of};
     ghost use Rattle.mbox_rd.specs.Moments.{AnyMoment, Stores};
-    ghost use Rattle.mbox_rd.specs.Patience.{HasWaited, IsGivenUp, KeepsMiss};
-    ghost use Rattle.mbox_rd.specs.Turn.{HasMissed, OpensAfter};
+    ghost use Rattle.mbox_rd.specs.Patience.{HasTime, HasWaited, IsGivenUp, IsPutOff, KeepsMiss};
+    ghost use Rattle.mbox_rd.specs.Turn.{HasMissed, IsUntouched, OpensAfter};
 
     ghost state = { λ s. state_of F.state s };
 
@@ -286,10 +381,11 @@ impl<F: MailboxFile + Drop, C: Clock + Drop> Spool for FileSpool<F, C> {
     /// for a minute after a missed turn not at all. After a turn that broke, what the path names is opened again first;
     /// where the system refuses a lock, or a look at the open file, it is opened for the next turn. What was cut off is
     /// kept so where that is owed, or else this turn's first append and sync fail. In a turn it is refused, and the turn
-    /// goes on.
+    /// goes on. Locks that `is_waited_for` has taken are its own, and the wait began with the first of those calls.
     fn lock(&mut self) -> Result<u64, InUse>
         ensures within { self.old.in_turn ≡ true → (result ≡ Err InUse.Locked) × (self.new.file ≡ self.old.file)
             × (self.new.patience ≡ self.old.patience) }
+        ensures ready { self.old.in_turn ≡ false → self.old.is_ready ≡ true → result ≡ Ok self.old.began }
         ensures starts { OnOk result (StartsTurn F.state self.old self.new) }
         ensures had { OnOk result (HasTurn F.state self.new) }
         ensures moments { OnOk result
@@ -304,6 +400,8 @@ impl<F: MailboxFile + Drop, C: Clock + Drop> Spool for FileSpool<F, C> {
         ensures opened { self.old.in_turn ≡ false
             → IfErr result (OpensAfter (F.state self.old.file) (F.state self.new.file)) }
         ensures waits { self.old.in_turn ≡ false → HasWaited self.old.patience self.new.patience self.old.wait }
+        ensures since { self.old.in_turn ≡ false → self.old.patience.goes_on ≡ true
+            → self.new.patience.asked ≡ self.old.patience.asked }
         ensures keeps_miss { OnOk result (KeepsMiss self.old.patience self.new.patience) }
         ensures missed { self.old.in_turn ≡ false → OnErr result (self.new.patience.was_missed ≡ true) }
         ensures given_up { self.old.in_turn ≡ false → IfErr result (λ in_use. in_use ≡ InUse.Locked
@@ -329,6 +427,34 @@ impl<F: MailboxFile + Drop, C: Clock + Drop> Spool for FileSpool<F, C> {
                 self.refuse(in_use)
             }
         }
+    }
+
+    /// Tries once for both locks, and keeps them for the next lock where it has them. The wait of that lock begins with
+    /// the first of these tries. In a turn, and after one that broke, it isn't tried, and the answer is false.
+    fn is_waited_for(&mut self) -> bool
+        ensures same { self.new ≡ record self.old {
+          file = self.new.file;
+          patience = self.new.patience;
+          is_ready = self.new.is_ready;
+          began = self.new.began;
+          tail = self.new.tail;
+        } }
+        ensures in_turn { self.old.in_turn ≡ true → (result ≡ false) × (self.new ≡ self.old) }
+        ensures untouched { IsUntouched (F.state self.old.file) (F.state self.new.file) }
+        ensures missed { result ≡ true → HasMissed (F.state self.old.file) (F.state self.new.file) }
+        ensures unready { result ≡ true → self.new.is_ready ≡ false }
+        ensures held { self.new.is_ready ≡ true → IsHeld (F.state self.new.file) }
+        ensures since { self.old.patience.goes_on ≡ true → self.new.patience.asked ≡ self.old.patience.asked }
+        ensures time { result ≡ true → HasTime self.new.patience }
+        ensures waits { result ≡ true → IsPutOff self.new.patience self.new.wait }
+
+        // what every spool ensures
+        ensures seen { ⟦<FileSpool<F, C> as Spool>⟧.state self.new ≡ ⟦<FileSpool<F, C> as Spool>⟧.state self.old }
+    {
+        if self.in_turn || self.has_failed || self.is_ready {
+            return false;
+        }
+        self.try_ahead()
     }
 
     /// Gives both locks back. Where a call failed in this turn the file is cut to its length at the lock first. What

@@ -4,7 +4,7 @@ ghost use Rattle.std.specs.IoError.{error_kind};
 
 use crate::file::FileSpool;
 use crate::shared_buffer::SharedBuffer;
-use mbox_file::{OWNER_ONLY, RangeLock, StdMailboxFile, Writeback};
+use mbox_file::{MailboxFile, OWNER_ONLY, RangeLock, StdMailboxFile, Writeback};
 use std::alloc::{AllocError, Global};
 use std::fs::Files;
 use std::io;
@@ -43,7 +43,7 @@ where
         alloc: Global,
         path: &str,
     ) -> Result<FileSpool<StdMailboxFile<R>, R>, OpenFault>
-        ensures opened { IfOk result IsOpened }
+        ensures opened { IfOk result (IsOpened (⟦<StdMailboxFile<R> as MailboxFile>⟧.state)) }
         ensures wait { IfOk result (λ spool. spool.wait ≡ USUAL_WAIT) }
         ensures path { IfOk result (λ spool. file_path spool.file ≡ path.now) }
         ensures mode { IfOk result (λ spool. file_mode spool.file ≡ Some OWNER_ONLY) }
@@ -61,7 +61,7 @@ where
         wait: u32,
         mode: u32,
     ) -> Result<FileSpool<StdMailboxFile<R>, R>, OpenFault>
-        ensures opened { IfOk result IsOpened }
+        ensures opened { IfOk result (IsOpened (⟦<StdMailboxFile<R> as MailboxFile>⟧.state)) }
         ensures wait { IfOk result (λ spool. spool.wait ≡ wait) }
         ensures path { IfOk result (λ spool. file_path spool.file ≡ path.now) }
         ensures mode { IfOk result (λ spool. file_mode spool.file ≡ Some mode) }

@@ -1,7 +1,7 @@
 //! How long a mailbox is waited for: so many seconds within a minute, in all of its turns together.
 ghost use Rattle.std.specs.Prelude.{◌≡◌, ◌+◌, ◌-◌, ◌*◌, ◌<◌, ◌≤◌, true, false};
 ghost use Rattle.mail_world.specs.Counts.{counted};
-ghost use Rattle.mbox_rd.specs.Patience.{HasAsked, is_minute_over, ms_between, pause_ms, pauses_ms};
+ghost use Rattle.mbox_rd.specs.Patience.{HasAsked, HasTime, IsPutOff, is_minute_over, ms_between, pause_ms, pauses_ms};
 ghost use Rattle.mbox_rd.specs.Patience.{spent_ms, took_none, IsOverByThen, IsTimeOver};
 
 use mail_world::limits::LOCK_WAIT_LIMIT;
@@ -27,6 +27,8 @@ pub(crate) struct Patience {
     was_missed: bool,
     // the last pause of this turn took no time, by the clock
     paused_none: bool,
+    // the turn that was asked for was put off, and the next tries are for that one
+    goes_on: bool,
     missed: Duration,
     // how long earlier turns of this minute were waited for
     waited_ms: u64,
@@ -45,10 +47,12 @@ impl Patience {
     pub fn new() -> Patience
         ensures waited { result.waited_ms ≡ 0 }
         ensures missed { result.was_missed ≡ false }
+        ensures new { result.goes_on ≡ false }
     {
         Patience {
             was_missed: false,
             paused_none: false,
+            goes_on: false,
             missed: Duration::ZERO,
             waited_ms: 0,
             began: Duration::ZERO,
@@ -60,15 +64,35 @@ impl Patience {
         }
     }
 
-    /// How many tries a turn has that is asked for now, with a pause between each two: as many as there is time for
-    /// where turns are waited for that many seconds within a minute, LOCK_WAIT_LIMIT at most. For a minute after a
-    /// missed turn it is one.
+    /// How many tries a turn has that is asked for now, or was before it was put off, with a pause between each two: as
+    /// many as there is time for where turns are waited for that many seconds within a minute, LOCK_WAIT_LIMIT at most.
+    /// For a minute after a missed turn it is one.
     pub fn tries<C: Clock>(&mut self, clock: &C, seconds: u32) -> u64
+        requires goes_on { self.old.goes_on ≡ true → IsPutOff self.old seconds }
         ensures asked { HasAsked self.old self.new seconds }
+        ensures since { self.old.goes_on ≡ true → self.new.asked ≡ self.old.asked }
         ensures missed { self.new.was_missed ≡ true → result ≡ 1 }
         ensures within { pauses_ms (result - 1) ≤ self.new.left_ms }
         ensures most { self.new.was_missed ≡ false → self.new.left_ms < pauses_ms result }
     {
+        self.ask(clock, seconds);
+        if self.was_missed {
+            1
+        } else {
+            tries_in(self.left_ms)
+        }
+    }
+
+    // A turn is asked for now, or was before it was put off.
+    fn ask<C: Clock>(&mut self, clock: &C, seconds: u32)
+        requires goes_on { self.old.goes_on ≡ true → IsPutOff self.old seconds }
+        ensures asked { HasAsked self.old self.new seconds }
+        ensures since { self.old.goes_on ≡ true → self.new.asked ≡ self.old.asked }
+    {
+        if self.goes_on {
+            self.goes_on = false;
+            return;
+        }
         let asked = clock.monotonic().ok();
         self.was_missed = self.was_missed && !has_minute_passed(asked, self.missed);
         if has_minute_passed(asked, self.began) {
@@ -81,11 +105,22 @@ impl Patience {
         self.paused_ms = 0;
         self.lasted_ms = 0;
         self.paused_none = false;
-        if self.was_missed {
-            1
-        } else {
-            tries_in(self.left_ms)
-        }
+    }
+
+    /// The turn that was asked for is put off: its wait goes on.
+    pub fn put_off(&mut self)
+        ensures { self.new ≡ record self.old { lasted_ms = 0; paused_none = false; goes_on = true } }
+    {
+        self.lasted_ms = 0;
+        self.paused_none = false;
+        self.goes_on = true;
+    }
+
+    /// Whether there is time for this turn yet. For a minute after a missed turn there is none.
+    pub fn has_time<C: Clock>(&self, clock: &C) -> bool
+        ensures { result ≡ true → HasTime self.now }
+    {
+        !self.was_missed && self.spent_by(clock.monotonic().ok()) < self.left_ms
     }
 
     /// The turn's next pause, after so many. False: the time for this turn is over, and there is none, or it took no

@@ -8,7 +8,8 @@ pub record TurnLog : Type 0 where
   pub began : Option Standing
   -- the turns that are over
   pub turns : List Turn
-  -- how one stands that keeps no bytes; no other says it here
+  -- how one stands between two turns that others may change there, or at any time one that keeps no bytes; no other
+  -- says it here
   pub stands : Standing
 
 -- a spool that is empty
@@ -17,6 +18,10 @@ nothing_there = record { bytes = []; synced = 0; failures = 0 }
 
 abbrev pub no_turns : TurnLog
 no_turns = record { began = None; turns = []; stands = nothing_there }
+
+-- none yet, of one that stands so
+abbrev pub no_turns_at : Standing → TurnLog
+no_turns_at first = record no_turns { stands = first }
 
 -- once a turn began, was missed, or is over
 abbrev pub begun_at : TurnLog → Standing → TurnLog
@@ -27,6 +32,10 @@ missed log = record log { turns = log.turns ++ NotHad ∷ [] }
 
 abbrev pub ended_at : TurnLog → Standing → TurnLog
 ended_at log unlock = record log { began = None; turns = log.turns ++ had log.began unlock }
+
+-- a turn is over of one that others may change then
+abbrev pub left_at : TurnLog → Standing → TurnLog
+left_at log unlock = record (ended_at log unlock) { stands = unlock }
 
 -- and of one that keeps no bytes, once it took more of them, or made sure of those that it took
 abbrev pub taken_more : TurnLog → List ℕ → TurnLog

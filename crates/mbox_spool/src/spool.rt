@@ -84,6 +84,13 @@ pub trait Spool {
         ensures refused { (state self.old).turn.in_turn ≡ false
             → MayRefuse (state self.old).turn.has_failed (is_err result) };
 
+    /// Whether others have the mailbox, and may still be waited for. It waits for nobody, and no turn is asked for.
+    fn is_waited_for(&mut self) -> bool
+        ensures { state self.new ≡ state self.old }
+    {
+        false
+    }
+
     /// Ends the turn, if there is one. What a broken turn left may be cut away.
     fn unlock(&mut self)
         ensures none { (state self.old).turn.in_turn ≡ false → state self.new ≡ state self.old }

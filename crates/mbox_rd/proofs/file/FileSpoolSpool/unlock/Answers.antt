@@ -28,6 +28,6 @@ returns-clause-stored g c = λ sound left at.
 
 pub returns-clause-over : goal.returns-clause-over
 returns-clause-over g c = λ turn.
-    ends g.F.MailboxFile.state c.args.self.now _ c.end_turn-self-inside.new.file _ _ c.self.view_is c.self.invariant
+    ends g.F.MailboxFile.state c.args.self.now _ c.end_turn-self-inside.new.file _ c.self.view_is c.self.invariant
     (ap (λ (s : FileSpool _). s.in_turn) c.self.view_is ∙ turn)
-    c.end_turn-self-inside.ensures.ended c.end.ensures c.after-ended.ensures
+    c.end_turn-self-inside.ensures.ended c.after-ended.ensures
