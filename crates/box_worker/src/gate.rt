@@ -1,4 +1,4 @@
-//! Where a test may hold a worker, and what a thread calls that can't go on.
+//! Where a test may hold a worker, and what a thread asks that puts copies off.
 
 use crate::turn::TurnEnd;
 use mail_world::Txn;
@@ -10,6 +10,14 @@ pub trait Gate {
     fn is_free(&mut self) -> bool {
         true
     }
+
+    /// Others have the mailbox, and its next copy is to be put off, or was: whether it may be any longer.
+    fn may_put_off(&mut self) -> bool {
+        true
+    }
+
+    /// The thread has put off all copies that it has, this mailbox's first of all, and no other has come: it may wait.
+    fn pause(&mut self) {}
 
     /// Nothing of the copy is in the spool yet.
     fn before(&mut self, txn: Txn, place: u32);
@@ -30,10 +38,4 @@ impl Gate for OpenGate {
     fn after(&mut self, txn: Txn, place: u32, end: TurnEnd) {
         let _ = (txn, place, end);
     }
-}
-
-/// What a thread calls where all copies that it has were put off, and no other has come. Nothing is promised of it: it
-/// may wait.
-pub trait Pause {
-    fn pause(&mut self);
 }

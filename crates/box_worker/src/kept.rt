@@ -64,7 +64,14 @@ impl<S: Spool, G: Gate, O: TurnObserver> Kept<S, G, O> {
     pub(crate) fn is_free(&mut self) -> bool
         ensures { self.new ≡ self.old }
     {
-        self.gate.is_free() && !self.mailbox.is_waited_for()
+        self.gate.is_free() && !(self.mailbox.is_waited_for() && self.gate.may_put_off())
+    }
+
+    /// Its thread can't go on: none of the copies that wait may have its turn, and its own is the oldest.
+    pub(crate) fn pause(&mut self)
+        ensures { self.new ≡ self.old }
+    {
+        self.gate.pause();
     }
 
     /// One copy, from gate to slip. A slip takes what `release` makes of the hold, so that no lane is told before. In

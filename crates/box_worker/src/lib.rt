@@ -20,7 +20,7 @@ mod store;
 mod thread;
 mod turn;
 
-pub use gate::{Gate, OpenGate, Pause};
+pub use gate::{Gate, OpenGate};
 pub use kept::Kept;
 pub use patient::patient_run;
 pub use report::{MailboxReport, ThreadReport};

@@ -12,7 +12,7 @@ ghost use Rattle.box_worker.specs.Shares.{for_box, Start, AreInPlace, AreOfThrea
 ghost use Rattle.box_worker.specs.Shares.{numbers_of, GaveForItsOwn};
 ghost use Rattle.box_worker.specs.PutOff.{HaveWorkedPatiently};
 
-use crate::gate::{Gate, Pause};
+use crate::gate::Gate;
 use crate::kept::Kept;
 use crate::release::SlipSenders;
 use crate::report::ThreadReport;
@@ -28,9 +28,9 @@ use std::sync::Wait;
 /// As `thread_run`, but a copy whose mailbox isn't free waits in `waits`, which has room for as many as its capacity,
 /// while the thread's other mailboxes go on. The copies of one mailbox stay in their order. Once no further copy has
 /// room, or none comes, the oldest that waits has its turn, or misses it, whatever its mailbox. Where nothing can go on
-/// and no copy has come, `pause` is called. Where no slip comes back each mailbox does just what it would with a worker
-/// of its own, over a channel with room for as many copies more as may wait. It takes no memory.
-pub fn patient_run<N: DepotName, S: Spool, G: Gate, O: TurnObserver, P: Pause + Drop, R: Wait>(
+/// and no copy has come, the gate of the oldest's mailbox may wait. Where no slip comes back each mailbox does just what
+/// it would with a worker of its own, over a channel with room for as many copies more as may wait. It takes no memory.
+pub fn patient_run<N: DepotName, S: Spool, G: Gate, O: TurnObserver, R: Wait>(
     rt: &R,
     receiver: Receiver<N>,
     slips: Vec<SlipSender>,
@@ -38,7 +38,6 @@ pub fn patient_run<N: DepotName, S: Spool, G: Gate, O: TurnObserver, P: Pause + 
     depot: &Depot<N>,
     site: &Site,
     waits: Vec<Post<N>>,
-    pause: P,
 ) -> ThreadReport<N, S, G, O>
     requires fresh { AreFresh slips.items receiver }
     requires open { receiver.gone ≡ None }
@@ -65,7 +64,6 @@ pub fn patient_run<N: DepotName, S: Spool, G: Gate, O: TurnObserver, P: Pause + 
     let mut boxes = boxes;
     let mut slips = SlipSenders::new(slips);
     let mut ended = None;
-    let mut pause = pause;
     for _ in rt.forever() {
         let must = must_go_on(waits.len(), room, ended);
         if let Some(place) = next_turn(&mut boxes, &waits, must) {
@@ -77,7 +75,7 @@ pub fn patient_run<N: DepotName, S: Spool, G: Gate, O: TurnObserver, P: Pause + 
             match next_copy::<Brand, N, R>(rt, &slips, &mut receiver, !waits.is_empty()) {
                 Some(Ok(post)) => waits.push_reserved(post),
                 Some(Err(why)) => ended = Some(why),
-                None => pause.pause(),
+                None => pause(&mut boxes, &waits),
             }
         }
     }
@@ -141,6 +139,23 @@ fn is_free<S: Spool, G: Gate, O: TurnObserver>(boxes: &mut Vec<Kept<S, G, O>>, n
             kept.is_free()
         }
         None => true,
+    }
+}
+
+// Nothing can go on, and the gate of the mailbox whose copy waits longest may wait.
+fn pause<N: DepotName, S: Spool, G: Gate, O: TurnObserver>(
+    boxes: &mut Vec<Kept<S, G, O>>,
+    waits: &[Post<N>],
+)
+    requires { AreInPlace boxes.old.items }
+    ensures { boxes.new.items ≡ boxes.old.items }
+{
+    let Some(oldest) = waits.first() else {
+        return;
+    };
+    if let Some(place) = place_of(boxes, oldest.mailbox()) {
+        let kept = &mut boxes[place];
+        kept.pause();
     }
 }
 
