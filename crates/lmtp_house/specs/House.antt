@@ -71,7 +71,8 @@ pub record HasRun {V S : Type 0} (site : Site) (May : ℕ → Type 0) (view : Vi
       → of_worker b (lanes k).heard ≡ owed_to b (outcomes_in (boxes b).turns) k (boxes b).taken
   pub told_only : (k : ℕ) → k < length old.visits
       → AllByRecursion (λ slip. slip.worker < length old.spools) (lanes k).heard
-  -- what lanes and workers did is an orderly run of the model, over channels of the server's capacity
+  -- what lanes and workers did is an orderly run of the model, over channels of the server's capacity, and of the lists
+  -- beside them above 256 mailboxes
   pub is_run : IsRunOfModel site spools.state lanes boxes old
   -- and a spool that is nobody else's holds at the end what the model's mailbox does
   pub alone : (b : ℕ) (before after : S) → slice_get old.spools b ≡ Some before → slice_get new.spools b ≡ Some after

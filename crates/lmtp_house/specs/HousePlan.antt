@@ -7,6 +7,7 @@ use Rattle.mail_world.specs.Site.{Site}
 use Rattle.mail_post.specs.Channel.{Sender, Inbox}
 use Rattle.mail_post.specs.declared.kinds.TheConstants.{SLIP_CAPACITY}
 use Rattle.mail_post.specs.WorkerThreads.{threads_for}
+use Rattle.lmtp_threads.specs.OwnChannel.{room_beside}
 use Rattle.lmtp_threads.specs.Works.{VisitsView, SpoolsView, share_of}
 use Rattle.lmtp_house.specs.Handed.{HandedIn, HandedBack}
 use Rattle.lmtp_house.specs.House.{HasRun}
@@ -33,7 +34,8 @@ pub record IsPlanned {V S C : Type 0} (site : Site) (clock : C) (handed : Handed
   pub slip_rows : List (List (Sender Slip))
   pub slips : List (Inbox Slip)
   pub lanes_are : plan.lanes ≡ lane_tasks site clock 0 handed.visits mail_rows slips
-  pub workers_are : plan.workers ≡ thread_tasks (share_of site handed.quotas) 0 mail slip_rows handed.spools
+  pub workers_are : plan.workers ≡ thread_tasks (share_of site handed.quotas)
+      (room_beside (length handed.spools) (length handed.visits)) 0 mail slip_rows handed.spools
   pub mail_new : AreNewChannels handed.capacity (length handed.visits) (threads_for (length handed.spools)) mail_rows
       mail
   pub slips_new : AreNewChannels SLIP_CAPACITY (threads_for (length handed.spools)) (length handed.visits) slip_rows

@@ -1,6 +1,6 @@
 -- What a server's threads did is an orderly run of the model of `mail_world`: what holds of each run there, and what
 -- `mail_progress` says of each orderly run, holds of this server.
-use Rattle.std.specs.Prelude.{◌≡◌, ◌<◌, ℕ, false, List, [], length, map, get_or}
+use Rattle.std.specs.Prelude.{◌≡◌, ◌<◌, ℕ, ◌+◌, false, List, [], length, map, get_or}
 use Rattle.mail_world.specs.declared.limits.TheConstants.{RECIPIENT_LIMIT}
 use Rattle.mail_world.specs.Quotas.{quota_at}
 use Rattle.mail_world.specs.Site.{Site}
@@ -14,6 +14,7 @@ use Rattle.mail_writing.specs.Calendar.{civil_at}
 use Rattle.mbox_spool.specs.Spool.{SpoolState}
 use Rattle.box_worker.specs.Turned.{Manner}
 use Rattle.lmtp_lane.specs.Visits.{conversations_of}
+use Rattle.lmtp_threads.specs.OwnChannel.{room_beside}
 use Rattle.lmtp_threads.specs.Works.{LaneWork, BoxWork}
 use Rattle.lmtp_house.specs.Handed.{HandedIn}
 
@@ -43,16 +44,21 @@ threads_of site lanes courses = record {
   courses = courses;
 }
 
+-- how many copies may wait for a mailbox: in its thread's channel, and beside that
+abbrev pub capacity_of : {V S : Type 0} → HandedIn V S → ℕ
+capacity_of old = old.capacity + room_beside (length old.spools) (length old.visits)
+
 -- There is an orderly run of the model, from a start at which nothing has happened but that each mailbox holds what
 -- this server's spool held, and has its quota, in which each lane offers each mailbox just the copies that its
 -- conversations owe, and at whose end each mailbox and each lane has what this server's has, a mailbox the turns that
--- its worker had. Its mailboxes' channels have this server's capacity, and a lane's channel has room for the slips of a
--- message to as many recipients as there may be: no copy is offered and no slip given to a full channel, and a lane
+-- its worker had. Its mailboxes' channels have this server's capacity, and where threads have several mailboxes that of
+-- the lists beside their channels with it; a lane's channel has room for the slips of a message to as many recipients as
+-- there may be: no copy is offered and no slip given to a full channel, and a lane
 -- begins a message once each copy of its last one is answered. The run has a depot that is large enough: of slots and
 -- blocks it says nothing.
 pub record IsRunOfModel {V S : Type 0} (site : Site) (state : S → SpoolState) (lanes : ℕ → LaneWork)
     (boxes : ℕ → BoxWork) (old : HandedIn V S) : Type 0 where
-  pub is : IsOrderlyRunOf RECIPIENT_LIMIT old.capacity (server_of site old)
+  pub is : IsOrderlyRunOf RECIPIENT_LIMIT (capacity_of old) (server_of site old)
       (threads_of site lanes (courses_of state boxes old))
   pub offered : (k b : ℕ) → k < length old.visits → b < length old.spools
       → offers_by k b (events_of is.is.run) ≡ due site k b (conversations_of (lanes k).visits)

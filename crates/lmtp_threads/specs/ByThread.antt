@@ -31,14 +31,14 @@ module _ {S : Type 0} where
     pub each : (t : ℕ) (own : List (Numbered S)) → slice_get boxes t ≡ Some own → own ≡ owned threads t 0 spools
 
   -- the tasks of the worker threads from number t on, which own these mailboxes
-  abbrev pub tasks_with : WorkerShare → ℕ → List (Inbox Note) → List (List (Sender Slip)) → List (List (Numbered S))
-      → List (ThreadTask S)
-  tasks_with share t [] rows boxes = []
-  tasks_with share t (inbox ∷ inboxes) [] boxes = []
-  tasks_with share t (inbox ∷ inboxes) (row ∷ rows) [] = []
-  tasks_with share t (inbox ∷ inboxes) (row ∷ rows) (own ∷ boxes) =
-      record { share = share; thread = t; receiver = inbox; slips = row; boxes = own }
-      ∷ tasks_with share (t + 1) inboxes rows boxes
+  abbrev pub tasks_with : WorkerShare → ℕ → ℕ → List (Inbox Note) → List (List (Sender Slip))
+      → List (List (Numbered S)) → List (ThreadTask S)
+  tasks_with share room t [] rows boxes = []
+  tasks_with share room t (inbox ∷ inboxes) [] boxes = []
+  tasks_with share room t (inbox ∷ inboxes) (row ∷ rows) [] = []
+  tasks_with share room t (inbox ∷ inboxes) (row ∷ rows) (own ∷ boxes) =
+      record { share = share; room = room; thread = t; receiver = inbox; slips = row; boxes = own }
+      ∷ tasks_with share room (t + 1) inboxes rows boxes
 
   -- its mailboxes are the thread's, each in its place
   abbrev pub IsOwner : ThreadTask S → Type 0

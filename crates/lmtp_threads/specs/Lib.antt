@@ -2,6 +2,7 @@ pub mod CrewTasks
 pub mod Grid
 pub mod Channels
 pub mod Columns
+pub mod OwnChannel
 pub mod Works
 pub mod Reports
 pub mod Tasks

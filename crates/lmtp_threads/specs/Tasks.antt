@@ -1,6 +1,6 @@
 -- What the threads of a server are given, and what their reports say.
 use Rattle.std.specs.Prelude.{◌≡◌, ◌==◌, ℕ, ◌+◌, ◌<◌, Bool, true, false, List, [], ◌∷◌, ◌++◌, length, filter, flat_map}
-use Rattle.std.specs.Prelude.{slice_get, Option, Some}
+use Rattle.std.specs.Prelude.{slice_get, Option, Some, None}
 use Rattle.std.specs.List.{AllByRecursion}
 use Rattle.mail_world.specs.declared.Note.{Note}
 use Rattle.mail_world.specs.declared.Slip.{Slip}
@@ -18,7 +18,8 @@ use Rattle.mail_post.specs.Offered.{HaveNumber}
 use Rattle.mail_post.specs.Parcels.{of}
 use Rattle.mail_post.specs.WorkerThreads.{worker_thread, threads_for}
 use Rattle.mail_post.specs.declared.channel.Gone.TheVariants.{Closed}
-use Rattle.box_worker.specs.Shares.{for_box, by_box, ends_for, AreFresh}
+use Rattle.box_worker.specs.PutOff.{roomier}
+use Rattle.box_worker.specs.Shares.{for_box, by_box, inbox_for, senders_for, AreFresh}
 use Rattle.box_worker.specs.Told.{owed_to}
 use Rattle.box_worker.specs.TurnEnds.{TellsTurns}
 use Rattle.box_worker.specs.TurnTimes.{worker_sorts}
@@ -32,6 +33,7 @@ use Rattle.lmtp_lane.specs.LaneExchange.{for_thread, lane_sorts}
 use Rattle.lmtp_lane.specs.LaneRun.{LaneState}
 use Rattle.lmtp_lane.specs.Visits.{HasVisited, conversations_of, lane_entries}
 use Rattle.lmtp_threads.specs.Channels.{AreRows, none}
+use Rattle.lmtp_threads.specs.OwnChannel.{IsOwnChannel}
 use Rattle.lmtp_threads.specs.Works.{VisitsView, LaneWork, LaneTold, lane_told, WorkerShare, share_of, setting_of}
 use Rattle.lmtp_threads.specs.Works.{SpoolsView, BoxWork, IsBoxWork}
 use Rattle.lmtp_threads.specs.Reports.{LaneColumns, WorkerColumns}
@@ -88,9 +90,11 @@ pub record Numbered (S : Type 0) : Type 0 where
   pub number : ℕ
   pub spool : S
 
--- what a worker thread is given: the mailboxes that it owns, and its ends of the channels
+-- what a worker thread is given: the mailboxes that it owns, its ends of the channels, and how many copies may wait
+-- beside its channel
 pub record ThreadTask (S : Type 0) : Type 0 where
   pub share : WorkerShare
+  pub room : ℕ
   pub thread : ℕ
   pub receiver : Inbox Note
   pub slips : List (Sender Slip)
@@ -106,9 +110,10 @@ module _ {S : Type 0} where
   abbrev pub boxes_of : ℕ → List S → List (Numbered S)
   boxes_of t spools = filter (λ box. worker_thread box.number == t) (numbered 0 spools)
 
-  abbrev pub thread_task : WorkerShare → ℕ → Inbox Note → List (Sender Slip) → List S → ThreadTask S
-  thread_task share t receiver slips spools = record {
+  abbrev pub thread_task : WorkerShare → ℕ → ℕ → Inbox Note → List (Sender Slip) → List S → ThreadTask S
+  thread_task share room t receiver slips spools = record {
     share = share;
+    room = room;
     thread = t;
     receiver = receiver;
     slips = slips;
@@ -116,16 +121,17 @@ module _ {S : Type 0} where
   }
 
   -- the tasks of the worker threads from number t on
-  abbrev pub thread_tasks : WorkerShare → ℕ → List (Inbox Note) → List (List (Sender Slip)) → List S
+  abbrev pub thread_tasks : WorkerShare → ℕ → ℕ → List (Inbox Note) → List (List (Sender Slip)) → List S
       → List (ThreadTask S)
-  thread_tasks share t [] rows spools = []
-  thread_tasks share t (inbox ∷ inboxes) [] spools = []
-  thread_tasks share t (inbox ∷ inboxes) (row ∷ rows) spools =
-      thread_task share t inbox row spools ∷ thread_tasks share (t + 1) inboxes rows spools
+  thread_tasks share room t [] rows spools = []
+  thread_tasks share room t (inbox ∷ inboxes) [] spools = []
+  thread_tasks share room t (inbox ∷ inboxes) (row ∷ rows) spools =
+      thread_task share room t inbox row spools ∷ thread_tasks share room (t + 1) inboxes rows spools
 
   -- a worker thread may run
   pub record IsThreadReady (task : ThreadTask S) : Type 0 where
     pub fresh : AreFresh task.slips task.receiver
+    pub open : task.receiver.gone ≡ None
     pub lanes : length task.slips ≡ task.receiver.lanes
     pub thread : HaveNumber task.thread task.slips
 
@@ -177,8 +183,10 @@ pub record LanesGiven (V : Type 0) : Type 0 where
   pub rows : List (List (Sender Note))
   pub inboxes : List (Inbox Slip)
 
--- what worker threads are given: their receivers, a row of senders for each, and by mailbox the spools, and the quotas
+-- what worker threads are given: their receivers, a row of senders for each, by mailbox the spools, and the quotas, and
+-- how many copies may wait beside each receiver
 pub record WorkersGiven (S : Type 0) : Type 0 where
+  pub room : ℕ
   pub inboxes : List (Inbox Note)
   pub rows : List (List (Sender Slip))
   pub spools : List S
@@ -208,8 +216,9 @@ pub record HaveServed {V : Type 0} (site : Site) (May : ℕ → Type 0) (view : 
       → IsInTime lane_sorts k old.rows new.rows old.inboxes new.inboxes (deeds k)
 
 -- Mailbox b did these deeds at its thread's ends, of which its own are what the thread took and gave for it, at times
--- that rise.
-pub record IsBoxInTime (b : ℕ) (rows rows' : List (List (Sender Slip))) (inboxes inboxes' : List (Inbox Note))
+-- that rise. To the mailbox, copies that the thread took and that waited beside its channel were in the channel still,
+-- which has room for that many more.
+pub record IsBoxInTime (room b : ℕ) (rows rows' : List (List (Sender Slip))) (inboxes inboxes' : List (Inbox Note))
     (deeds : List TimedDeed) : Type 0 where
   pub old : Ends Slip Note
   pub new : Ends Slip Note
@@ -217,7 +226,11 @@ pub record IsBoxInTime (b : ℕ) (rows rows' : List (List (Sender Slip))) (inbox
   pub row_is : slice_get rows' (worker_thread b) ≡ Some new.senders
   pub inbox_was : slice_get inboxes (worker_thread b) ≡ Some old.inbox
   pub inbox_is : slice_get inboxes' (worker_thread b) ≡ Some new.inbox
-  pub are : AreInTime worker_sorts deeds (ends_for b old) (ends_for b new)
+  pub share : Inbox Note
+  pub own : IsOwnChannel room b new.inbox share
+  pub are : AreInTime worker_sorts deeds
+      (record { senders = senders_for b old.senders; inbox = roomier room (inbox_for b old.inbox) })
+      (record { senders = senders_for b new.senders; inbox = share })
 
 -- All worker threads have ended, and none found a channel gone: what each mailbox did, and what its thread took and gave.
 pub record HaveWorked {S : Type 0} (site : Site) (view : SpoolsView S) (channels : List (Channel Slip))
@@ -247,7 +260,7 @@ pub record HaveWorked {S : Type 0} (site : Site) (view : SpoolsView S) (channels
   pub deeds : ℕ → List TimedDeed
   pub did : (b : ℕ) → b < length old.spools
       → whats (deeds b) ≡ turns_of b (works b).taken (outcomes_in (works b).turns)
-  pub in_time : (b : ℕ) → b < length old.spools → IsBoxInTime b old.rows new.rows old.inboxes new.inboxes (deeds b)
+  pub in_time : (b : ℕ) → b < length old.spools → IsBoxInTime old.room b old.rows new.rows old.inboxes new.inboxes (deeds b)
 
 -- whatever these tasks were made of, all lanes have ended
 abbrev pub HaveServedAll : {V C : Type 0} → (C → ℕ → Type 0) → VisitsView V → List (LaneTask V C) → LaneColumns V
@@ -261,6 +274,6 @@ HaveServedAll {V} {C} May view tasks new =
 abbrev pub HaveWorkedAll : {S : Type 0} → SpoolsView S → List (ThreadTask S) → WorkerColumns S → Type 0
 HaveWorkedAll {S} view tasks new =
     (site : Site) (channels : List (Channel Slip)) (old : WorkersGiven S)
-    → tasks ≡ thread_tasks (share_of site old.quotas) 0 old.inboxes old.rows old.spools
+    → tasks ≡ thread_tasks (share_of site old.quotas) old.room 0 old.inboxes old.rows old.spools
     → length old.inboxes ≡ threads_for (length old.spools)
     → AreRows (length old.inboxes) channels none old.rows → HaveWorked site view channels old new
