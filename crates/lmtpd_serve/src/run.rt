@@ -12,7 +12,7 @@ use super::conversations::Conversations;
 use super::lane_clock::LaneClock;
 use super::saying::{Announced, announce, is_cut};
 use super::served::{Served, ServerEnding};
-use super::turn_gate::TurnGate;
+use super::turn_gate::{GateWords, TurnGate};
 use super::watching::watched;
 use box_worker::TurnObserver;
 use lmtp_house::{
@@ -112,8 +112,8 @@ type LoggedVisits<L, E, O> = Watched<TcpVisits<L, E>, O>;
 
 /// A gate for each mailbox, what came of saying where the server listens, and the clients of each lane.
 #[derive(Drop)]
-struct Prepared<V: Drop, H: Drop> {
-    gates: Vec<TurnGate<H>>,
+struct Prepared<V: Drop, H: Drop, E: Drop> {
+    gates: Vec<TurnGate<H, E>>,
     announced: Announced,
     visits: Vec<V>,
 }
@@ -181,7 +181,7 @@ fn prepare<L, E, G, W, H>(
     clients: Clients<L, E>,
     logs: &G,
     writer: &mut W,
-) -> Result<Prepared<LoggedVisits<L, E, G::Log>, H>, AllocError>
+) -> Result<Prepared<LoggedVisits<L, E, G::Log>, H, E>, AllocError>
 where
     L: Listener + Drop,
     E: Drop,
@@ -201,7 +201,7 @@ where
         (λ prepared. IsAnnounced prepared.announced.is_unknown (W.contents writer.old) (W.contents writer.new)
         prepared.announced.is_cut) }
 {
-    let gates = gates_of(rt, alloc, boxes, &clients.conversations.slow)?;
+    let gates = gates_of(rt, alloc, boxes, &clients.conversations)?;
     let announced = announce(alloc, &clients.listener, writer)?;
     let Clients {
         conversations,
@@ -216,18 +216,23 @@ where
 }
 
 // The gates of that many mailboxes.
-fn gates_of<H: Copy + Drop>(
+fn gates_of<H: Copy + Drop, E: Drop>(
     rt: H,
     alloc: Global,
     boxes: usize,
-    slow: &Arc<SlowBoxes>,
-) -> Result<Vec<TurnGate<H>>, AllocError>
+    conversations: &Conversations<E>,
+) -> Result<Vec<TurnGate<H, E>>, AllocError>
     ensures { IfOk result (λ gates. length gates.items ≡ boxes) }
 {
+    let words = GateWords {
+        curfew: Arc::try_clone(&conversations.curfew)?,
+        slow: Arc::try_clone(&conversations.slow)?,
+    };
+    let words = Arc::new(alloc, words)?;
     let mut gates = Vec::with_capacity(alloc, boxes)?;
     for place in 0..boxes {
         let mailbox = u32::try_from(place).unwrap_or(u32::MAX);
-        gates.push(TurnGate::new(rt, Arc::try_clone(slow)?, mailbox))?;
+        gates.push(TurnGate::new(rt, Arc::try_clone(&words)?, mailbox))?;
     }
     Ok(gates)
 }
@@ -236,7 +241,7 @@ fn gates_of<H: Copy + Drop>(
 fn served_by<L: Drop, E: Drop, O: Drop, S: Drop, T: Drop, H: Drop, W: Write>(
     site: Arc<Site>,
     announced: Announced,
-    report: HouseReport<TcpVisits<L, E>, O, S, T, TurnGate<H>>,
+    report: HouseReport<TcpVisits<L, E>, O, S, T, TurnGate<H, E>>,
     writer: &mut W,
 ) -> Served
     requires { length report.tallies ≡ length (arc_value site).boxes }

@@ -102,9 +102,10 @@ pub record HasWaited (old new : Patience) (seconds : ℕ) : Type 0 where
   pub at_once : has_one_try old new.asked ≡ true → new.pauses ≡ 0
   pub counted : counted (waited_before old new.asked + new.paused_ms) ≤ new.waited_ms
 
--- It isn't waited for any longer: there is one try, or no time for one pause more, or by the clock the time was over.
+-- It isn't waited for any longer: it was put off, and waited for before, or there is one try, or no time for one pause
+-- more, or by the clock the time was over.
 abbrev pub IsGivenUp : Patience → Patience → Type 0
-IsGivenUp old new = (has_one_try old new.asked ≡ true) ⊎ (new.left_ms < pauses_ms (new.pauses + 1)) ⊎ IsTimeOver new
+IsGivenUp old new = (old.goes_on ≡ true) ⊎ (has_one_try old new.asked ≡ true) ⊎ (new.left_ms < pauses_ms (new.pauses + 1)) ⊎ IsTimeOver new
 
 -- whether one was missed within the last minute stays as it was as this turn was asked for
 pub record KeepsMiss (old new : Patience) : Type 0 where

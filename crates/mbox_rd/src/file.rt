@@ -278,7 +278,7 @@ impl<F: MailboxFile + Drop, C: Clock + Drop> FileSpool<F, C> {
     {
         self.patience.tries(&self.clock, self.wait);
         let answer = self.try_for_turn(1);
-        self.patience.put_off();
+        self.patience.put_off(&self.clock);
         match answer {
             Ok(end) => {
                 self.began = end.at;
@@ -381,7 +381,8 @@ impl<F: MailboxFile + Drop, C: Clock + Drop> Spool for FileSpool<F, C> {
     /// for a minute after a missed turn not at all. After a turn that broke, what the path names is opened again first;
     /// where the system refuses a lock, or a look at the open file, it is opened for the next turn. What was cut off is
     /// kept so where that is owed, or else this turn's first append and sync fail. In a turn it is refused, and the turn
-    /// goes on. Locks that `is_waited_for` has taken are its own, and the wait began with the first of those calls.
+    /// goes on. Locks that `is_waited_for` has taken are its own; where that was called and others had them, the turn was
+    /// waited for before, from the first of those calls on, and has one try.
     fn lock(&mut self) -> Result<u64, InUse>
         ensures within { self.old.in_turn ≡ true → (result ≡ Err InUse.Locked) × (self.new.file ≡ self.old.file)
             × (self.new.patience ≡ self.old.patience) }
@@ -430,7 +431,8 @@ impl<F: MailboxFile + Drop, C: Clock + Drop> Spool for FileSpool<F, C> {
     }
 
     /// Tries once for both locks, and keeps them for the next lock where it has them. The wait of that lock begins with
-    /// the first of these tries. In a turn, and after one that broke, it isn't tried, and the answer is false.
+    /// the first of these tries, between which there are a turn's pauses: in those it isn't tried, and the answer stays.
+    /// In a turn, and after one that broke, it isn't tried either, and the answer is false.
     fn is_waited_for(&mut self) -> bool
         ensures same { self.new ≡ record self.old {
           file = self.new.file;
@@ -441,7 +443,8 @@ impl<F: MailboxFile + Drop, C: Clock + Drop> Spool for FileSpool<F, C> {
         } }
         ensures in_turn { self.old.in_turn ≡ true → (result ≡ false) × (self.new ≡ self.old) }
         ensures untouched { IsUntouched (F.state self.old.file) (F.state self.new.file) }
-        ensures missed { result ≡ true → HasMissed (F.state self.old.file) (F.state self.new.file) }
+        ensures missed { result ≡ true → HasMissed (F.state self.old.file) (F.state self.new.file)
+            ⊎ (self.new ≡ self.old) }
         ensures unready { result ≡ true → self.new.is_ready ≡ false }
         ensures held { self.new.is_ready ≡ true → IsHeld (F.state self.new.file) }
         ensures since { self.old.patience.goes_on ≡ true → self.new.patience.asked ≡ self.old.patience.asked }
@@ -454,7 +457,7 @@ impl<F: MailboxFile + Drop, C: Clock + Drop> Spool for FileSpool<F, C> {
         if self.in_turn || self.has_failed || self.is_ready {
             return false;
         }
-        self.try_ahead()
+        self.patience.is_early(&self.clock) || self.try_ahead()
     }
 
     /// Gives both locks back. Where a call failed in this turn the file is cut to its length at the lock first. What

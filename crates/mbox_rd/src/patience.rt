@@ -40,6 +40,8 @@ pub(crate) struct Patience {
     paused_ms: u64,
     // how long it had been waited for as the last of them was asked for
     lasted_ms: u64,
+    // one that is put off isn't tried again before it was waited for that long
+    due_ms: u64,
 }
 
 impl Patience {
@@ -61,22 +63,26 @@ impl Patience {
             pauses: 0,
             paused_ms: 0,
             lasted_ms: 0,
+            due_ms: 0,
         }
     }
 
-    /// How many tries a turn has that is asked for now, or was before it was put off, with a pause between each two: as
-    /// many as there is time for where turns are waited for that many seconds within a minute, LOCK_WAIT_LIMIT at most.
-    /// For a minute after a missed turn it is one.
+    /// How many tries a turn has that is asked for now, with a pause between each two: as many as there is time for where
+    /// turns are waited for that many seconds within a minute, LOCK_WAIT_LIMIT at most. For a minute after a missed turn
+    /// it is one, and so for one that was put off: its wait lies behind it.
     pub fn tries<C: Clock>(&mut self, clock: &C, seconds: u32) -> u64
         requires goes_on { self.old.goes_on ≡ true → IsPutOff self.old seconds }
         ensures asked { HasAsked self.old self.new seconds }
         ensures since { self.old.goes_on ≡ true → self.new.asked ≡ self.old.asked }
         ensures missed { self.new.was_missed ≡ true → result ≡ 1 }
+        ensures put_off { self.old.goes_on ≡ true → result ≡ 1 }
         ensures within { pauses_ms (result - 1) ≤ self.new.left_ms }
-        ensures most { self.new.was_missed ≡ false → self.new.left_ms < pauses_ms result }
+        ensures most { self.old.goes_on ≡ false → self.new.was_missed ≡ false
+            → self.new.left_ms < pauses_ms result }
     {
+        let was_put_off = self.goes_on;
         self.ask(clock, seconds);
-        if self.was_missed {
+        if was_put_off || self.was_missed {
             1
         } else {
             tries_in(self.left_ms)
@@ -107,20 +113,39 @@ impl Patience {
         self.paused_none = false;
     }
 
-    /// The turn that was asked for is put off: its wait goes on.
-    pub fn put_off(&mut self)
-        ensures { self.new ≡ record self.old { lasted_ms = 0; paused_none = false; goes_on = true } }
+    /// The turn that was asked for is put off: its wait goes on, and it is tried again after as long as a turn that has
+    /// waited so long pauses.
+    pub fn put_off<C: Clock>(&mut self, clock: &C)
+        ensures { self.new ≡ record self.old {
+          lasted_ms = 0;
+          paused_none = false;
+          goes_on = true;
+          due_ms = self.new.due_ms;
+        } }
     {
+        let spent = self.spent_by(clock.monotonic().ok());
+        self.due_ms = spent.saturating_add(pause_at(spent));
         self.lasted_ms = 0;
         self.paused_none = false;
         self.goes_on = true;
     }
 
-    /// Whether there is time for this turn yet. For a minute after a missed turn there is none.
+    /// Whether there is time for this turn yet. For a minute after a missed turn there is none, and none where the clock
+    /// doesn't tell the time.
     pub fn has_time<C: Clock>(&self, clock: &C) -> bool
         ensures { result ≡ true → HasTime self.now }
     {
-        !self.was_missed && self.spent_by(clock.monotonic().ok()) < self.left_ms
+        let now = clock.monotonic().ok();
+        let is_known = self.asked.is_some() && now.is_some();
+        is_known && !self.was_missed && self.spent_by(now) < self.left_ms
+    }
+
+    /// Whether this turn was put off, has time yet and isn't to be tried again before longer.
+    pub fn is_early<C: Clock>(&self, clock: &C) -> bool
+        ensures { result ≡ true → (self.now.goes_on ≡ true) × HasTime self.now }
+    {
+        let spent = self.spent_by(clock.monotonic().ok());
+        self.goes_on && spent < self.due_ms && self.has_time(clock)
     }
 
     /// The turn's next pause, after so many. False: the time for this turn is over, and there is none, or it took no
@@ -247,6 +272,15 @@ fn tries_in(ms: u64) -> u64
         1 + ms / SHORT_PAUSE_MS
     } else {
         1 + SHORT_PAUSES + (ms - short) / PAUSE_MS
+    }
+}
+
+// How many milliseconds a turn pauses that was waited for so many, in which the short pauses fit or don't.
+fn pause_at(spent_ms: u64) -> u64 {
+    if spent_ms < SHORT_PAUSES * SHORT_PAUSE_MS {
+        SHORT_PAUSE_MS
+    } else {
+        PAUSE_MS
     }
 }
 

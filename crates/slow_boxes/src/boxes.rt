@@ -91,6 +91,13 @@ impl SlowBoxes {
         }
     }
 
+    /// The next turn at the mailbox is put off from now on.
+    pub fn puts_off<C: Clock>(&self, mailbox: u32, clock: &C) {
+        if let Some(words) = self.boxes.get(mailbox as usize) {
+            words.turns.put_off(milliseconds(clock));
+        }
+    }
+
     /// The turn at the mailbox was missed, or it has ended.
     pub fn ends(&self, mailbox: u32, is_missed: bool) {
         let Some(words) = self.boxes.get(mailbox as usize) else {

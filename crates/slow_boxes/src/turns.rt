@@ -8,6 +8,9 @@ use std::time::{Clock, Duration};
 /// How old a turn is at least that makes its mailbox slow, in milliseconds.
 const OLD_MS: u64 = 500;
 
+/// How long a turn is put off at least that makes its mailbox slow, in milliseconds.
+const PUT_OFF_MS: u64 = 2_000;
+
 /// No turn is under way: it begins at the end of time, and is never old.
 const NEVER: u64 = u64::MAX;
 
@@ -31,6 +34,12 @@ impl Turns {
     /// One begins.
     pub(crate) fn begin(&self, now: u64) {
         self.began.store(now, Ordering::SeqCst);
+    }
+
+    /// One is put off. It counts as old once it was for two seconds.
+    pub(crate) fn put_off(&self, now: u64) {
+        let counts_from = now.saturating_add(PUT_OFF_MS - OLD_MS);
+        self.began.store(counts_from, Ordering::SeqCst);
     }
 
     /// It was missed, and the mailbox is slow without a gap, until one is had.
