@@ -31,6 +31,7 @@ import notified  # noqa: F401
 import over_quota  # noqa: F401
 import pipelining  # noqa: F401
 import pipes  # noqa: F401
+import putting_off  # noqa: F401
 import races  # noqa: F401
 import readers  # noqa: F401
 import reasons  # noqa: F401
