@@ -233,7 +233,7 @@ loop-preserved g c =
     let waits = c.loop.waits.items in
     let n = c.in-None-next_copy.ensures.next in
     let same = c.next_copy.ensures.same in
-    let boxes = c.next_turn.ensures.same in
+    let boxes = c.pause.ensures ∙ c.next_turn.ensures.same in
     let open_still : c.loop.ended ≡ None = no_some c.loop.ended c.in_default-ended.not-Some in
     let old : Ends Slip Note = record { senders = c.args.slips.items; inbox = c.args.receiver } in
     record {
