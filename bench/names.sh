@@ -1,9 +1,9 @@
 #!/usr/bin/env bash
 # How long a server takes to read 65,536 names of mailboxes and to look at them, until it knows which one can't be used
 # and its line:
-#   many    one list, of which the 257th is one too many
-#   bad     one list, of which the last is no name
-#   twice   256 lists of 256, of each of which the last stands twice
+#   many    one more, and so one too many
+#   bad     the last is no name
+#   twice   the last stands twice, 65,535 lines after the first
 # Prints the least of RUNS times of each (5 if it isn't set), and fails where one is more than 0.2 seconds.
 # usage: bench/names.sh [--build | --try]: with a word it only makes its program, proved or unproved (bench/program)
 set -euo pipefail

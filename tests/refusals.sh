@@ -105,11 +105,17 @@ all=$(lists "$(printf '%s\\n' "${many[@]:1}")")
 try 0 none "${good[@]}" --boxes "$all"
 try 2 'lmtpd: too many boxes' "${good[@]}" --boxes "$all" box1
 try 2 'lmtpd: too many boxes' "${good[@]}" --boxes "$(lists 'box1\n')" "${many[@]:1}"
+all=$(lists "$(printf '%s\\n' "${many[@]}")")
+try 2 'lmtpd: too many boxes' "${good[@]}" --boxes "$all"
+try 1 'lmtpd: cannot open box1.mbox' "${serve[@]}" --dir /nowhere --boxes "$all"
+try 1 'lmtpd: cannot open last.mbox' "${serve[@]}" --dir /nowhere --boxes "$all" last
+try 2 'lmtpd: box named twice' "${serve[@]}" --dir /nowhere --boxes "$(lists 'box2\n')" "${many[@]:1}"
+try 2 'lmtpd: too many boxes' "${serve[@]}" --dir /nowhere --boxes "$(lists 'box2\n')" "${many[@]}"
 mkfifo "$folder/pipe"
 large=$(lists 'anna\n')
-truncate -s 65536 "$large"
+truncate -s 16777216 "$large"
 try 2 'lmtpd: bad box' "${good[@]}" --boxes "$large"
-large=$(lists "anna #$(printf '%065530d' 0)")
+large=$(lists "anna #$(printf '%016777210d' 0)")
 try 0 none "${good[@]}" --boxes "$large"
 echo >> "$large"
 for file in "$missing" '' / "$folder" "$folder/pipe" /dev/null /dev/zero "$large"; do

@@ -19,7 +19,7 @@ PAIRS = 3
 EACH = int(os.environ.get("LONG_RUN_EACH", "6000"))  # letters of a run beside a silent host, and of one without
 CLIENTS = 4
 MOVED_FROM, QUIET, KILLED = HOSTS.values()
-PORTS = [2003, 2004, 2005, 2006]  # of a host's servers, each of which has less than 256 users
+PORTS = [2003, 2004, 2005, 2006]  # of a host's servers
 COUNT = int(os.environ.get("LONG_RUN_USERS", "3000"))
 USERS = {f"u{it}": (list(HOSTS.values())[it % 3], PORTS[it // 3 % len(PORTS)]) for it in range(COUNT)}
 SERVERS = " ".join(f"lmtpd@{port}" for port in PORTS)
@@ -38,7 +38,7 @@ IS_EMPTY = "test -z \"$(find {} -type f -print -quit)\"".format(
 
 @contextlib.contextmanager
 def large_site(folder):
-    """Each host has several servers, by what the page says of more than 256 users."""
+    """Each host has several servers, by what the page says of several servers."""
     with site(folder) as there:
         [host, _] = blocks("## Which host")
         for number in HOSTS.values():

@@ -1,4 +1,4 @@
-"""More mailboxes than one server has: the recipe of docs/operating/SETUP.md, where the first process is systemd."""
+"""Several servers on one machine: the recipe of docs/operating/SETUP.md, where the first process is systemd."""
 
 import re
 import time
@@ -6,7 +6,7 @@ import time
 from cases import case, equal
 from ten_lines import ROOT, checked, machine, type_lines
 
-HEADING = "## More than 256 mailboxes"
+HEADING = "## Several servers"
 SEND = "printf 'Subject: {}\\n\\nhello\\n' | sendmail {}"
 
 
@@ -33,7 +33,7 @@ def instances_of_the_service(folder):
         owners = there.run("stat -c '%U %a' /var/spool/postfix/private/lmtpd-a /var/spool/postfix/private/lmtpd-b")
         equal(owners, (0, "postfix 600\npostfix 600\n"))
         before = processes(there, "a", "b")
-        # a new user in another one's place, and more users than the two servers have
+        # a new user in another one's place, and a user of a third server
         equal(there.run("sed -i 's/^b255$/frieda # new/' /etc/lmtpd/b.boxes; echo carla > /etc/lmtpd/c.boxes"), (0, ""))
         for line in recipe():
             equal((line, there.run(line)[0]), (line, 0))

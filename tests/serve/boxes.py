@@ -43,6 +43,34 @@ def no_name_but_those_of_a_file(folder):
 
 
 @case
+def more_than_each_has_a_thread(folder):
+    """300 mailboxes of a file: a letter for the first, for two that share a thread and for the last; postmaster's goes
+    to the first; at the end it is said of these alone what was stored"""
+    names = [f"u{number}" for number in range(300)]
+    (folder / "boxes").write_text("".join(f"{name}\n" for name in names))
+    with Server(folder, [], 1, "--boxes", folder / "boxes") as server:
+        known, finals = delivered(server, ["u0", "u255", "u256", "u299", "u300", "postmaster"])
+        equal(known, [RECIPIENT_OK] * 4 + [NO_SUCH_BOX, RECIPIENT_OK])
+        equal(finals, [stored(name) for name in ["u0", "u255", "u256", "u299", "u0"]])
+        ended = server.end()
+    said = ["u0 stored 2", "u255 stored 1", "u256 stored 1", "u299 stored 1"]
+    equal(vars(ended), {"status": 0, "said": said, "errors": []})
+    for name, count in [("u0", 2), ("u255", 1), ("u256", 1), ("u299", 1)]:
+        equal([letter.message for letter in letters.read(server.mailbox(name))], [b"Subject: hi\n\nhello\n"] * count)
+    equal(sorted(path.name for path in folder.glob("*.mbox")), ["u0.mbox", "u255.mbox", "u256.mbox", "u299.mbox"])
+
+
+@case
+def as_many_as_have_a_line(folder):
+    """256 mailboxes of a file: at the end each has its line, also where nothing came"""
+    names = [f"u{number}" for number in range(256)]
+    (folder / "boxes").write_text("".join(f"{name}\n" for name in names))
+    with Server(folder, [], 1, "--boxes", folder / "boxes") as server:
+        equal(delivered(server, ["u255"])[1], [stored("u255")])
+        equal(server.end().said, [f"{name} stored {int(name == 'u255')}" for name in names])
+
+
+@case
 def a_line_more(folder):
     """one more line in the file: the running server doesn't know the name, and the next one does"""
     (folder / "boxes").write_bytes(b"ben\n")

@@ -6,6 +6,8 @@ from cases import case, equal
 from server import run, taken_port, words
 
 MANY = [f"box{number}" for number in range(257)]
+# how many mailboxes a file may list
+MOST = 65_536
 GOOD, BAD = "127.0.0.1:0", "127.0.0.1"
 # Each row breaks the rule that is named, keeps those above it, and where it can breaks some below it:
 # the status, the line, the host, what to listen on, further words, the mailboxes.
@@ -149,6 +151,11 @@ def a_file_of_mailboxes(folder):
     equal([path.name for path in folder.iterdir()], ["boxes"])
 
 
+def lines(count):
+    """The text of a file of that many mailboxes, the first of which is box0."""
+    return "".join(f"box{number}\n" for number in range(count)).encode()
+
+
 # What a file of mailboxes has, the names among the words before it, and what is said of the name: {} stands for the
 # file's path and the line that follows. A word that begins with - is one of the program, and comes before the names.
 NAMES = [
@@ -185,8 +192,14 @@ NAMES = [
     (b"b.lock\nanna\nb.lock\n", [], "box named twice name=b.lock file={} line=3"),
     (b"anna\nanna\n" + "\n".join(MANY).encode() + b"\nAnna\n", [], "bad box name=Anna file={} line=260"),
     (None, MANY, "too many boxes name=box256"),
-    (b"# all\n" + "\n".join(MANY).encode(), [], "too many boxes name=box256 file={} line=258"),
-    (b"\nbox1\ncarl\n", MANY[1:], "too many boxes name=box1 file={} line=2"),
+    (b"anna\nanna\n", MANY, "too many boxes name=box256"),
+    (b"# all\n" + lines(MOST) + b"last", [], "too many boxes name=last file={} line=65538"),
+    (lines(MOST), ["anna"], "too many boxes name=box65535 file={} line=65536"),
+    (b"anna\n" + lines(MOST), ["ben"], "too many boxes name=box65534 file={} line=65536"),
+    (lines(MOST - 1) + b"box500\n", [], "box named twice name=box500 file={} line=65536"),
+    (lines(MOST) + b"box500\n", [], "too many boxes name=box500 file={} line=65537"),
+    (lines(MOST) + b"Anna\n", [], "bad box name=Anna file={} line=65537"),
+    (b"\nbox1\ncarl\n", MANY[1:], "box named twice name=box1 file={} line=2"),
     (None, ["anna", "ben", "anna"], "box named twice name=anna"),
     (b"ben\nanna\n", ["anna"], "box named twice name=anna file={} line=2"),
     (b"anna\nben\n# ben\nben\nanna\n", [], "box named twice name=ben file={} line=4"),
