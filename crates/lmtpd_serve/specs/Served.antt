@@ -1,6 +1,6 @@
 -- What a server says on standard output and on standard error, and what its run comes to.
 use Rattle.std.specs.Prelude.{◌≡◌, ◌==◌, ◌||◌, ◌<◌, ◌^◌, ℕ, List, [], ◌∷◌, ◌++◌, length, codes, decimal, map}
-use Rattle.std.specs.Prelude.{if◌then◌else◌, Bool, true, false, IfSome, Option}
+use Rattle.std.specs.Prelude.{if◌then◌else◌, not, nat_le, Bool, true, false, IfSome, Option}
 use Rattle.std.specs.Io.KnownBytes.{Keeps}
 use Rattle.std.specs.Arc.{arc_value}
 use Rattle.std.specs.List.{AllByRecursion, list_any}
@@ -22,6 +22,7 @@ use Rattle.lmtp_talk.specs.Entries.{Entry}
 use Rattle.lmtpd_log.specs.LaneLogs.{LogLines, lines_from}
 use Rattle.lmtpd_output.specs.Output.{IsListed, pair_texts}
 use Rattle.lmtpd_serve.specs.declared.conversations.Conversations.{Conversations}
+use Rattle.lmtpd_serve.specs.declared.lines.TheConstants.{FEW_BOXES}
 use Rattle.lmtpd_serve.specs.declared.lines.Trouble.{Trouble}
 use Rattle.lmtpd_serve.specs.declared.lines.Trouble.TheVariants.{InUse, OverQuota}
 use Rattle.lmtpd_serve.specs.declared.served.Served.{Served}
@@ -35,13 +36,20 @@ endpoint_line (Unix path) = codes "listening on unix:" ++ path.now ++ (lf ∷ []
 abbrev pub count_line : List ℕ → Tally → List ℕ
 count_line name tally = name ++ codes " stored " ++ decimal tally.stored ++ (lf ∷ [])
 
+-- each mailbox has its line where there are few of them; where there are more those alone that took a copy
+abbrev pub has_line : Bool → Tally → Bool
+has_line are_few tally = are_few || not (tally.taken == 0)
+
+abbrev pub count_told : Bool → List ℕ → Tally → List ℕ
+count_told are_few name tally = if has_line are_few tally then count_line name tally else []
+
 abbrev pub counts_text : List (List ℕ) → List Tally → List ℕ
-counts_text names tallies = pair_texts count_line names tallies
+counts_text names tallies = pair_texts (count_told (nat_le (length names) FEW_BOXES)) names tallies
 
 -- the copies of a mailbox that an administrator is told of: those whose turn was missed, or those over the quota
-abbrev pub count_told : Trouble → Tally → ℕ
-count_told InUse tally = tally.in_use
-count_told OverQuota tally = tally.over
+abbrev pub trouble_count : Trouble → Tally → ℕ
+trouble_count InUse tally = tally.in_use
+trouble_count OverQuota tally = tally.over
 
 abbrev pub words_of : Trouble → List ℕ
 words_of InUse = codes " in use "
@@ -54,7 +62,7 @@ trouble_line words name count = codes "lmtpd: " ++ (name ++ words ++ decimal cou
 -- what is said of a mailbox: its line where there were any, and else nothing
 abbrev pub trouble_told : Trouble → List ℕ → Tally → List ℕ
 trouble_told trouble name tally =
-    if count_told trouble tally == 0 then [] else trouble_line (words_of trouble) name (count_told trouble tally)
+    if trouble_count trouble tally == 0 then [] else trouble_line (words_of trouble) name (trouble_count trouble tally)
 
 abbrev pub trouble_lines_of : Trouble → Served → List ℕ
 trouble_lines_of trouble served = pair_texts (trouble_told trouble) (arc_value served.site).boxes served.tallies.items

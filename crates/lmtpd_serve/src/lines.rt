@@ -1,11 +1,11 @@
 //! What a server says: on standard output where it listens and what it stored, on standard error which turns were
 //! missed and what was over quotas.
 
-ghost use Rattle.std.specs.Prelude.{◌≡◌, length, string_bytes, IfOk, OnOk, OnErr};
+ghost use Rattle.std.specs.Prelude.{◌≡◌, length, nat_le, string_bytes, IfOk, OnOk, OnErr};
 ghost use Rattle.std.specs.Io.KnownBytes.{Appends};
-ghost use Rattle.lmtpd_output.specs.Output.{IsCutOff};
-ghost use Rattle.lmtpd_serve.specs.Served.{endpoint_line, count_line, counts_text, count_told, words_of, trouble_line};
-ghost use Rattle.lmtpd_serve.specs.Served.{trouble_told, trouble_lines_of, trouble_lines};
+ghost use Rattle.lmtpd_output.specs.Output.{IsCutOff, pair_texts};
+ghost use Rattle.lmtpd_serve.specs.Served.{endpoint_line, count_line, count_told, counts_text, has_line, words_of};
+ghost use Rattle.lmtpd_serve.specs.Served.{trouble_count, trouble_line, trouble_told, trouble_lines_of, trouble_lines};
 
 use super::served::Served;
 use itoa::Buffer;
@@ -14,6 +14,9 @@ use lmtp_text::Site;
 use lmtpd_output::{WriteFault, write_each};
 use std::alloc::{AllocError, Global};
 use std::io::Write;
+
+/// So many mailboxes have a line each for what they stored, also where that is nothing.
+pub const FEW_BOXES: u32 = 256;
 
 /// The line that says where the server listens.
 pub fn endpoint_line(alloc: Global, endpoint: Endpoint<'_>) -> Result<String, AllocError>
@@ -37,8 +40,60 @@ fn write_count<W: Write>(writer: &mut W, name: &[u8], tally: &Tally) -> Result<(
     write_each(writer, &[name, b" stored ", stored.as_bytes(), b"\n"])
 }
 
-/// Says of each mailbox of the site, in their order, how many copies it stored. After a fault the writer has gained
-/// a prefix of these lines.
+// Whether each mailbox of the site has a line.
+fn has_few_boxes(site: &Site) -> bool
+    ensures { result ≡ nat_le (length site.now.boxes) FEW_BOXES }
+{
+    site.box_count() <= FEW_BOXES
+}
+
+// Whether it is said how many copies a mailbox stored.
+fn has_line(are_few: bool, tally: &Tally) -> bool
+    ensures { result ≡ has_line are_few tally.now }
+{
+    are_few || tally.taken != 0
+}
+
+// Says of a mailbox how many copies it stored, where it has a line.
+fn tell_count<W: Write>(
+    writer: &mut W,
+    are_few: bool,
+    name: &[u8],
+    tally: &Tally,
+) -> Result<(), WriteFault>
+    ensures ok { OnOk result (Appends (W.contents writer.old) (W.contents writer.new)
+        (count_told are_few name.now tally.now)) }
+    ensures err { OnErr result (IsCutOff (W.contents writer.old) (W.contents writer.new)
+        (count_told are_few name.now tally.now)) }
+{
+    if !has_line(are_few, tally) {
+        return Ok(());
+    }
+    write_count(writer, name, tally)
+}
+
+// The same of each mailbox of the site, in their order.
+fn tell_counts<W: Write>(
+    writer: &mut W,
+    are_few: bool,
+    site: &Site,
+    tallies: &[Tally],
+) -> Result<(), WriteFault>
+    requires { length tallies.now ≡ length site.now.boxes }
+    ensures ok { OnOk result (Appends (W.contents writer.old) (W.contents writer.new)
+        (pair_texts (count_told are_few) site.now.boxes tallies.now)) }
+    ensures err { OnErr result (IsCutOff (W.contents writer.old) (W.contents writer.new)
+        (pair_texts (count_told are_few) site.now.boxes tallies.now)) }
+{
+    for number in 0..site.box_count() {
+        let tally = &tallies[number as usize];
+        tell_count(writer, are_few, site.box_name(number), tally)?;
+    }
+    Ok(())
+}
+
+/// Says of each mailbox of the site, in their order, how many copies it stored; where there are more than a few, of
+/// those alone that took one. After a fault the writer has gained a prefix of these lines.
 pub fn write_counts<W: Write>(
     writer: &mut W,
     site: &Site,
@@ -50,11 +105,8 @@ pub fn write_counts<W: Write>(
     ensures err { OnErr result (IsCutOff (W.contents writer.old) (W.contents writer.new)
         (counts_text site.now.boxes tallies.now)) }
 {
-    for number in 0..site.box_count() {
-        let tally = &tallies[number as usize];
-        write_count(writer, site.box_name(number), tally)?;
-    }
-    Ok(())
+    let are_few = has_few_boxes(site);
+    tell_counts(writer, are_few, site, tallies)
 }
 
 /// The copies of a mailbox that an administrator is told of: those whose turn was missed while other programs had the
@@ -67,7 +119,7 @@ pub enum Trouble {
 
 impl Trouble {
     fn count(self, tally: &Tally) -> u64
-        ensures { result ≡ count_told self tally.now }
+        ensures { result ≡ trouble_count self tally.now }
     {
         match self {
             Trouble::InUse => tally.in_use,

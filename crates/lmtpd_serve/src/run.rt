@@ -31,7 +31,7 @@ use std::thread::Threads;
 use std::time::Clock;
 
 /// Says where the server listens, runs it for that many conversations, which the lanes share, and says for each mailbox
-/// how many copies it stored. Each mailbox has its own quota, if it has one. Each lane's log is told of its
+/// how many copies it stored, where there are many for those alone that took one. Each mailbox has its own quota, if it has one. Each lane's log is told of its
 /// conversations, and each mailbox's observer of its turns. Nothing more is said once a write failed; the server runs
 /// all the same, as it does where the listener can't tell its address. What each mailbox's worker did is handed back.
 pub fn serve_run<L, E, S, T, G, W, H>(
