@@ -387,7 +387,7 @@ const CHECK_WORDS: Argument = Argument {
 const BOXES_FILE: Argument = Argument {
     name: "boxes",
     value: "FILE",
-    help: "A file of 65536 bytes at most that lists further mailboxes, a name a line; # begins a comment [default: none]",
+    help: "A file of 16 MiB at most that lists further mailboxes, serve's up to 65536; # begins a comment [default: none]",
     is_required: false,
     kind: ValueKind::Text,
 };
@@ -395,7 +395,7 @@ const BOXES_FILE: Argument = Argument {
 const BOXES: Argument = Argument {
     name: "box",
     value: "BOX",
-    help: "The mailboxes, with FILE 1 to 256 names of 1 to 32 of a to z, 0 to 9, -, _ and ., which doesn't begin a name",
+    help: "The mailboxes, 256 names at most of 1 to 32 of a to z, 0 to 9, -, _ and ., which doesn't begin a name",
     is_required: false,
     kind: ValueKind::Texts,
 };

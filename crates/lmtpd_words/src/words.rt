@@ -50,7 +50,10 @@ pub const SUFFIX_LIMIT: usize = 32;
 pub const MODE_DIGIT_LIMIT: usize = 4;
 
 /// The bytes that a file which lists mailboxes may have.
-pub const BOXES_FILE_LIMIT: usize = 65_536;
+pub const BOXES_FILE_LIMIT: usize = 16_777_216;
+
+/// The mailboxes that words may name themselves, and those of a rehearsal, with those of a file.
+pub const COMMAND_LINE_BOX_LIMIT: usize = 256;
 
 /// The site that the words name.
 #[derive(Drop)]
