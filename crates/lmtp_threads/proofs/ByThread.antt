@@ -195,81 +195,81 @@ module _ {S : Type 0} where
       omega (arith, all, there)
 
   -- the tasks of threads that own these mailboxes
-  pub tasks_same : (share : WorkerShare) (t : ℕ) (inboxes : List (Inbox Note)) (rows : List (List (Sender Slip))) (boxes : List (List (Numbered S)))
+  pub tasks_same : (share : WorkerShare) (room t : ℕ) (inboxes : List (Inbox Note)) (rows : List (List (Sender Slip))) (boxes : List (List (Numbered S)))
       (spools : List S) → length boxes ≡ length inboxes
       → ((j : ℕ) (own : List (Numbered S)) → slice_get boxes j ≡ Some own → own ≡ boxes_of (t + j) spools)
-      → tasks_with share t inboxes rows boxes ≡ thread_tasks share t inboxes rows spools
-  tasks_same share t [] rows boxes spools same are = refl
-  tasks_same share t (inbox ∷ inboxes) [] boxes spools same are = refl
-  tasks_same share t (inbox ∷ inboxes) (row ∷ rows) [] spools same are = absurd (omega arith)
-  tasks_same share t (inbox ∷ inboxes) (row ∷ rows) (own ∷ boxes) spools same are =
+      → tasks_with share room t inboxes rows boxes ≡ thread_tasks share room t inboxes rows spools
+  tasks_same share room t [] rows boxes spools same are = refl
+  tasks_same share room t (inbox ∷ inboxes) [] boxes spools same are = refl
+  tasks_same share room t (inbox ∷ inboxes) (row ∷ rows) [] spools same are = absurd (omega arith)
+  tasks_same share room t (inbox ∷ inboxes) (row ∷ rows) (own ∷ boxes) spools same are =
       let n : t + 0 ≡ t = omega arith in
       let first : own ≡ boxes_of t spools = are 0 own refl ∙ ap (λ k. boxes_of k spools) n in
-      let rest : tasks_with share (t + 1) inboxes rows boxes ≡ thread_tasks share (t + 1) inboxes rows spools =
-      tasks_same share (t + 1) inboxes rows boxes spools (omega arith) (λ j x e.
+      let rest : tasks_with share room (t + 1) inboxes rows boxes ≡ thread_tasks share room (t + 1) inboxes rows spools =
+      tasks_same share room (t + 1) inboxes rows boxes spools (omega arith) (λ j x e.
       let m : t + suc j ≡ t + 1 + j = omega arith in are (suc j) x e ∙ ap (λ k. boxes_of k spools) m) in
-      λ i. (let task : ThreadTask S = record { share = share; thread = t; receiver = inbox; slips = row; boxes = first i } in task ∷ rest i)
+      λ i. (let task : ThreadTask S = record { share = share; room = room; thread = t; receiver = inbox; slips = row; boxes = first i } in task ∷ rest i)
 
   -- as many threads as serve so many mailboxes
-  pub jobs_same : (share : WorkerShare) (threads : ℕ) (inboxes : List (Inbox Note)) (rows : List (List (Sender Slip))) (boxes : List (List (Numbered S)))
+  pub jobs_same : (share : WorkerShare) (room threads : ℕ) (inboxes : List (Inbox Note)) (rows : List (List (Sender Slip))) (boxes : List (List (Numbered S)))
       (spools : List S) → AreByThread threads spools boxes → threads ≡ length inboxes → threads ≡ min (length spools) 256
-      → tasks_with share 0 inboxes rows boxes ≡ thread_tasks share 0 inboxes rows spools
-  jobs_same share threads inboxes rows boxes spools by many few =
-      tasks_same share 0 inboxes rows boxes spools (by.count ∙ many) (λ j own e.
+      → tasks_with share room 0 inboxes rows boxes ≡ thread_tasks share room 0 inboxes rows spools
+  jobs_same share room threads inboxes rows boxes spools by many few =
+      tasks_same share room 0 inboxes rows boxes spools (by.count ∙ many) (λ j own e.
       let m : j ≡ 0 + j = omega arith in
       let within : 0 + length spools ≡ length spools = omega arith in
       by.each j own e ∙ (owned_same threads (length spools) j 0 spools few within ∙ ap (λ k. owned 256 k 0 spools) m))
 
   -- the task of thread t + k, and what it was made of
-  pub record TaskAt (share : WorkerShare) (t : ℕ) (inboxes : List (Inbox Note)) (rows : List (List (Sender Slip))) (spools : List S) (k : ℕ)
+  pub record TaskAt (share : WorkerShare) (room t : ℕ) (inboxes : List (Inbox Note)) (rows : List (List (Sender Slip))) (spools : List S) (k : ℕ)
       (task : ThreadTask S) : Type 0 where
     pub inbox : Inbox Note
     pub row : List (Sender Slip)
     pub inbox_is : slice_get inboxes k ≡ Some inbox
     pub row_is : slice_get rows k ≡ Some row
-    pub is : task ≡ thread_task share (t + k) inbox row spools
+    pub is : task ≡ thread_task share room (t + k) inbox row spools
 
-  pub task_at : (share : WorkerShare) (t : ℕ) (inboxes : List (Inbox Note)) (rows : List (List (Sender Slip))) (spools : List S) (k : ℕ) (task : ThreadTask S)
-      → slice_get (thread_tasks share t inboxes rows spools) k ≡ Some task → TaskAt share t inboxes rows spools k task
-  task_at share t [] rows spools k task e = let bad : ◌≡◌ {A = Option (ThreadTask S)} None (Some task) = e in absurd (cc)
-  task_at share t (inbox ∷ inboxes) [] spools k task e = let bad : ◌≡◌ {A = Option (ThreadTask S)} None (Some task) = e in absurd (cc)
-  task_at share t (inbox ∷ inboxes) (row ∷ rows) spools zero task e =
-      let s : ◌≡◌ {A = Option (ThreadTask S)} (Some (thread_task share t inbox row spools)) (Some task) = e in
-      let same : thread_task share t inbox row spools ≡ task = cc in
+  pub task_at : (share : WorkerShare) (room t : ℕ) (inboxes : List (Inbox Note)) (rows : List (List (Sender Slip))) (spools : List S) (k : ℕ) (task : ThreadTask S)
+      → slice_get (thread_tasks share room t inboxes rows spools) k ≡ Some task → TaskAt share room t inboxes rows spools k task
+  task_at share room t [] rows spools k task e = let bad : ◌≡◌ {A = Option (ThreadTask S)} None (Some task) = e in absurd (cc)
+  task_at share room t (inbox ∷ inboxes) [] spools k task e = let bad : ◌≡◌ {A = Option (ThreadTask S)} None (Some task) = e in absurd (cc)
+  task_at share room t (inbox ∷ inboxes) (row ∷ rows) spools zero task e =
+      let s : ◌≡◌ {A = Option (ThreadTask S)} (Some (thread_task share room t inbox row spools)) (Some task) = e in
+      let same : thread_task share room t inbox row spools ≡ task = cc in
       let n : t ≡ t + 0 = omega arith in
-      record { inbox = inbox; row = row; inbox_is = refl; row_is = refl; is = sym same ∙ ap (λ j. thread_task share j inbox row spools) n }
-  task_at share t (inbox ∷ inboxes) (row ∷ rows) spools (suc k) task e =
-      let p = task_at share (t + 1) inboxes rows spools k task e in
+      record { inbox = inbox; row = row; inbox_is = refl; row_is = refl; is = sym same ∙ ap (λ j. thread_task share room j inbox row spools) n }
+  task_at share room t (inbox ∷ inboxes) (row ∷ rows) spools (suc k) task e =
+      let p = task_at share room (t + 1) inboxes rows spools k task e in
       let n : t + 1 + k ≡ t + suc k = omega arith in
-      record { inbox = p.inbox; row = p.row; inbox_is = p.inbox_is; row_is = p.row_is; is = p.is ∙ ap (λ j. thread_task share j p.inbox p.row spools) n }
+      record { inbox = p.inbox; row = p.row; inbox_is = p.inbox_is; row_is = p.row_is; is = p.is ∙ ap (λ j. thread_task share room j p.inbox p.row spools) n }
 
-  pub tasks_count : (share : WorkerShare) (t : ℕ) (inboxes : List (Inbox Note)) (rows : List (List (Sender Slip))) (spools : List S)
-      → length rows ≡ length inboxes → length (thread_tasks share t inboxes rows spools) ≡ length inboxes
-  tasks_count share t [] rows spools same = refl
-  tasks_count share t (inbox ∷ inboxes) [] spools same = absurd (omega arith)
-  tasks_count share t (inbox ∷ inboxes) (row ∷ rows) spools same = ap suc (tasks_count share (t + 1) inboxes rows spools (omega arith))
+  pub tasks_count : (share : WorkerShare) (room t : ℕ) (inboxes : List (Inbox Note)) (rows : List (List (Sender Slip))) (spools : List S)
+      → length rows ≡ length inboxes → length (thread_tasks share room t inboxes rows spools) ≡ length inboxes
+  tasks_count share room t [] rows spools same = refl
+  tasks_count share room t (inbox ∷ inboxes) [] spools same = absurd (omega arith)
+  tasks_count share room t (inbox ∷ inboxes) (row ∷ rows) spools same = ap suc (tasks_count share room (t + 1) inboxes rows spools (omega arith))
 
-  pub each_owner : (share : WorkerShare) (t : ℕ) (inboxes : List (Inbox Note)) (rows : List (List (Sender Slip))) (spools : List S)
-      → t + length inboxes ≤ 256 → AllByRecursion IsOwner (thread_tasks share t inboxes rows spools)
-  each_owner share t [] rows spools few = tt
-  each_owner share t (inbox ∷ inboxes) [] spools few = tt
-  each_owner share t (inbox ∷ inboxes) (row ∷ rows) spools few =
-      (λ i box e. (in_place t spools i box (omega arith) e, (owned_at t spools i box e).thread), each_owner share (t + 1) inboxes rows spools (omega arith))
+  pub each_owner : (share : WorkerShare) (room t : ℕ) (inboxes : List (Inbox Note)) (rows : List (List (Sender Slip))) (spools : List S)
+      → t + length inboxes ≤ 256 → AllByRecursion IsOwner (thread_tasks share room t inboxes rows spools)
+  each_owner share room t [] rows spools few = tt
+  each_owner share room t (inbox ∷ inboxes) [] spools few = tt
+  each_owner share room t (inbox ∷ inboxes) (row ∷ rows) spools few =
+      (λ i box e. (in_place t spools i box (omega arith) e, (owned_at t spools i box e).thread), each_owner share room (t + 1) inboxes rows spools (omega arith))
 
-  module _ (share : WorkerShare) (inboxes : List (Inbox Note)) (rows : List (List (Sender Slip))) (spools : List S)
+  module _ (share : WorkerShare) (room : ℕ) (inboxes : List (Inbox Note)) (rows : List (List (Sender Slip))) (spools : List S)
       (rows_count : length rows ≡ length inboxes) (threads : length inboxes ≡ threads_for (length spools)) where
     abbrev tasks : List (ThreadTask S)
-    tasks = thread_tasks share 0 inboxes rows spools
+    tasks = thread_tasks share room 0 inboxes rows spools
 
     abbrev n : ℕ
     n = length spools
 
     count : length tasks ≡ length inboxes
-    count = tasks_count share 0 inboxes rows spools rows_count
+    count = tasks_count share room 0 inboxes rows spools rows_count
 
     numbers_there : (t : ℕ) (task : ThreadTask S) → slice_get tasks t ≡ Some task → numbers_in task.boxes ≡ numbers_at 256 t 0 n
     numbers_there t task e =
-        let p = task_at share 0 inboxes rows spools t task e in
+        let p = task_at share room 0 inboxes rows spools t task e in
         let m : 0 + t ≡ t = omega arith in
         ap (λ (x : ThreadTask S). numbers_in x.boxes) p.is ∙ (ap (λ k. numbers_in (boxes_of k spools)) m ∙ numbers_owned 256 t 0 spools)
 

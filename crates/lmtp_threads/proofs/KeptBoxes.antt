@@ -11,9 +11,10 @@ use Rattle.mbox_spool.specs.Spool.{SpoolState}
 use Rattle.mail_post.specs.Channel.{Sender, Inbox}
 use Rattle.mail_post.specs.Offered.{HaveNumber, any_gone}
 use Rattle.mail_post.specs.WorkerThreads.{worker_thread}
-use Rattle.box_worker.specs.Limits.{setting_by}
+use Rattle.box_worker.specs.PutOff.{roomier}
 use Rattle.box_worker.specs.Worked.{idle, is_lost, HasWorked}
-use Rattle.box_worker.specs.Shares.{inbox_for, senders_for, slot_of, Start, KeptState, numbers_of, worker_lost, AreInPlace, AreOfThread, IsNew, AreNew, GaveForItsOwn, HaveWorked}
+use Rattle.box_worker.specs.Shares.{inbox_for, senders_for, slot_of, Start, KeptState, numbers_of, worker_lost, AreInPlace, AreOfThread, IsNew, AreNew, GaveForItsOwn}
+use Rattle.lmtp_threads.specs.OwnChannel.{IsOwnChannel}
 use Rattle.lmtp_threads.specs.Works.{SpoolsView, share_of, setting_of}
 use Rattle.lmtp_threads.specs.Reports.{ThreadBack}
 use Rattle.lmtp_threads.specs.Tasks.{Numbered, ThreadTask}
@@ -21,6 +22,7 @@ use Rattle.lmtp_threads.specs.ByThread.{numbers_in, IsOwner}
 use Rattle.lmtp_threads.specs.ThreadWork.{start_of, IsKept, IsThreadWork}
 use Rattle.lmtp_threads.proofs.Pairs.{AllZip-length}
 use Rattle.lmtp_threads.proofs.ChannelRows.{at, same_at, zip_at, at_map}
+use Rattle.lmtp_threads.proofs.OwnChannels.{HasWorkedAlone, HaveWorkedAlone}
 
 -- that of no mailbox
 abbrev pub no_start : Start
@@ -54,10 +56,10 @@ module _ {S : Type 0} (view : SpoolsView S) (quotas : List (Option ℕ)) where
   numbers_kept (box ∷ boxes) [] all = absurd all
   numbers_kept (box ∷ boxes) (k ∷ kept) all = λ i. all.0.number i ∷ numbers_kept boxes kept all.1 i
 
-  module _ (site : Site) (thread : ℕ) (receiver : Inbox Note) (slips : List (Sender Slip)) (boxes : List (Numbered S)) (kept : List KeptState)
+  module _ (site : Site) (room thread : ℕ) (receiver : Inbox Note) (slips : List (Sender Slip)) (boxes : List (Numbered S)) (kept : List KeptState)
       (all : AllZip (IsKept view quotas) boxes kept) where
     abbrev pub task : ThreadTask S
-    task = record { share = share_of site quotas; thread = thread; receiver = receiver; slips = slips; boxes = boxes }
+    task = record { share = share_of site quotas; room = room; thread = thread; receiver = receiver; slips = slips; boxes = boxes }
 
     -- the mailbox at a place, of which this is kept
     box_at : (i : ℕ) (k : KeptState) → slice_get kept i ≡ Some k → (box : Numbered S) × (slice_get boxes i ≡ Some box) × IsKept view quotas box k
@@ -79,27 +81,28 @@ module _ {S : Type 0} (view : SpoolsView S) (quotas : List (Option ℕ)) where
         let box = box_at i k e in
         subst (λ start. IsNew site view.manner start k) (sym (starts_at boxes i box.0 box.1)) (box.2.new site)
 
-    -- of each mailbox of the thread what a worker of its own would have done
+    -- of each mailbox of the thread what a worker of its own would have done, as far as no slip came back
     module _ (back : ThreadBack)
-        (worked : (starts : ℕ → Start) → AreNew site view.manner starts kept
-        → HaveWorked site view.manner starts (record { senders = slips; inbox = receiver }) (record { senders = back.slips; inbox = back.receiver }) back.lost
-        back.boxes)
+        (worked : any_gone back.slips ≡ false → (starts : ℕ → Start) → AreNew site view.manner starts kept
+        → HaveWorkedAlone room site view.manner starts (record { senders = slips; inbox = receiver })
+        (record { senders = back.slips; inbox = back.receiver }) back.lost back.boxes)
         (numbers : numbers_of back.boxes ≡ numbers_of kept) where
       same_numbers : numbers_of back.boxes ≡ numbers_in boxes
       same_numbers = numbers ∙ numbers_kept boxes kept all
 
-      worked_at : (i : ℕ) (box : Numbered S) (k : KeptState) → slice_get boxes i ≡ Some box → slice_get back.boxes i ≡ Some k
-          → HasWorked (setting_of (share_of site quotas) box.number) view.manner (inbox_for box.number receiver) (inbox_for box.number back.receiver)
+      worked_at : any_gone back.slips ≡ false → (i : ℕ) (box : Numbered S) (k : KeptState) → slice_get boxes i ≡ Some box → slice_get back.boxes i ≡ Some k
+          → (share : Inbox Note) × IsOwnChannel room box.number back.receiver share
+          × HasWorked (setting_of (share_of site quotas) box.number) view.manner (roomier room (inbox_for box.number receiver)) share
           (idle (senders_for box.number slips) (view.state box.spool) (view.told box.spool)) (worker_lost (senders_for box.number back.slips) k back.lost)
-      worked_at i box k e f =
+      worked_at none i box k e f =
           let there : slice_get (numbers_in boxes) i ≡ Some k.number =
           subst (λ l. slice_get l i ≡ Some k.number) same_numbers (at_map (λ (x : KeptState). x.number) back.boxes i k f) in
           let number : k.number ≡ box.number = same_at (numbers_in boxes) i k.number box.number there (at_map (λ (x : Numbered S). x.number) boxes i box e) in
           let Has : ℕ → Start → Type 0 = λ b start.
-          HasWorked (setting_by site start.quota b) view.manner (inbox_for b receiver) (inbox_for b back.receiver)
-          (idle (senders_for b slips) start.spool start.told) (worker_lost (senders_for b back.slips) k back.lost) in
+          HasWorkedAlone room site view.manner start (record { senders = slips; inbox = receiver }) (record { senders = back.slips; inbox = back.receiver })
+          back.lost b k in
           subst (λ b. Has b (start_of view (quota_at quotas box.number) box.spool)) number
-          (subst (Has k.number) (starts_at boxes i box e) (worked (starts_of boxes) are_new i k f))
+          (subst (Has k.number) (starts_at boxes i box e) (worked none (starts_of boxes) are_new i k f))
 
       pub thread_work : (channel : (back.receiver.channel ≡ receiver.channel) × (back.receiver.lanes ≡ receiver.lanes)
           × (back.receiver.capacity ≡ receiver.capacity)) → back.lost ≡ (any_gone back.slips || is_lost back.receiver.gone)

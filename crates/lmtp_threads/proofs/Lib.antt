@@ -5,6 +5,7 @@ pub mod ChannelRows
 pub mod Filling
 pub mod ByThread
 pub mod InTurn
+pub mod OwnChannels
 pub mod KeptBoxes
 pub mod ServedAll
 pub mod WorkedAll

@@ -23,10 +23,11 @@ use Rattle.box_worker.specs.Told.{owed_to}
 use Rattle.box_worker.specs.TurnTimes.{worker_sorts}
 use Rattle.box_worker.specs.TurnEnds.{TellsTurns}
 use Rattle.box_worker.specs.Worked.{idle, is_lost, HasWorked}
-use Rattle.box_worker.specs.Shares.{for_box, by_box, inbox_for, sender_for, senders_for, ends_for, KeptState, numbers_of, worker_lost, IsAt}
-use Rattle.box_worker.proofs.Shares.{messages_copies}
+use Rattle.box_worker.specs.PutOff.{roomier}
+use Rattle.box_worker.specs.Shares.{for_box, by_box, inbox_for, sender_for, senders_for, KeptState, numbers_of, worker_lost, IsAt}
 use Rattle.box_worker.proofs.Handling.{was_closed, none_came_back}
 use Rattle.lmtp_threads.specs.declared.tally.Tally.{Tally}
+use Rattle.lmtp_threads.specs.OwnChannel.{IsOwnChannel}
 use Rattle.lmtp_threads.specs.Works.{SpoolsView, WorkerShare, share_of, setting_of, BoxWork, IsBoxWork}
 use Rattle.lmtp_threads.specs.Channels.{AreRows, none, lane_at, HasGiven}
 use Rattle.lmtp_threads.specs.Reports.{WorkerColumns, tally_of, TellsOfSpool, ThreadBack}
@@ -75,26 +76,26 @@ module _ {S : Type 0} (view : SpoolsView S) where
   module _ (site : Site) (channels : List (Channel Slip)) (given : WorkersGiven S) (count : ℕ) (backs : List ThreadBack) (columns : WorkerColumns S)
       (of : HoldAll count backs columns)
       (inboxes_count : length given.inboxes ≡ threads_for (length given.spools)) (are : AreRows (length given.inboxes) channels none given.rows)
-      (tasks_of : AreTasksOf count (thread_tasks (share_of site given.quotas) 0 given.inboxes given.rows given.spools))
-      (all : AllZip (IsThreadWork view) (thread_tasks (share_of site given.quotas) 0 given.inboxes given.rows given.spools) backs)
+      (tasks_of : AreTasksOf count (thread_tasks (share_of site given.quotas) given.room 0 given.inboxes given.rows given.spools))
+      (all : AllZip (IsThreadWork view) (thread_tasks (share_of site given.quotas) given.room 0 given.inboxes given.rows given.spools) backs)
       (sound : columns.gone ≡ false) where
     abbrev share : WorkerShare
     share = share_of site given.quotas
 
     abbrev tasks : List (ThreadTask S)
-    tasks = thread_tasks share 0 given.inboxes given.rows given.spools
+    tasks = thread_tasks share given.room 0 given.inboxes given.rows given.spools
 
     abbrev n : ℕ
     n = length given.spools
 
     tasks_len : length tasks ≡ length given.inboxes
-    tasks_len = tasks_count share 0 given.inboxes given.rows given.spools are.count
+    tasks_len = tasks_count share given.room 0 given.inboxes given.rows given.spools are.count
 
     backs_len : length backs ≡ length given.inboxes
     backs_len = sym (AllZip-length (IsThreadWork view) tasks backs all) ∙ tasks_len
 
     boxes_count : count ≡ n
-    boxes_count = count_is share given.inboxes given.rows given.spools are.count inboxes_count count tasks_of
+    boxes_count = count_is share given.room given.inboxes given.rows given.spools are.count inboxes_count count tasks_of
 
     came_len : length of.came ≡ n
     came_len = sym (length-map of.came (λ (k : KeptState). k.number)) ∙ (ap length of.numbers ∙ (length_numbers 0 count ∙ boxes_count))
@@ -109,16 +110,16 @@ module _ {S : Type 0} (view : SpoolsView S) where
       inbox_is : slice_get columns.inboxes t ≡ Some back.receiver
       row_is : slice_get columns.rows t ≡ Some back.slips
       sound_back : back.lost ≡ false
-      work : IsThreadWork view (thread_task share t inbox row given.spools) back
+      work : IsThreadWork view (thread_task share given.room t inbox row given.spools) back
 
     thread_is : (t : ℕ) (back : ThreadBack) → slice_get backs t ≡ Some back → ThreadIs t
     thread_is t back e =
         let task = at tasks t (omega (arith, tasks_len, backs_len, slice_get_within backs t back e)) in
-        let made = task_at share 0 given.inboxes given.rows given.spools t task.value task.is in
+        let made = task_at share given.room 0 given.inboxes given.rows given.spools t task.value task.is in
         let first : 0 + t ≡ t = omega arith in
         let work : IsThreadWork view task.value back = zip_at (IsThreadWork view) tasks backs all t task.value back task.is e in
-        let is : task.value ≡ thread_task share t made.inbox made.row given.spools =
-        made.is ∙ ap (λ j. thread_task share j made.inbox made.row given.spools) first in record {
+        let is : task.value ≡ thread_task share given.room t made.inbox made.row given.spools =
+        made.is ∙ ap (λ j. thread_task share given.room j made.inbox made.row given.spools) first in record {
           inbox = made.inbox;
           row = made.row;
           back = back;
@@ -130,6 +131,9 @@ module _ {S : Type 0} (view : SpoolsView S) where
           work = subst (λ (x : ThreadTask S). IsThreadWork view x back) is work;
         }
 
+    none_of_thread : (t : ℕ) (x : ThreadIs t) → any_gone x.back.slips ≡ false
+    none_of_thread t x = (or_parts (any_gone x.back.slips) (is_lost x.back.receiver.gone) (sym x.work.lost ∙ x.sound_back)).0
+
     -- what is known of mailbox b, which is thread t's
     record BoxOf (t b : ℕ) : Type 0 where
       thread : ThreadIs t
@@ -140,7 +144,9 @@ module _ {S : Type 0} (view : SpoolsView S) where
       came_is : slice_get of.came b ≡ Some kept
       kept_is : slice_get thread.back.boxes place ≡ Some kept
       number : kept.number ≡ b
-      worked : HasWorked (setting_of share b) view.manner (inbox_for b thread.inbox) (inbox_for b thread.back.receiver)
+      inbox : Inbox Note
+      own : IsOwnChannel given.room b thread.back.receiver inbox
+      worked : HasWorked (setting_of share b) view.manner (roomier given.room (inbox_for b thread.inbox)) inbox
           (idle (senders_for b thread.row) (view.state spool) (view.told spool)) (worker_lost (senders_for b thread.back.slips) kept thread.back.lost)
 
     -- the mailbox at a place of a thread's
@@ -155,6 +161,7 @@ module _ {S : Type 0} (view : SpoolsView S) where
         let box = source (λ (x : Numbered S). x.number) (boxes_of t given.spools) place kept.number there in
         let own = owned_at t given.spools place box.value box.is in
         let number : box.value.number ≡ b = sym box.gives ∙ is in
+        let done = th.work.worked (none_of_thread t th) place box.value kept box.is f in
         let here : BoxOf t box.value.number = record {
           thread = th;
           spool = box.value.spool;
@@ -164,7 +171,9 @@ module _ {S : Type 0} (view : SpoolsView S) where
           came_is = subst (λ k. slice_get of.came k ≡ Some kept) box.gives came;
           kept_is = f;
           number = box.gives;
-          worked = th.work.worked place box.value kept box.is f;
+          inbox = done.0;
+          own = done.1;
+          worked = done.2;
         } in
         (ap worker_thread (sym number) ∙ own.thread, subst (BoxOf t) number here)
 
@@ -200,13 +209,13 @@ module _ {S : Type 0} (view : SpoolsView S) where
     -- what a mailbox's worker owed a lane is what its thread gave of it
     accepted_by : (t b : ℕ) (x : BoxOf t b) (k : ℕ) (before after : Sender Slip) → slice_get x.thread.row k ≡ Some before
         → slice_get x.thread.back.slips k ≡ Some after
-        → HasAccepted (owed_to b (outcomes_in x.worked.handled.turns) k (taken (inbox_for b x.thread.back.receiver))) (sender_for b before) (sender_for b after)
+        → HasAccepted (owed_to b (outcomes_in x.worked.handled.turns) k (taken x.inbox)) (sender_for b before) (sender_for b after)
     accepted_by t b x k before after e f =
         x.worked.handled.told.each k (sender_for b before) (sender_for b after) (at_map (sender_for b) x.thread.row k before e)
         (at_map (sender_for b) x.thread.back.slips k after f)
 
     none_back : (t b : ℕ) (x : BoxOf t b) → any_gone x.thread.back.slips ≡ false
-    none_back t b x = (or_parts (any_gone x.thread.back.slips) (is_lost x.thread.back.receiver.gone) (sym x.thread.work.lost ∙ x.thread.sound_back)).0
+    none_back t b x = none_of_thread t x.thread
 
     abbrev took : ℕ → List Note
     took t = took_by (slice_get columns.inboxes t)
@@ -249,13 +258,13 @@ module _ {S : Type 0} (view : SpoolsView S) where
           capacity = x.thread.work.channel.2;
           lanes = x.thread.work.channel.1;
           took = sym (ap took_by x.thread.inbox_is);
-          closed = was_closed _ _ _ _ _ _ x.worked x.thread.sound_back;
+          closed = sym x.own.gone ∙ was_closed _ _ _ _ _ _ x.worked x.thread.sound_back;
         } in
         subst (λ new. Took before new) is (subst (λ old. Took old x.thread.back.receiver) was made)
 
     abbrev done_of : (b : ℕ) → BoxOf (worker_thread b) b → BoxDone
     done_of b x = record {
-      work = record { taken = taken (inbox_for b x.thread.back.receiver); turns = x.worked.handled.turns };
+      work = record { taken = taken x.inbox; turns = x.worked.handled.turns };
       deeds = x.worked.turns.deeds;
     }
 
@@ -302,7 +311,7 @@ module _ {S : Type 0} (view : SpoolsView S) where
 
     took_for : (b : ℕ) (x : BoxOf (worker_thread b) b) → of_one for_box b (took (worker_thread b)) ≡ (done_of b x).work.taken
     took_for b x =
-        ap (λ i. of_one for_box b (took_by i)) x.thread.inbox_is ∙ sym (messages_copies (of_one for_box b (taken x.thread.back.receiver)))
+        ap (λ i. of_one for_box b (took_by i)) x.thread.inbox_is ∙ sym x.own.took
 
     gave_only : (t k : ℕ) → t < length given.inboxes → k < length channels → AllByRecursion (λ (slip : Slip). slip.worker < n) (gave t k)
     gave_only t k below within =
@@ -372,8 +381,8 @@ module _ {S : Type 0} (view : SpoolsView S) where
           let x = facts b below in
           let th = x.box.thread in
           let InTime : BoxDone → Type 0 =
-          λ d. AreInTime worker_sorts d.deeds (ends_for b (record { senders = th.row; inbox = th.inbox }))
-          (ends_for b (record { senders = th.back.slips; inbox = th.back.receiver })) in
+          λ d. AreInTime worker_sorts d.deeds (record { senders = senders_for b th.row; inbox = roomier given.room (inbox_for b th.inbox) })
+          (record { senders = senders_for b th.back.slips; inbox = x.box.inbox }) in
           let are_so : InTime (done_of b x.box) = x.box.worked.turns.in_time in
           record {
             old = record { senders = th.row; inbox = th.inbox };
@@ -382,6 +391,8 @@ module _ {S : Type 0} (view : SpoolsView S) where
             row_is = th.row_is;
             inbox_was = th.inbox_was;
             inbox_is = th.inbox_is;
+            share = x.box.inbox;
+            own = x.box.own;
             are = subst InTime x.is are_so;
           };
     }

@@ -131,7 +131,7 @@ module _ {S : Type 0} where
   -- a worker thread may run
   pub record IsThreadReady (task : ThreadTask S) : Type 0 where
     pub fresh : AreFresh task.slips task.receiver
-    pub open : task.receiver.gone ≡ None
+    pub not_gone : task.receiver.gone ≡ None
     pub lanes : length task.slips ≡ task.receiver.lanes
     pub thread : HaveNumber task.thread task.slips
 

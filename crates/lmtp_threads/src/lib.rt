@@ -5,6 +5,7 @@
 //! workers; a crew never knows what its tasks do, or a grid what its channels carry.
 #![tactic(auto)]
 
+mod beside;
 mod brought_back;
 mod by_thread;
 mod channels;
@@ -13,19 +14,18 @@ mod crew;
 mod grid;
 mod lanes;
 mod quotas;
-mod room_beside;
 mod shared;
 mod tally;
 mod watched;
 mod worker_job;
 mod workers;
 
+pub use beside::{WAITING_ROOM, room_beside};
 pub use brought_back::{WorkerColumns, WorkerReports};
 pub use channels::{Closing, open_channels, settle_all};
 pub use columns::Columns;
 pub use crew::{Crew, Refused, Task};
 pub use lanes::{LaneColumns, LaneJob, Lanes};
-pub use room_beside::{WAITING_ROOM, room_beside};
 pub use shared::Shared;
 pub use tally::Tally;
 pub use watched::Watched;

@@ -110,7 +110,8 @@ where
     G: Gate + Drop + Send + 'static,
 {
     /// A worker thread for each of the receivers, with its row of senders of slips. Mailbox b, of which these are the
-    /// spool, the gate and the quota, is one of thread b mod 256.
+    /// spool, the gate and the quota, is one of thread b mod 256. So many copies may wait beside the channel of a thread
+    /// that has several mailboxes.
     pub fn new<C: Drop>(
         shared: &Shared<N, C>,
         receivers: Vec<Receiver<N>>,
@@ -118,19 +119,20 @@ where
         spools: Vec<Watched<S, T>>,
         gates: Vec<G>,
         quotas: Vec<Option<u64>>,
+        room: usize,
     ) -> Result<Workers<N, S, T, G>, AllocError>
         requires few { vec_len spools < 2 ^ 32 }
         requires threads { vec_len receivers ≡ threads_for (vec_len spools) }
         requires rows { vec_len rows ≡ vec_len receivers }
         requires gates { vec_len gates ≡ vec_len spools }
-        ensures { IfOk result (λ workers. workers ≡ thread_tasks (share_of (arc_value shared.now.site) quotas.items) 0
-            receivers.items (lists rows.items) spools.items) }
+        ensures { IfOk result (λ workers. workers ≡ thread_tasks (share_of (arc_value shared.now.site) quotas.items) room
+            0 receivers.items (lists rows.items) spools.items) }
     {
         let count = spools.len();
         let threads = receivers.len();
         let boxes = boxes_by_thread(shared.alloc, spools, gates, threads)?;
         let quotas = Arc::new(shared.alloc, Quotas::new(quotas))?;
-        let jobs = worker_jobs(shared, receivers, rows, boxes, &quotas)?;
+        let jobs = worker_jobs(shared, receivers, rows, boxes, &quotas, room)?;
         Ok(Workers {
             crew: Crew::with_capacity(shared.alloc, jobs.len())?,
             threads: Columns::with_capacity(shared.alloc, jobs.len())?,

@@ -12,7 +12,7 @@ invariant-loop-receiver g l = record {
   count : l.thread + into_iter_len l.receiver-iterator ≡ vec_len l.fn.receivers;
   with_rows : into_iter_len l.rows ≡ into_iter_len l.receiver-iterator;
   with_boxes : into_iter_len l.boxes ≡ into_iter_len l.receiver-iterator;
-  whole : vec_items l.jobs ++ tasks_with (share_of (arc_value l.fn.shared.site) (arc_value l.fn.quotas)) l.thread (into_iter_items l.receiver-iterator)
+  whole : vec_items l.jobs ++ tasks_with (share_of (arc_value l.fn.shared.site) (arc_value l.fn.quotas)) l.fn.room l.thread (into_iter_items l.receiver-iterator)
       (lists (into_iter_items l.rows)) (lists (into_iter_items l.boxes))
-      ≡ tasks_with (share_of (arc_value l.fn.shared.site) (arc_value l.fn.quotas)) 0 (vec_items l.fn.receivers) (lists (vec_items l.fn.rows)) (lists (vec_items l.fn.boxes));
+      ≡ tasks_with (share_of (arc_value l.fn.shared.site) (arc_value l.fn.quotas)) l.fn.room 0 (vec_items l.fn.receivers) (lists (vec_items l.fn.rows)) (lists (vec_items l.fn.boxes));
 }

@@ -23,25 +23,25 @@ module _ (g : _) (c : In_ok-jobs g) where
   quotas_are = c.in_ok-quotas.ensures.ok ∙ c.new.ensures
 
   jobs_are : vec_items c.in_ok-jobs.jobs
-      ≡ thread_tasks (share_of (arc_value c.args.shared.now.site) (vec_items c.args.quotas)) 0 (vec_items c.args.receivers) (lists (vec_items c.args.rows)) (vec_items c.args.spools)
+      ≡ thread_tasks (share_of (arc_value c.args.shared.now.site) (vec_items c.args.quotas)) c.args.room 0 (vec_items c.args.receivers) (lists (vec_items c.args.rows)) (vec_items c.args.spools)
   jobs_are =
       c.in_ok-jobs.ensures
-      ∙ ap (λ quotas. tasks_with (share_of (arc_value c.args.shared.now.site) quotas) 0 (vec_items c.args.receivers) (lists (vec_items c.args.rows))
+      ∙ ap (λ quotas. tasks_with (share_of (arc_value c.args.shared.now.site) quotas) c.args.room 0 (vec_items c.args.receivers) (lists (vec_items c.args.rows))
       (lists (vec_items c.in_ok-boxes.boxes))) quotas_are
-      ∙ jobs_same (share_of (arc_value c.args.shared.now.site) (vec_items c.args.quotas)) c.len-threads.result (vec_items c.args.receivers) (lists (vec_items c.args.rows))
+      ∙ jobs_same (share_of (arc_value c.args.shared.now.site) (vec_items c.args.quotas)) c.args.room c.len-threads.result (vec_items c.args.receivers) (lists (vec_items c.args.rows))
       (lists (vec_items c.in_ok-boxes.boxes)) (vec_items c.args.spools) c.in_ok-boxes.ensures (c.len-threads.ensures ∙ c.args.receivers.ok.0)
       (c.len-threads.ensures ∙ (c.args.receivers.ok.0 ∙ few))
 
   owners : AllByRecursion IsOwner (vec_items c.in_ok-jobs.jobs)
   owners =
-      subst (AllByRecursion IsOwner) (sym jobs_are) (each_owner (share_of (arc_value c.args.shared.now.site) (vec_items c.args.quotas)) 0 (vec_items c.args.receivers)
+      subst (AllByRecursion IsOwner) (sym jobs_are) (each_owner (share_of (arc_value c.args.shared.now.site) (vec_items c.args.quotas)) c.args.room 0 (vec_items c.args.receivers)
       (lists (vec_items c.args.rows)) (vec_items c.args.spools) (omega (arith, few)))
 
   counted : AreTasksOf c.len-count.result (vec_items c.in_ok-jobs.jobs)
   counted =
       let many : length (vec_items c.args.spools) ≡ c.len-count.result = sym (c.len-count.ensures ∙ c.args.spools.ok.0) in
       subst (λ n. AreTasksOf n (vec_items c.in_ok-jobs.jobs)) many (subst (AreTasksOf (length (vec_items c.args.spools))) (sym jobs_are)
-      (tasks_of (share_of (arc_value c.args.shared.now.site) (vec_items c.args.quotas)) (vec_items c.args.receivers) (lists (vec_items c.args.rows)) (vec_items c.args.spools)
+      (tasks_of (share_of (arc_value c.args.shared.now.site) (vec_items c.args.quotas)) c.args.room (vec_items c.args.receivers) (lists (vec_items c.args.rows)) (vec_items c.args.spools)
       rows few))
 
 pub invariant_of-result : goal.invariant_of-result
