@@ -118,10 +118,13 @@ HaveWorkedAlone room site manner starts old now lost boxes = (i : ℕ) (kept : K
 module _ (room : ℕ) (site : Site) (manner : Manner) (starts : ℕ → Start) (old now : Ends Slip Note) (lost : Bool) (boxes : List KeptState) where
   pub alone_in_order : HaveWorked site manner starts old now lost boxes → HaveWorkedAlone room site manner starts old now lost boxes
   alone_in_order each i kept is =
-      let b = kept.number in
-      (roomier room (inbox_for b now.inbox), own_channel room b now.inbox, worked_with_room room (setting_by site (starts i).quota b) manner
-          (inbox_for b old.inbox) (inbox_for b now.inbox) (idle (senders_for b old.senders) (starts i).spool (starts i).told)
-          (worker_lost (senders_for b now.senders) kept lost) (each i kept is))
+      let b = kept.number in (
+        roomier room (inbox_for b now.inbox),
+        own_channel room b now.inbox,
+        worked_with_room room (setting_by site (starts i).quota b) manner
+            (inbox_for b old.inbox) (inbox_for b now.inbox) (idle (senders_for b old.senders) (starts i).spool (starts i).told)
+            (worker_lost (senders_for b now.senders) kept lost) (each i kept is),
+      )
 
   pub alone_patiently : HaveWorkedPatiently room site manner starts old now lost boxes → HaveWorkedAlone room site manner starts old now lost boxes
   alone_patiently each i kept is =

@@ -206,14 +206,7 @@ pub fn worker_jobs<N: DepotName, S: Spool + Drop, T: TurnObserver, G: Gate + Dro
             unreachable!()
         };
         let base = WorkerBase::new(shared, quotas, room)?;
-        jobs.push(WorkerJob::new(
-            shared.alloc,
-            base,
-            thread,
-            receiver,
-            slips,
-            own,
-        )?)?;
+        jobs.push(WorkerJob::new(shared.alloc, base, thread, receiver, slips, own)?)?;
         thread += 1;
     }
     Ok(jobs)
