@@ -1,4 +1,4 @@
-use Rattle.std.proofs.Common.{arith, ◌≡◌, ◌<◌, ℕ, List, Option, sym, subst, vec_items, vec_capacity}
+use Rattle.std.proofs.Common.{arith, ◌≡◌, ◌<◌, ℕ, List, Option, None, sym, subst, vec_items, vec_capacity}
 use Rattle.std.specs.Arc.{arc_value}
 use Rattle.mail_world.specs.declared.Note.{Note}
 use Rattle.mail_world.specs.declared.Slip.{Slip}
@@ -63,17 +63,26 @@ patient_run-requires-clause-numbered g c =
     (vec_items c.keep_all-kept.result) c.keep_all-kept.ensures (subst (λ t. IsOwner t) (sym c.self.view_is) c.requires.1)
     (subst (λ (t : ThreadTask _). HaveNumber t.thread t.slips) (sym c.self.view_is) c.requires.0.thread)
 
+pub patient_run-requires-clause-open : goal.patient_run-requires-clause-open
+patient_run-requires-clause-open g c = subst (λ (t : ThreadTask _). t.receiver.gone ≡ None) (sym c.self.view_is) c.requires.0.not_gone
+
+pub patient_run-requires-clause-none : goal.patient_run-requires-clause-none
+patient_run-requires-clause-none g c = c.self.invariant.1.empty
+
+pub patient_run-requires-clause-some : goal.patient_run-requires-clause-some
+patient_run-requires-clause-some g c = omega (arith, c.capacity.ensures, c.if-capacity-eq0.false)
+
 pub returns-then-capacity-eq0 : goal.returns-then-capacity-eq0
 returns-then-capacity-eq0 g c =
     let view = spools_view g.S.Spool.state g.S.Spool.MayFind g.S.Spool.MayRefuse g.T.TurnObserver.told in
     let me = c.self.inside in
-    let site = c.deref-3.result.now in
+    let site = c.deref-then-capacity-eq0-2.result.now in
     let back = thread_back c.thread_run.result in
     let says = c.thread_run.ensures in
     let old : Ends Slip Note = record { senders = vec_items me.slips; inbox = me.receiver } in
     let now : Ends Slip Note = record { senders = back.slips; inbox = back.receiver } in
     as_held view back me.base.room me.thread me.receiver (vec_items me.slips) (vec_items me.boxes) (arc_value me.base.site) site (arc_value me.base.quotas)
-    c.deref.result.now _ c.deref-3.ensures c.deref.ensures c.self.view_is
+    c.deref.result.now _ c.deref-then-capacity-eq0-2.ensures c.deref.ensures c.self.view_is
     (thread_work view c.deref.result.now site me.base.room me.thread me.receiver (vec_items me.slips) (vec_items me.boxes) (vec_items c.keep_all-kept.result)
     c.keep_all-kept.ensures back
     (λ none starts new. alone_in_order me.base.room site view.manner starts old now back.lost back.boxes (says.worked starts new))
@@ -83,14 +92,14 @@ pub returns-else-capacity-eq0 : goal.returns-else-capacity-eq0
 returns-else-capacity-eq0 g c =
     let view = spools_view g.S.Spool.state g.S.Spool.MayFind g.S.Spool.MayRefuse g.T.TurnObserver.told in
     let me = c.self.inside in
-    let site = c.deref-5.result.now in
+    let site = c.deref-else-capacity-eq0-2.result.now in
     let back = thread_back c.patient_run.result in
     let says = c.patient_run.ensures in
     let old : Ends Slip Note = record { senders = vec_items me.slips; inbox = me.receiver } in
     let now : Ends Slip Note = record { senders = back.slips; inbox = back.receiver } in
     let some : 0 < vec_capacity me.waits = omega (arith, c.capacity.ensures, c.if-capacity-eq0.false) in
     as_held view back me.base.room me.thread me.receiver (vec_items me.slips) (vec_items me.boxes) (arc_value me.base.site) site (arc_value me.base.quotas)
-    c.deref.result.now _ c.deref-5.ensures c.deref.ensures c.self.view_is
+    c.deref.result.now _ c.deref-else-capacity-eq0-2.ensures c.deref.ensures c.self.view_is
     (thread_work view c.deref.result.now site me.base.room me.thread me.receiver (vec_items me.slips) (vec_items me.boxes) (vec_items c.keep_all-kept.result)
     c.keep_all-kept.ensures back
     (λ none starts new. subst (λ room. HaveWorkedAlone room site view.manner starts old now back.lost back.boxes) (c.self.invariant.1.exact some)
