@@ -1,5 +1,5 @@
 -- A planned server's run, once its threads have ended: its channels may be closed and settled, and what it comes to.
-use Rattle.std.proofs.Common.{◌≡◌, ℕ, ◌<◌, false, List, length, sym, ap, ◌∙◌, subst, arith}
+use Rattle.std.proofs.Common.{◌≡◌, ℕ, ◌<◌, false, List, length, refl, sym, ap, ◌∙◌, subst, arith}
 use Rattle.std.specs.List.{AllZip}
 use Rattle.std.specs.Prelude.{flat_map, Result, Ok, Err, IfOk}
 use Rattle.mail_world.specs.declared.Note.{Note}
@@ -10,6 +10,7 @@ use Rattle.mail_post.specs.Channel.{Channel, Sender, Sent}
 use Rattle.mail_post.specs.WorkerThreads.{worker_thread, threads_for}
 use Rattle.lmtp_lane.specs.LaneExchange.{for_thread}
 use Rattle.lmtp_lane.specs.Visits.{conversations_of}
+use Rattle.lmtp_threads.specs.OwnChannel.{room_beside}
 use Rattle.lmtp_threads.specs.Works.{VisitsView, SpoolsView}
 use Rattle.lmtp_house.specs.Handed.{HandedIn}
 use Rattle.lmtp_house.specs.House.{HasRun}
@@ -53,7 +54,13 @@ module _ {V S C : Type 0} (May : C → ℕ → Type 0) (view : VisitsView V) (sp
   lanes_given = record { visits = handed.visits; rows = p.mail_rows; inboxes = p.slips }
 
   abbrev boxes_given : WorkersGiven S
-  boxes_given = record { inboxes = p.mail; rows = p.slip_rows; spools = handed.spools; quotas = handed.quotas }
+  boxes_given = record {
+    room = room_beside (length handed.spools) (length handed.visits);
+    inboxes = p.mail;
+    rows = p.slip_rows;
+    spools = handed.spools;
+    quotas = handed.quotas;
+  }
 
   lanes_ran : HaveServed site (May clock) view (channels_of p.mail) lanes_given lanes
   lanes_ran = served site clock (channels_of p.mail) lanes_given p.lanes_are p.slips_new.counts p.mail_new.rows_are
@@ -122,4 +129,4 @@ module _ {V S C : Type 0} (May : C → ℕ → Type 0) (view : VisitsView V) (sp
           })
       run_is blocks slots mail_times slips_times mail_settled slips_settled =
           has_run site (May clock) view spools lanes_given lanes boxes_given boxes mail_closed slips_closed p.mail_new p.slips_new lanes_ran boxes_ran
-          mail_shut slips_shut mail_times slips_times mail_settled slips_settled p.each_box p.some_boxes blocks slots
+          mail_shut slips_shut mail_times slips_times mail_settled slips_settled refl p.each_box p.some_boxes blocks slots

@@ -9,6 +9,7 @@ use Rattle.mail_world.specs.declared.Slip.{Slip}
 use Rattle.mail_post.specs.Channel.{Sender, Inbox, taken, new_inbox}
 use Rattle.mail_post.specs.WorkerThreads.{threads_for}
 use Rattle.box_worker.specs.Shares.{AreFresh}
+use Rattle.lmtp_threads.specs.OwnChannel.{room_beside}
 use Rattle.lmtp_threads.specs.Works.{share_of}
 use Rattle.lmtp_threads.specs.Channels.{Shape, channels_of, lane_at, AreRows, AreNewChannels, MayClose}
 use Rattle.lmtp_threads.specs.Tasks.{lane_tasks, thread_tasks, IsLaneReady, IsThreadReady}
@@ -86,12 +87,14 @@ module _ {V S C : Type 0} (out : V → Bool) (plan : PlanState V S C) (may : May
   threads_ready =
       let p = may.planned in
       let lanes : ℕ = length may.handed.visits in
+      let room : ℕ = room_beside (length may.handed.spools) lanes in
       subst (λ l. AllByRecursion IsThreadReady l) (sym p.workers_are)
-      (each_at IsThreadReady (thread_tasks (share_of may.site may.handed.quotas) 0 p.mail p.slip_rows may.handed.spools) (λ k task e.
-      let t = thread_task_at (share_of may.site may.handed.quotas) 0 p.mail p.slip_rows may.handed.spools k task e in
+      (each_at IsThreadReady (thread_tasks (share_of may.site may.handed.quotas) room 0 p.mail p.slip_rows may.handed.spools) (λ k task e.
+      let t = thread_task_at (share_of may.site may.handed.quotas) room 0 p.mail p.slip_rows may.handed.spools k task e in
       let fresh = p.mail_new.inboxes_are k t.inbox t.inbox_is in
       subst (λ j. IsThreadReady j) (sym t.is) (record {
         fresh = row_fresh threads lanes p.slip_rows p.slips p.slips_new k t.row t.row_is t.inbox fresh;
+        not_gone = ap (λ (i : Inbox _). i.gone) fresh;
         lanes = row_width threads lanes p.slip_rows p.slips p.slips_new k t.row t.row_is ∙ sym (ap (λ (i : Inbox _). i.lanes) fresh);
         thread = λ b sender f. row_lane threads lanes p.slip_rows p.slips p.slips_new k t.row t.row_is b sender f ∙ omega arith;
       })))

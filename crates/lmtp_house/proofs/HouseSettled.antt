@@ -1,5 +1,5 @@
 -- What was settled of the channels, and the run that follows from it.
-use Rattle.std.proofs.Common.{◌≡◌, ℕ, ◌<◌, List, length, refl, sym, ap, ◌∙◌, arith, Some}
+use Rattle.std.proofs.Common.{◌≡◌, ℕ, ◌<◌, ◌+◌, List, length, refl, sym, ap, ◌∙◌, subst, arith, Some}
 use Rattle.std.specs.Prelude.{flat_map, slice_get}
 use Rattle.std.specs.List.{AllZip, AllByRecursion}
 use Rattle.std.proofs.lemmas.List.{length-map}
@@ -19,6 +19,7 @@ use Rattle.mail_runs.specs.Timed.{times, those, gives_to, tells_to}
 use Rattle.box_worker.specs.Told.{owed_to}
 use Rattle.lmtp_lane.specs.LaneExchange.{for_thread}
 use Rattle.lmtp_lane.specs.Visits.{conversations_of}
+use Rattle.lmtp_threads.specs.OwnChannel.{room_beside}
 use Rattle.lmtp_threads.specs.Works.{VisitsView, SpoolsView}
 use Rattle.lmtp_house.specs.Handed.{HandedIn, HandedBack, handed_in}
 use Rattle.lmtp_house.specs.House.{HasRun}
@@ -67,6 +68,7 @@ module _ {V S : Type 0} {capacity room : ℕ} (site : Site) (May : ℕ → Type 
     (mail_times : HaveTimes new_lanes.rows mail_closed) (slips_times : HaveTimes new_boxes.rows slips_closed)
     (mail_settled : AllZip (IsSettled (λ (n : Note). n.txn.lane)) new_boxes.inboxes mail_closed)
     (slips_settled : AllZip (IsSettled (λ (s : Slip). worker_thread s.worker)) new_lanes.inboxes slips_closed)
+    (room_is : old_boxes.room ≡ room_beside (length old_boxes.spools) (length old_lanes.visits))
     (each_box : length old_boxes.spools ≡ length site.boxes) (some_boxes : 0 < length old_boxes.spools) (blocks slots : ℕ) where
   abbrev owed_by : ℕ → ℕ → List Note
   owed_by k b = due site k b (conversations_of (lanes.works k).visits)
@@ -74,10 +76,15 @@ module _ {V S : Type 0} {capacity room : ℕ} (site : Site) (May : ℕ → Type 
   abbrev owed_slips : ℕ → ℕ → List Slip
   owed_slips b k = owed_to b (outcomes_in (boxes.works b).turns) k (boxes.works b).taken
 
-  deeds_told : HaveDeeds site (length old_lanes.visits) (length old_boxes.spools) capacity lanes.works boxes.works
+  -- how many copies may wait for a mailbox
+  abbrev waiting : ℕ
+  waiting = capacity + room_beside (length old_boxes.spools) (length old_lanes.visits)
+
+  deeds_told : HaveDeeds site (length old_lanes.visits) (length old_boxes.spools) waiting lanes.works boxes.works
   deeds_told =
-      have_deeds site May view spools old_lanes new_lanes old_boxes new_boxes mail_closed slips_closed mail_new slips_new lanes boxes
-      mail_shut slips_shut mail_times slips_times mail_settled slips_settled
+      subst (λ more. HaveDeeds site (length old_lanes.visits) (length old_boxes.spools) (capacity + more) lanes.works boxes.works) room_is
+      (have_deeds site May view spools old_lanes new_lanes old_boxes new_boxes mail_closed slips_closed mail_new slips_new lanes boxes
+      mail_shut slips_shut mail_times slips_times mail_settled slips_settled)
 
   -- what is known of mailbox b
   record BoxKnown (b : ℕ) : Type 0 where
@@ -87,7 +94,7 @@ module _ {V S : Type 0} {capacity room : ℕ} (site : Site) (May : ℕ → Type 
   box_known : (b : ℕ) → b < length old_boxes.spools → BoxKnown b
   box_known b below = record {
     each = λ k low. deeds_told.took k b low below ∙ sym (due_is site k b (conversations_of (lanes.works k).visits));
-    only = taken_below (λ (n : Note). n.txn.lane) (length old_lanes.visits) capacity
+    only = taken_below (λ (n : Note). n.txn.lane) (length old_lanes.visits) waiting
         (λ k. copies_owed k b (transactions site 0 (conversations_of (lanes.works k).visits)))
         (λ k. times (those (gives_to b) (deeds_told.lane_deeds k))) (boxes.works b).taken (times (those is_taken (deeds_told.worker_deeds b)))
         (deeds_told.mail b below);

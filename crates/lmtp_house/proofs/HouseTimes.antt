@@ -1,5 +1,5 @@
 -- The deeds of lanes and of mailboxes' workers, once all threads have ended and their channels are settled.
-use Rattle.std.proofs.Common.{◌≡◌, ◌==◌, ℕ, ◌<◌, List, [], ◌∷◌, ◌++◌, length, map, get_or, Some, refl, sym, ap, ◌∙◌, subst, arith}
+use Rattle.std.proofs.Common.{◌≡◌, ◌==◌, ℕ, ◌<◌, ◌+◌, List, [], ◌∷◌, ◌++◌, length, map, get_or, Some, refl, sym, ap, ◌∙◌, subst, arith}
 use Rattle.std.specs.Prelude.{flat_map, slice_get}
 use Rattle.std.specs.List.{AllZip}
 use Rattle.std.proofs.lemmas.List.{length-map}
@@ -14,10 +14,11 @@ use Rattle.mail_runs.specs.Timed.{TimedDeed, times, those, gives_to, tells_to}
 use Rattle.mail_runs.proofs.ByTime.{filter_twice}
 use Rattle.mail_post.specs.Channel.{Sender, Inbox, Sent, taken}
 use Rattle.mail_post.specs.declared.channel.Gone.TheVariants.{Closed}
-use Rattle.mail_post.specs.InTime.{Sorts}
+use Rattle.mail_post.specs.InTime.{Ends, Sorts}
 use Rattle.mail_post.specs.Parcels.{of}
 use Rattle.mail_post.specs.WorkerThreads.{worker_thread, threads_for}
-use Rattle.box_worker.specs.Shares.{for_box, by_box, sender_for, ends_for}
+use Rattle.box_worker.specs.Shares.{for_box, by_box, sender_for, senders_for, inbox_for}
+use Rattle.box_worker.specs.PutOff.{roomier}
 use Rattle.box_worker.specs.Told.{owed_to}
 use Rattle.box_worker.specs.TurnTimes.{worker_sorts}
 use Rattle.box_worker.proofs.Gives.{gave_within}
@@ -27,6 +28,7 @@ use Rattle.lmtp_lane.specs.Visits.{conversations_of}
 use Rattle.lmtp_lane.proofs.WorkerThreads.{thread_within}
 use Rattle.lmtp_threads.specs.Works.{VisitsView, SpoolsView}
 use Rattle.lmtp_threads.specs.Channels.{channels_of, lane_at, AreRows, AreNewChannels, AreClosedWith, HaveTimes, IsSettled}
+use Rattle.lmtp_threads.specs.OwnChannel.{IsOwnChannel}
 use Rattle.lmtp_threads.proofs.ChannelRows.{at, at_map, same_at, source}
 use Rattle.lmtp_threads.specs.Reports.{LaneColumns, WorkerColumns}
 use Rattle.lmtp_threads.specs.Tasks.{LanesGiven, WorkersGiven, IsInTime, IsBoxInTime, HaveServed, HaveWorked}
@@ -54,22 +56,27 @@ no_times : (b : ℕ) (slips : List Slip) → times_of by_box b slips [] ≡ []
 no_times b [] = refl
 no_times b (slip ∷ slips) = refl
 
+-- a mailbox's ends, of its thread's: its own receiver beside its senders
+abbrev ends_with : ℕ → List (Sender Slip) → Inbox Note → Ends Slip Note
+ends_with b senders inbox = record { senders = senders_for b senders; inbox = inbox }
+
 -- the ends of a mailbox, of its thread's
-module _ {capacity room : ℕ} (n m count : ℕ) (rows rows' : List (List (Sender Slip)))
+module _ {capacity slip_room : ℕ} (room n m count : ℕ) (rows rows' : List (List (Sender Slip)))
     (others : List (List (Sender Note))) (ins : List (Inbox Slip)) (inboxes inboxes' : List (Inbox Note))
-    (given : AreNewChannels capacity n count rows ins) (heard : AreNewChannels room m n others inboxes) (b : ℕ) (deeds : List TimedDeed)
-    (d : IsBoxInTime b rows rows' inboxes inboxes' deeds) where
-  box_done : HasDoneAll worker_sorts deeds (ends_for b d.new)
+    (given : AreNewChannels slip_room n count rows ins) (heard : AreNewChannels capacity m n others inboxes) (b : ℕ) (deeds : List TimedDeed)
+    (d : IsBoxInTime room b rows rows' inboxes inboxes' deeds) where
+  box_done : HasDoneAll worker_sorts deeds (ends_with b d.new.senders d.share)
   box_done =
       let t : ℕ = worker_thread b in
-      let fresh : AreFresh (ends_for b d.old) = record {
+      let before : Ends Slip Note = ends_with b d.old.senders (roomier room (inbox_for b d.old.inbox)) in
+      let fresh : AreFresh before = record {
         senders = λ k sender is.
             let s = source (sender_for b) d.old.senders k sender is in
             ap (λ (x : Sender Slip). x.sent_at) s.gives ∙ ap (times_of by_box b s.value.sent) (given.timeless t k d.old.senders s.value d.row_was s.is)
             ∙ no_times b s.value.sent;
         inbox = ap (λ (i : Inbox Note). times_of for_box b (taken i) i.took_at) (heard.inboxes_are t d.old.inbox d.inbox_was);
       } in
-      has_ended worker_sorts deeds (ends_for b d.old) (ends_for b d.new) fresh d.are
+      has_ended worker_sorts deeds before (ends_with b d.new.senders d.share) fresh d.are
 
 module _ {V S : Type 0} {capacity room : ℕ} (site : Site) (May : ℕ → Type 0) (view : VisitsView V) (spools : SpoolsView S)
     (old_lanes : LanesGiven V) (new_lanes : LaneColumns V) (old_boxes : WorkersGiven S) (new_boxes : WorkerColumns S)
@@ -104,9 +111,9 @@ module _ {V S : Type 0} {capacity room : ℕ} (site : Site) (May : ℕ → Type 
       ended n_lanes threads threads old_lanes.rows new_lanes.rows old_boxes.rows old_boxes.inboxes old_lanes.inboxes new_lanes.inboxes
       mail_new slips_new lane_sorts k (lanes.deeds k) (lanes.in_time k below)
 
-  box_ended : (b : ℕ) (below : b < n_boxes) → HasDoneAll worker_sorts (boxes.deeds b) (ends_for b (boxes.in_time b below).new)
+  box_ended : (b : ℕ) (below : b < n_boxes) → HasDoneAll worker_sorts (boxes.deeds b) (ends_with b (boxes.in_time b below).new.senders (boxes.in_time b below).share)
   box_ended b below =
-      box_done threads n_lanes n_lanes old_boxes.rows new_boxes.rows old_lanes.rows old_lanes.inboxes old_boxes.inboxes new_boxes.inboxes
+      box_done old_boxes.room threads n_lanes n_lanes old_boxes.rows new_boxes.rows old_lanes.rows old_lanes.inboxes old_boxes.inboxes new_boxes.inboxes
       slips_new mail_new b (boxes.deeds b) (boxes.in_time b below)
 
   -- ---- copies: each thread's channel, and of it each mailbox's
@@ -153,14 +160,21 @@ module _ {V S : Type 0} {capacity room : ℕ} (site : Site) (May : ℕ → Type 
     IsThreadMail = IsSettledAs (λ note. note.txn.lane) n_lanes capacity (λ k. for_thread t (notes k)) (λ k. times (those (gives_to_thread t) (lanes.deeds k)))
         (boxes.took t) (took_times t)
 
-    thread_mail : (c : IsThreadMail) × (c.inbox.gone ≡ Some Closed)
+    thread_mail : (c : IsThreadMail) × (c.inbox.gone ≡ Some Closed) × (slice_get new_boxes.inboxes t ≡ Some c.inbox)
     unfolding mail_are
     thread_mail =
         let low : t < threads = thread_within b n_boxes box in
         let c = settled_as (λ note. note.txn.lane) n_lanes threads (λ j. capacity) (λ k j. for_thread j (notes k))
         (λ k j. times (those (gives_to_thread j) (lanes.deeds k))) boxes.took took_times mail_are t low in
         let old = at old_boxes.inboxes t (omega (arith, mail_new.counts, low)) in
-        (c.0, (boxes.took_all t old.value c.0.inbox old.is c.1).closed)
+        (c.0, (boxes.took_all t old.value c.0.inbox old.is c.1).closed, c.1)
+
+    -- its receiver is what its thread's receiver was to it
+    own_channel : IsOwnChannel old_boxes.room b thread_mail.0.inbox (boxes.in_time b box).share
+    own_channel =
+        let d = boxes.in_time b box in
+        subst (λ inbox. IsOwnChannel old_boxes.room b inbox d.share)
+        (same_at new_boxes.inboxes t d.new.inbox thread_mail.0.inbox d.inbox_is thread_mail.2) d.own
 
     -- its worker took all that the lanes owe it
     box_took : (k : ℕ) → k < n_lanes → of_lane k (boxes.works b).taken ≡ copies_owed k b (sent_by k)
@@ -177,21 +191,15 @@ module _ {V S : Type 0} {capacity room : ℕ} (site : Site) (May : ℕ → Type 
         ap (λ l. times_of for_box b (for_thread t l) (times (those (gives_to_thread t) (lanes.deeds k)))) (sym (lanes.did k low).gave)
         ∙ gave_within b (gives_to_thread t) (record { gave = λ note. refl; took = λ note. refl; told = λ slip. refl; heard = λ slip. refl }) (lanes.deeds k)
 
-    box_took_at : times_of for_box b (boxes.took t) (took_times t) ≡ times (those is_taken (boxes.deeds b))
-    box_took_at =
-        let d = boxes.in_time b box in
-        let all = boxes.took_all t d.old.inbox d.new.inbox d.inbox_was d.inbox_is in
-        (λ i. times_of for_box b (sym all.took i) (sym (took_times_are t d.new.inbox d.inbox_is) i)) ∙ (box_ended b box).took
-
-    box_mail : IsSettledAs (λ note. note.txn.lane) n_lanes capacity (λ k. copies_owed k b (sent_by k)) (λ k. times (those (gives_to b) (lanes.deeds k)))
+    box_mail : IsSettledAs (λ note. note.txn.lane) n_lanes (capacity + old_boxes.room) (λ k. copies_owed k b (sent_by k)) (λ k. times (those (gives_to b) (lanes.deeds k)))
         (boxes.works b).taken (times (those is_taken (boxes.deeds b)))
     box_mail =
-        said_otherwise (λ note. note.txn.lane) n_lanes capacity (λ k. of for_box b (for_thread t (notes k))) (λ k. copies_owed k b (sent_by k))
+        said_otherwise (λ note. note.txn.lane) n_lanes (capacity + old_boxes.room) (λ k. of for_box b (for_thread t (notes k))) (λ k. copies_owed k b (sent_by k))
         (λ k. times_of for_box b (for_thread t (notes k)) (times (those (gives_to_thread t) (lanes.deeds k)))) (λ k. times (those (gives_to b) (lanes.deeds k)))
-        (of for_box b (boxes.took t)) (boxes.works b).taken (times_of for_box b (boxes.took t) (took_times t)) (times (those is_taken (boxes.deeds b)))
-        (λ k low. of_within for_box b (notes k)) box_gave_at (boxes.took_for b box) box_took_at
-        (mail_for b n_lanes capacity (λ k. for_thread t (notes k)) (λ k. times (those (gives_to_thread t) (lanes.deeds k))) (boxes.took t) (took_times t)
-        thread_mail.0 thread_mail.1)
+        (of for_box b (boxes.took t)) (boxes.works b).taken (boxes.in_time b box).share.took_at (times (those is_taken (boxes.deeds b)))
+        (λ k low. of_within for_box b (notes k)) box_gave_at (boxes.took_for b box) (box_ended b box).took
+        (mail_for old_boxes.room b n_lanes capacity (λ k. for_thread t (notes k)) (λ k. times (those (gives_to_thread t) (lanes.deeds k))) (boxes.took t) (took_times t)
+        thread_mail.0 thread_mail.1 (boxes.in_time b box).share own_channel)
 
   -- ---- slips: each lane's channel, by threads and by mailboxes
   abbrev told_times : ℕ → ℕ → List ℕ
@@ -264,7 +272,7 @@ module _ {V S : Type 0} {capacity room : ℕ} (site : Site) (May : ℕ → Type 
         (slips_by n_boxes threads (slip_room k) (λ t. boxes.gave t k) (λ t. told_times t k) (lanes.works k).heard (times (those is_heard (lanes.deeds k))) c.0
         (λ b box. thread_within b n_boxes box) (λ t below. boxes.gave_only t k (omega (arith, mail_new.counts, below)) lane_channel))
 
-  pub have_deeds : HaveDeeds site n_lanes n_boxes capacity lanes.works boxes.works
+  pub have_deeds : HaveDeeds site n_lanes n_boxes (capacity + old_boxes.room) lanes.works boxes.works
   have_deeds = record {
     lane_deeds = lanes.deeds;
     worker_deeds = boxes.deeds;

@@ -20,7 +20,7 @@ use Rattle.box_worker.specs.Told.{owed_to}
 use Rattle.lmtp_lane.specs.Visits.{conversations_of}
 use Rattle.lmtp_threads.specs.Works.{SpoolsView, LaneWork, BoxWork}
 use Rattle.lmtp_house.specs.Handed.{HandedIn, HandedBack}
-use Rattle.lmtp_house.specs.RunOfModel.{courses_of, server_of, threads_of, IsRunOfModel}
+use Rattle.lmtp_house.specs.RunOfModel.{capacity_of, courses_of, server_of, threads_of, IsRunOfModel}
 use Rattle.lmtp_house.proofs.RunOfModel.{HaveExchanged, is_course}
 use Rattle.lmtp_house.proofs.Bridge.{IsSettledAs, AreJoined, joined_in_order}
 
@@ -45,7 +45,7 @@ pub record HaveDeeds (site : Site) (n_lanes n_boxes capacity : ℕ) (lanes : ℕ
 module _ {V S : Type 0} (site : Site) (spools : SpoolsView S) (lanes : ℕ → LaneWork) (boxes : ℕ → BoxWork)
     (old : HandedIn V S) (new : HandedBack V S) (h : HaveExchanged site spools lanes boxes old new)
     (each_box : length old.spools ≡ length site.boxes) (some_boxes : 0 < length old.spools)
-    (d : HaveDeeds site (length old.visits) (length old.spools) old.capacity lanes boxes) where
+    (d : HaveDeeds site (length old.visits) (length old.spools) (capacity_of old) lanes boxes) where
   abbrev server : Server
   server = server_of site old
 
@@ -68,7 +68,7 @@ module _ {V S : Type 0} (site : Site) (spools : SpoolsView S) (lanes : ℕ → L
     heard_only = h.told_only;
   }
 
-  joined : AreJoined RECIPIENT_LIMIT old.capacity server threads
+  joined : AreJoined RECIPIENT_LIMIT (capacity_of old) server threads
   joined = record {
     came_out = came_out;
     lane_deeds = d.lane_deeds;
@@ -83,6 +83,6 @@ module _ {V S : Type 0} (site : Site) (spools : SpoolsView S) (lanes : ℕ → L
 
   pub all_lanes_run : IsRunOfModel site spools.state lanes boxes old
   all_lanes_run =
-      let order = joined_in_order RECIPIENT_LIMIT old.capacity server threads joined in
-      let run = an_orderly_history_plays RECIPIENT_LIMIT old.capacity server threads order.0 order.1 in
+      let order = joined_in_order RECIPIENT_LIMIT (capacity_of old) server threads joined in
+      let run = an_orderly_history_plays RECIPIENT_LIMIT (capacity_of old) server threads order.0 order.1 in
       record { is = run; offered = λ k b low below. run.is.offered k b below ∙ h.owed k b low below }

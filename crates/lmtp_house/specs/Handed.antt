@@ -2,8 +2,8 @@
 use Rattle.std.specs.Prelude.{ℕ, List, Option}
 use Rattle.lmtp_threads.specs.declared.tally.Tally.{Tally}
 
--- what is handed in: clients by lane, spools by mailbox, both with their observers, how many copies may wait for a
--- worker thread, and by mailbox its quota, if it has one
+-- what is handed in: clients by lane, spools by mailbox, both with their observers, how many copies may wait in a
+-- worker thread's channel, and by mailbox its quota, if it has one
 pub record HandedIn (V S : Type 0) : Type 0 where
   pub visits : List V
   pub spools : List S

@@ -44,18 +44,17 @@ threads_of site lanes courses = record {
   courses = courses;
 }
 
--- how many copies may wait for a mailbox: in its thread's channel, and beside that
+-- how many copies may wait for a mailbox: in its thread's channel, and above 256 mailboxes in the list beside it too
 abbrev pub capacity_of : {V S : Type 0} → HandedIn V S → ℕ
 capacity_of old = old.capacity + room_beside (length old.spools) (length old.visits)
 
 -- There is an orderly run of the model, from a start at which nothing has happened but that each mailbox holds what
 -- this server's spool held, and has its quota, in which each lane offers each mailbox just the copies that its
 -- conversations owe, and at whose end each mailbox and each lane has what this server's has, a mailbox the turns that
--- its worker had. Its mailboxes' channels have this server's capacity, and where threads have several mailboxes that of
--- the lists beside their channels with it; a lane's channel has room for the slips of a message to as many recipients as
--- there may be: no copy is offered and no slip given to a full channel, and a lane
--- begins a message once each copy of its last one is answered. The run has a depot that is large enough: of slots and
--- blocks it says nothing.
+-- its worker had. Its mailboxes' channels have this server's capacity, and above 256 mailboxes with it that of the lists
+-- beside its threads' channels; a lane's channel has room for the slips of a message to as many recipients as there may
+-- be: no copy is offered and no slip given to a full channel, and a lane begins a message once each copy of its last
+-- one is answered. The run has a depot that is large enough: of slots and blocks it says nothing.
 pub record IsRunOfModel {V S : Type 0} (site : Site) (state : S → SpoolState) (lanes : ℕ → LaneWork)
     (boxes : ℕ → BoxWork) (old : HandedIn V S) : Type 0 where
   pub is : IsOrderlyRunOf RECIPIENT_LIMIT (capacity_of old) (server_of site old)

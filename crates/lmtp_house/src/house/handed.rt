@@ -3,8 +3,8 @@
 use lmtp_threads::Watched;
 use std::marker::Model;
 
-/// All that is handed in, by lane and by mailbox, and how many copies may wait for a worker thread. There are as many
-/// gates as spools.
+/// All that is handed in, by lane and by mailbox, and how many copies may wait in a worker thread's channel. There are
+/// as many gates as spools.
 #[derive(Drop)]
 pub struct HandedIn<V, O, S, T, G> {
     pub visits: Vec<Watched<V, O>>,

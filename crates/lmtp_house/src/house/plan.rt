@@ -14,7 +14,7 @@ use crate::house::serving::{Ended, serve_all};
 use box_worker::{Gate, TurnObserver};
 use lmtp_lane::{Clock, Visits};
 use lmtp_talk::Observer;
-use lmtp_threads::{Lanes, Shared, WorkerReports, Workers, settle_all};
+use lmtp_threads::{Lanes, Shared, WorkerReports, Workers, room_beside, settle_all};
 use mail_post::WORKER_THREADS;
 use mbox_spool::Spool;
 use msg_depot::{Depot, DepotName};
@@ -86,6 +86,7 @@ where
         let threads = shared.site.box_count().min(WORKER_THREADS);
         let closings = Closings::new(shared.alloc, lanes, threads)?;
         let channels = Channels::open(shared.alloc, handed.capacity, lanes, threads)?;
+        let room = room_beside(handed.spools.len(), lanes);
         let Channels {
             rows,
             receivers,
@@ -100,7 +101,7 @@ where
             capacity: _,
         } = handed;
         let lanes = Lanes::new(shared, visits, rows, takers)?;
-        let workers = Workers::new(shared, receivers, slip_rows, spools, gates, quotas)?;
+        let workers = Workers::new(shared, receivers, slip_rows, spools, gates, quotas, room)?;
         Ok(Plan {
             lanes,
             workers,

@@ -28,7 +28,10 @@ use std::thread::Threads;
 
 /// Runs a server until its lanes have no more clients: a lane for each of the visits, in a thread of its own, and for
 /// each mailbox of the site a worker with its spool, its gate and its quota, if it has one, in one of at most 256
-/// threads, each with its observer. All memory is taken first; the messages have the blocks and slots of the sizes.
+/// threads, each with its observer. All memory is taken first; the messages have the blocks and slots of the sizes. As
+/// many copies wait in a thread's channel as the sizes' capacity says. Above 256 mailboxes, where a thread may have
+/// several, 64 more, and one more for each lane, may wait beside it: those of a mailbox that rests, or that others have
+/// locked, while the thread's other mailboxes go on.
 pub fn run_house<V, O, S, T, G, C, R>(
     rt: R,
     alloc: Global,

@@ -13,7 +13,7 @@ pub struct Sizes {
     pub blocks: u32,
     /// Messages on their way, 1 to 64.
     pub slots: u32,
-    /// Copies that wait for a worker thread, 1 to 1,024.
+    /// Copies that wait in a worker thread's channel, 1 to 1,024.
     pub capacity: u32,
 }
 
