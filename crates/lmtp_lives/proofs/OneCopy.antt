@@ -40,7 +40,7 @@ use Rattle.lmtp_threads.specs.declared.tally.Tally.{Tally}
 use Rattle.lmtp_threads.specs.declared.watched.Watched.{Watched}
 use Rattle.lmtp_house.specs.Handed.{HandedIn, HandedBack}
 use Rattle.lmtp_house.specs.House.{HasRun, IsLaneWork}
-use Rattle.lmtp_house.specs.RunOfModel.{courses_of, server_of, threads_of}
+use Rattle.lmtp_house.specs.RunOfModel.{capacity_of, courses_of, server_of, threads_of}
 use Rattle.lmtp_lives.specs.Rows.{Run, Clients, Mailbox, view, spools, sent, note}
 use Rattle.lmtp_lives.proofs.TwoSites.{only, site_of, place, each_of, two, each_box, place_low, at_each}
 
@@ -414,10 +414,16 @@ module _ (outcome : Outcome) (end : TurnEnd) (lock unlock : Standing) (got : ℕ
         (record { ends = end ∷ []; are = (ended, tt); told = refl }) (record { ends = []; are = tt; told = refl })
         (record { ends = end ∷ []; are = (ended, tt); told = refl }) t b before after after x y y
 
+    -- beside the channels of so few mailboxes none waits
+    one_waits : (t : Bool) → 1 ≡ capacity_of (handed t)
+    one_waits = two (λ t. 1 ≡ capacity_of (handed t)) refl refl
+
     unfoldable pub ran : (t : Bool) → HadIt t → HasRun (site_of t) (λ moment. ⊤) view spools (handed t) (back t)
     ran t had =
-        let plays = an_orderly_history_plays RECIPIENT_LIMIT 1 (server_of (site_of t) (handed t)) (threads t) (deeds t)
-        (history t had) in record {
+        let server = server_of (site_of t) (handed t) in
+        let H : ℕ → Type 0 = λ m. IsOrderlyHistory RECIPIENT_LIMIT m server (threads t) (deeds t) in
+        let plays = an_orderly_history_plays RECIPIENT_LIMIT (capacity_of (handed t)) server (threads t) (deeds t)
+        (subst H (one_waits t) (history t had)) in record {
           lanes = λ k. lane t;
           boxes = boxes t;
           as_many_lanes = (refl, refl);

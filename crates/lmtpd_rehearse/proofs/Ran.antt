@@ -47,7 +47,7 @@ use Rattle.lmtpd_rehearse.specs.Account.{IsSettledOutcome, IsAllSettled}
 use Rattle.lmtpd_rehearse.specs.Copies.{HoldsCopies}
 use Rattle.lmtpd_rehearse.specs.Client.{MayGive, told as told_by, is_last_told, unseen, IsOnlyOver}
 use Rattle.lmtpd_rehearse.specs.Mailboxes.{Mailbox, MailboxContent, kept_all, kept_at, bytes_of_all, empty_mailbox, mailbox_room, texts_of_mailboxes, IsCalm}
-use Rattle.lmtpd_rehearse.specs.Rehearsal.{AreMailboxes, copies_due, told_of_box, model_of, IsRunOfRehearsal, RehearsalEndsFor, HeldState, IsHeld, IsRehearsed}
+use Rattle.lmtpd_rehearse.specs.Rehearsal.{AreMailboxes, copies_due, told_of_box, model_of, waiting_for, IsRunOfRehearsal, RehearsalEndsFor, HeldState, IsHeld, IsRehearsed}
 use Rattle.lmtpd_output.specs.Output.{IsListed}
 use Rattle.lmtpd_rehearse.specs.Rehearsal.{Streams}
 use Rattle.lmtpd_rehearse.proofs.Boxes.{get_same, kept_is, length-kept, bytes_are, none_failed, all_calm}
@@ -364,7 +364,7 @@ module _ (site : Site) (quotas : List (Option ℕ)) (moment : ℕ) {P : Type 0} 
       let threads : Threads = threads_of site h.lanes courses in
       let copies : ℕ → Conversation → List Note = λ b x. due site 0 b (x ∷ []) in
       let R : ℕ → Type 0 = λ n.
-      (run : IsOrderlyRunOf RECIPIENT_LIMIT DEFAULT_CAPACITY (record { calendar = civil_at; site = site; lanes = 1; boxes = n }) threads)
+      (run : IsOrderlyRunOf RECIPIENT_LIMIT (waiting_for n) (record { calendar = civil_at; site = site; lanes = 1; boxes = n }) threads)
       × ((b : ℕ) → b < n → offers_by 0 b (events_of run.is.run) ≡ copies b (conversation c.bytes c.dispositions)) in
       let first : R (length handed.spools) =
       (m.is, λ b low. m.offered 0 b one low ∙ ap (λ l. due site 0 b l) are ∙ ap (copies b) is) in

@@ -1,5 +1,6 @@
 -- What a rehearsal comes to: its replies and its mailboxes, for an account of what became of the data.
-use Rattle.std.specs.Prelude.{◌≡◌, ◌↔◌, ◌⊎◌, ◌<◌, ◌≤◌, ℕ, Bool, true, false, List, [], ◌∷◌, ◌++◌, length, map, Option}
+use Rattle.std.specs.Prelude.{◌≡◌, ◌↔◌, ◌⊎◌, ◌<◌, ◌≤◌, ℕ, ◌+◌, Bool, true, false, List, [], ◌∷◌, ◌++◌, length, map}
+use Rattle.std.specs.Prelude.{Option}
 use Rattle.std.specs.List.{AllByRecursion}
 use Rattle.std.specs.Io.KnownBytes.{Consumes, Appends, IsAtEnd}
 use Rattle.mail_world.specs.declared.limits.TheConstants.{READ_LIMIT, BLOCK_LIMIT, RECIPIENT_LIMIT}
@@ -21,6 +22,7 @@ use Rattle.mail_writing.specs.Calendar.{civil_at}
 use Rattle.lmtp_talk.specs.declared.ending.EndCause.{EndCause}
 use Rattle.lmtp_talk.specs.declared.ending.EndCause.TheVariants.{Quit, EndOfInput, WriteFault, Stopped, ReadBound}
 use Rattle.lmtp_talk.specs.Served.{IsWritten, has_quit}
+use Rattle.lmtp_threads.specs.OwnChannel.{room_beside}
 use Rattle.lmtpd_words.specs.declared.words.TheConstants.{DEFAULT_CAPACITY}
 use Rattle.lmtpd_rehearse.specs.declared.ending.Ending.{Ending}
 use Rattle.lmtpd_rehearse.specs.Mailboxes.{Mailbox, MailboxContent, kept_at, mailbox_room, mailboxes_text}
@@ -90,14 +92,20 @@ model_of site = record {
   boxes = length site.boxes;
 }
 
+-- how many copies may wait for a mailbox of so many: the usual number, and above 256 mailboxes as many more as may wait
+-- beside the channel of a thread that has several
+abbrev pub waiting_for : ℕ → ℕ
+waiting_for boxes = DEFAULT_CAPACITY + room_beside boxes 1
+
 -- There is an orderly run of the model of one lane and these mailboxes, from a start at which nothing has happened, in
 -- which the lane offers each mailbox just the copies that are due to it, and at whose end each mailbox has come to
--- this under its quota. Its mailboxes' channels have the usual capacity, and the lane's channel has room for the slips
--- of a message to as many recipients as there may be. The run has a depot that is large enough.
+-- this under its quota. Its mailboxes' channels have the usual capacity, above 256 mailboxes with it that of the lists
+-- beside its threads' channels, and the lane's channel has room for the slips of a message to as many recipients as
+-- there may be. The run has a depot that is large enough.
 pub record IsRunOfRehearsal (site : Site) (quotas : List (Option ℕ)) (read : List ℕ) (account : List Disposition)
     (mailboxes : List MailboxContent) : Type 0 where
   pub threads : Threads
-  pub is : IsOrderlyRunOf RECIPIENT_LIMIT DEFAULT_CAPACITY (model_of site) threads
+  pub is : IsOrderlyRunOf RECIPIENT_LIMIT (waiting_for (length site.boxes)) (model_of site) threads
   pub offered : (box : ℕ) → box < length site.boxes
       → offers_by 0 box (events_of is.is.run) ≡ copies_due site read account box
   pub each : (box : ℕ) → box < length site.boxes

@@ -19,7 +19,7 @@ const LANES: u32 = 1;
 /// A mailbox in memory, whose turns nobody sees.
 pub type Mailbox = Watched<MemorySpool, ()>;
 
-/// The sizes of a rehearsal's server: a slot for each lane, and the usual number of copies that may wait.
+/// The sizes of a rehearsal's server: a slot for each lane, and the usual number of copies in a channel.
 pub fn sizes(blocks: u32) -> Sizes
     ensures { result ≡ record { blocks = blocks; slots = LANES; capacity = DEFAULT_CAPACITY } }
 {
