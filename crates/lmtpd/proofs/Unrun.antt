@@ -11,7 +11,7 @@ use Rattle.lmtpd_setup.specs.declared.fault.Fault.TheVariants as fault
 use Rattle.lmtpd_words.specs.Quotas.{quota_for}
 use Rattle.lmtpd_words.specs.Words.{named_site, quotas_for}
 use Rattle.lmtpd_words.specs.declared.words.RehearseWords.{RehearseWords}
-use Rattle.lmtpd_setup.specs.Faults.{site_fault}
+use Rattle.lmtpd_setup.specs.Faults.{rehearsed_fault}
 use Rattle.lmtpd.specs.Lacking.{house_refusal}
 use Rattle.lmtpd.specs.Program.{IsNotRun, IsNotRehearsed}
 use Rattle.lmtpd_rehearse.specs.Rehearsal.{IsBlockCount}
@@ -72,7 +72,7 @@ causes a b c (inl e) = inl cc
 causes a b c (inr e) = inr cc
 
 -- the rehearsal that words ask for, where the server didn't run
-pub not_rehearsed : {X : Type 0} (words : RehearseWords) (cause : HouseFault) → site_fault words.site ≡ None
+pub not_rehearsed : {X : Type 0} (words : RehearseWords) (cause : HouseFault) → rehearsed_fault words.site ≡ None
     → (◌≡◌ {A = Result X HouseFault} (Err cause) (Err house.Size) → IsBlockCount words.blocks → ⊥)
     → ((IsBlockCount words.blocks → ⊥)
     → (◌≡◌ {A = Result X HouseFault} (Err cause) (Err house.Size)) ⊎ (◌≡◌ {A = Result X HouseFault} (Err cause) (Err house.Memory)))

@@ -37,7 +37,7 @@ use Rattle.lmtpd_setup.specs.Mailboxes.{Held}
 use Rattle.lmtpd_setup.specs.Setup.{ends_asked, mailboxes_asked, quotas_asked}
 use Rattle.lmtpd_setup.specs.declared.ends.ServerCurfew.{ServerCurfew}
 use Rattle.lmtpd_setup.specs.Names.{IsRefusedBy}
-use Rattle.lmtpd_setup.specs.Faults.{listen_refusal, site_fault, stop_for, stop_status}
+use Rattle.lmtpd_setup.specs.Faults.{listen_refusal, rehearsed_fault, site_fault, stop_for, stop_status}
 use Rattle.lmtpd_setup.specs.Lines.{line_after, status_after, stop_line}
 use Rattle.lmtpd_setup.specs.declared.fault.Fault.{Fault}
 use Rattle.lmtpd_setup.specs.declared.fault.Fault.TheVariants as fault
@@ -69,7 +69,7 @@ IsNotRun IsSize _ = ⊥
 -- A rehearsal that its words asked for was held: at the site that they name, at their moment, with as many blocks, and
 -- each mailbox under its own quota, or else under the one that they say.
 pub record IsRehearsedAsAsked (words : RehearseWords) (old new : Streams) (ending : Ending) : Type 0 where
-  pub sound : site_fault words.site ≡ None
+  pub sound : rehearsed_fault words.site ≡ None
   pub blocks : IsBlockCount words.blocks
   pub rehearsed : IsRehearsed (named_site words.site) (quotas_for words.quota words.site) words.time old new ending
 
@@ -77,8 +77,8 @@ pub record IsRehearsedAsAsked (words : RehearseWords) (old new : Streams) (endin
 -- run.
 abbrev pub IsNotRehearsed : RehearseWords → Fault → Type 0
 IsNotRehearsed words f = (f ≡ fault.Memory)
-    ⊎ ((site_fault words.site ≡ Some f)
-    ⊎ ((site_fault words.site ≡ None) × IsNotRun (IsBlockCount words.blocks) f))
+    ⊎ ((rehearsed_fault words.site ≡ Some f)
+    ⊎ ((rehearsed_fault words.site ≡ None) × IsNotRun (IsBlockCount words.blocks) f))
 
 -- Held once the file of its mailboxes was read: `Fills` says what their words are then.
 abbrev pub IsRehearsedFilled : (SiteWords → SiteWords → Type 0) → RehearseWords → Streams → Streams → Ending → Type 0

@@ -8,7 +8,7 @@ ghost use Rattle.lmtpd.specs.Program.{streams_of};
 use crate::lacking::house_fault;
 use lmtpd_rehearse::{Rehearsed, rehearse_run};
 use lmtpd_setup::{Fault, Stop, fill, site_of};
-use lmtpd_words::RehearseWords;
+use lmtpd_words::{COMMAND_LINE_BOX_LIMIT, RehearseWords};
 use std::alloc::Global;
 use std::fs::Files;
 use std::io::{Read, Write};
@@ -59,7 +59,7 @@ where
         (streams_of R.remaining W.contents rehearsed.reader rehearsed.writer) rehearsed.ending)
         (IsNotRehearsed words.now) }
 {
-    let site = Arc::new(alloc, site_of(alloc, &words.site)?)?;
+    let site = Arc::new(alloc, site_of(alloc, &words.site, COMMAND_LINE_BOX_LIMIT)?)?;
     let quotas = words.site.quotas_for(alloc, words.quota)?;
     let rehearsed = rehearse_run(
         rt,

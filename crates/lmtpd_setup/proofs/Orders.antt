@@ -1,9 +1,10 @@
 -- The order in which the program says what is wrong with a site, against the site's own.
-use Rattle.std.proofs.Common.{◌≡◌, ◌∙◌, ◌⊎◌, ◌<◌, ◌∷◌, ◌++◌, [], inl, inr, ap, sym, ℕ, Bool, true, false, List, length, Option, Some, None, refl, cond, arith, true≢false}
+use Rattle.std.proofs.Common.{◌≡◌, ◌∙◌, ◌⊎◌, ◌<◌, ◌≤◌, ◌∷◌, ◌++◌, [], inl, inr, ap, sym, ℕ, Bool, true, false, List, length, Option, Some, None, refl, cond, arith, true≢false}
 use Rattle.std.specs.Prelude.{not, ◌||◌, ◌==◌, ◌&&◌, nat_lt, Err, Result}
 use Rattle.std.specs.Borrow.{Bor}
 use Rattle.std.specs.List.{list_all}
 use Rattle.std.proofs.lemmas.Bool.{eqb-true}
+use Rattle.std.proofs.lemmas.Bool.Decides.{nat_tests}
 use Rattle.std.proofs.lemmas.List.{length-map}
 use Rattle.mail_world.specs.Site.{Site, Fault as Rule, BadHost, BadDomain, BadCount, BadBox, NamedTwice, fault_of, is_host_name, is_domain_name, is_box_name, has_twice}
 use Rattle.mail_world.specs.declared.limits.TheConstants.{BOX_LIMIT}
@@ -56,7 +57,7 @@ rule_said false true true false true false u rule some named o e = cc
 
 broken_said : (suffix : List ℕ) (site : Site) (rule : Rule) → has_none site ≡ false
     → (list_all (is_usable_name suffix) site.boxes ≡ true) ⊎ ((has_too_many site ≡ false) × (has_twice site.boxes ≡ false))
-    → fault_of site ≡ Some rule → first_fault suffix site ≡ Some (refusal (cause rule))
+    → fault_of site ≡ Some rule → first_fault BOX_LIMIT suffix site ≡ Some (refusal (cause rule))
 broken_said suffix site rule some o e =
     rule_said (has_none site) (is_host_name site.host) (list_all is_domain_name site.domains) (has_too_many site) (list_all is_box_name site.boxes)
     (has_twice site.boxes) (list_all (is_usable_name suffix) site.boxes) rule some (usable_named suffix site.boxes) o e
@@ -77,9 +78,9 @@ pub site_refused : (suffix : List ℕ) (site : Site) (e : SiteFault) → has_non
     → (list_all (is_usable_name suffix) site.boxes ≡ true) ⊎ ((has_too_many site ≡ false) × (has_twice site.boxes ≡ false))
     → ((rule : Rule) → fault_of site ≡ Some rule → ◌≡◌ {A = Result Site SiteFault} (Err e) (Err (cause rule)))
     → (fault_of site ≡ None → e ≡ faults.Memory)
-    → (refusal e ≡ fault.Memory) ⊎ (first_fault suffix site ≡ Some (refusal e))
+    → (refusal e ≡ fault.Memory) ⊎ (first_fault BOX_LIMIT suffix site ≡ Some (refusal e))
 site_refused suffix site e some o broken whole =
-    refused site (fault_of site) (first_fault suffix site) e refl (λ rule. broken_said suffix site rule some o) broken whole
+    refused site (fault_of site) (first_fault BOX_LIMIT suffix site) e refl (λ rule. broken_said suffix site rule some o) broken whole
 
 none_said : (n h d c b t u : Bool) → n ≡ false → u ≡ true
     → cond (not h) (Some BadHost) (cond (not d) (Some BadDomain) (cond (n || c) (Some BadCount) (cond (not b) (Some BadBox) (cond t (Some NamedTwice) None))))
@@ -115,7 +116,7 @@ usable_of true true false x e = cc
 usable_of true true true x e = refl
 
 -- a mailbox that does alone has a usable name
-pub box_named : (host : List ℕ) (domains : List (Bor (List ℕ))) (suffix name : List ℕ) → first_fault suffix (site_of_one host domains name) ≡ None
+pub box_named : (host : List ℕ) (domains : List (Bor (List ℕ))) (suffix name : List ℕ) → first_fault BOX_LIMIT suffix (site_of_one host domains name) ≡ None
     → is_usable_name suffix name ≡ true
 box_named host domains suffix name e =
     usable_of (is_host_name host) (list_all is_domain_name (texts domains)) (is_usable_name suffix name) None e
@@ -129,16 +130,20 @@ lifted false true false u all rest f some bad e = e
 lifted false true true true all rest f some bad e = cc
 lifted false true true false all rest f some bad e = rw (bad refl) e
 
+-- what is said once each name was looked at alone
+abbrev pub after_names : ℕ → List (List ℕ) → Option Fault
+after_names limit names = cond (nat_lt limit (length names)) (Some fault.TooManyBoxes) (cond (has_twice names) (Some fault.BoxTwice) None)
+
 -- what a mailbox alone says, a site with it among others says too
-pub box_refused : (host : List ℕ) (domains boxes : List (Bor (List ℕ))) (suffix name : List ℕ) (f : Fault)
-    → first_fault suffix (site_of_one host domains name) ≡ Some f
+pub box_refused : (limit : ℕ) (host : List ℕ) (domains boxes : List (Bor (List ℕ))) (suffix name : List ℕ) (f : Fault)
+    → first_fault BOX_LIMIT suffix (site_of_one host domains name) ≡ Some f
     → has_none (site_of host domains boxes) ≡ false
     → (is_usable_name suffix name ≡ false → list_all (is_usable_name suffix) (texts boxes) ≡ false)
-    → first_fault suffix (site_of host domains boxes) ≡ Some f
-box_refused host domains boxes suffix name f e some bad =
+    → first_fault limit suffix (site_of host domains boxes) ≡ Some f
+box_refused limit host domains boxes suffix name f e some bad =
     lifted (has_none (site_of host domains boxes)) (is_host_name host) (list_all is_domain_name (texts domains)) (is_usable_name suffix name)
     (list_all (is_usable_name suffix) (texts boxes))
-    (cond (has_too_many (site_of host domains boxes)) (Some fault.TooManyBoxes) (cond (has_twice (texts boxes)) (Some fault.BoxTwice) None)) f some bad e
+    (after_names limit (texts boxes)) f some bad e
 
 bad_said : (n h d u all : Bool) (rest : Option Fault) → n ≡ false → all ≡ false
     → cond (not h) (Some fault.Host) (cond (not d) (Some fault.Domain) (cond (not (u && true)) (Some fault.Box) None)) ≡ None
@@ -151,13 +156,13 @@ bad_said false true true u true rest some bad e = absurd (true≢false bad)
 bad_said false true true u false rest some bad e = refl
 
 -- beside a host and domains that do alone, a name that none can have is what a site says
-pub name_refused : (host : List ℕ) (domains boxes : List (Bor (List ℕ))) (suffix name : List ℕ)
-    → first_fault suffix (site_of_one host domains name) ≡ None → has_none (site_of host domains boxes) ≡ false
-    → list_all (is_usable_name suffix) (texts boxes) ≡ false → first_fault suffix (site_of host domains boxes) ≡ Some fault.Box
-name_refused host domains boxes suffix name e some bad =
+pub name_refused : (limit : ℕ) (host : List ℕ) (domains boxes : List (Bor (List ℕ))) (suffix name : List ℕ)
+    → first_fault BOX_LIMIT suffix (site_of_one host domains name) ≡ None → has_none (site_of host domains boxes) ≡ false
+    → list_all (is_usable_name suffix) (texts boxes) ≡ false → first_fault limit suffix (site_of host domains boxes) ≡ Some fault.Box
+name_refused limit host domains boxes suffix name e some bad =
     bad_said (has_none (site_of host domains boxes)) (is_host_name host) (list_all is_domain_name (texts domains)) (is_usable_name suffix name)
     (list_all (is_usable_name suffix) (texts boxes))
-    (cond (has_too_many (site_of host domains boxes)) (Some fault.TooManyBoxes) (cond (has_twice (texts boxes)) (Some fault.BoxTwice) None)) some bad e
+    (after_names limit (texts boxes)) some bad e
 
 -- a site of names has none exactly where there are none
 pub none_of_none : (host : List ℕ) (domains boxes : List (Bor (List ℕ))) (t : Bool) → t ≡ (length boxes == 0) → has_none (site_of host domains boxes) ≡ t
@@ -172,8 +177,63 @@ some_of_place host domains boxes place below =
     not_zero (length (texts boxes)) (length (texts boxes) == 0) refl (omega (arith, below, length-map boxes (λ (name : Bor (List ℕ)). name.now)))
 
 -- no mailbox at all
-pub none_refused : (host : List ℕ) (domains boxes : List (Bor (List ℕ))) (suffix : List ℕ) (t : Bool) → t ≡ (length boxes == 0) → t ≡ true
-    → first_fault suffix (site_of host domains boxes) ≡ Some fault.NoBox
-none_refused host domains boxes suffix t e none =
+pub none_refused : (limit : ℕ) (host : List ℕ) (domains boxes : List (Bor (List ℕ))) (suffix : List ℕ) (t : Bool) → t ≡ (length boxes == 0) → t ≡ true
+    → first_fault limit suffix (site_of host domains boxes) ≡ Some fault.NoBox
+none_refused limit host domains boxes suffix t e none =
     let is : has_none (site_of host domains boxes) ≡ true = none_of_none host domains boxes t e ∙ none in
     rw is refl
+
+not_over : (limit count : ℕ) (t : Bool) → nat_lt limit count ≡ t → count ≤ limit → t ≡ false
+not_over limit count true e within = let above : limit < count = grind (arith, nat_tests) in absurd (omega (arith, above, within))
+not_over limit count false e within = refl
+
+-- where there are no more than a lower limit allows, that one says what the other says
+pub same_within : (limit : ℕ) (suffix : List ℕ) (site : Site) → limit ≤ BOX_LIMIT → length site.boxes ≤ limit
+    → first_fault limit suffix site ≡ first_fault BOX_LIMIT suffix site
+same_within limit suffix site least within =
+    ap (λ c. cond (has_none site) (Some fault.NoBox) (cond (not (is_host_name site.host)) (Some fault.Host)
+    (cond (not (list_all is_domain_name site.domains)) (Some fault.Domain) (cond (not (list_all (is_usable_name suffix) site.boxes)) (Some fault.Box)
+    (cond c (Some fault.TooManyBoxes) (cond (has_twice site.boxes) (Some fault.BoxTwice) None))))))
+    (not_over limit (length site.boxes) (nat_lt limit (length site.boxes)) refl within
+    ∙ sym (not_over BOX_LIMIT (length site.boxes) (nat_lt BOX_LIMIT (length site.boxes)) refl (omega (arith, least, within))))
+
+pub within_refused : (limit : ℕ) (suffix : List ℕ) (site : Site) (f : Fault) → limit ≤ BOX_LIMIT → length site.boxes ≤ limit
+    → (f ≡ fault.Memory) ⊎ (first_fault BOX_LIMIT suffix site ≡ Some f) → (f ≡ fault.Memory) ⊎ (first_fault limit suffix site ≡ Some f)
+within_refused limit suffix site f least within (inl memory) = inl memory
+within_refused limit suffix site f least within (inr said) = inr (same_within limit suffix site least within ∙ said)
+
+-- a site that was made says no fault, nor does it within a lower limit
+pub none_within : (limit : ℕ) (suffix : List ℕ) (site : Site) → limit ≤ BOX_LIMIT → length site.boxes ≤ limit
+    → first_fault BOX_LIMIT suffix site ≡ None → first_fault limit suffix site ≡ None
+none_within limit suffix site least within e = same_within limit suffix site least within ∙ e
+
+many_said : (n h d c u t : Bool) → n ≡ false → u ≡ true → c ≡ true
+    → cond (not h) (Some fault.Host) (cond (not d) (Some fault.Domain) (cond (not (t && true)) (Some fault.Box) None)) ≡ None
+    → (rest : Option Fault)
+    → cond n (Some fault.NoBox) (cond (not h) (Some fault.Host) (cond (not d) (Some fault.Domain) (cond (not u) (Some fault.Box)
+    (cond c (Some fault.TooManyBoxes) rest)))) ≡ Some fault.TooManyBoxes
+many_said true h d c u t some all many e rest = absurd (true≢false some)
+many_said false h d false u t some all many e rest = absurd (true≢false (sym many))
+many_said false h d true false t some all many e rest = absurd (true≢false (sym all))
+many_said false false d true true t some all many e rest = cc
+many_said false true false true true t some all many e rest = cc
+many_said false true true true true t some all many e rest = refl
+
+-- beside a host and domains that do alone, names that all are usable are too many
+pub many_refused : (limit : ℕ) (host : List ℕ) (domains boxes : List (Bor (List ℕ))) (suffix name : List ℕ)
+    → first_fault BOX_LIMIT suffix (site_of_one host domains name) ≡ None → has_none (site_of host domains boxes) ≡ false
+    → list_all (is_usable_name suffix) (texts boxes) ≡ true → nat_lt limit (length (texts boxes)) ≡ true
+    → first_fault limit suffix (site_of host domains boxes) ≡ Some fault.TooManyBoxes
+many_refused limit host domains boxes suffix name e some all many =
+    many_said (has_none (site_of host domains boxes)) (is_host_name host) (list_all is_domain_name (texts domains)) (nat_lt limit (length (texts boxes)))
+    (list_all (is_usable_name suffix) (texts boxes)) (is_usable_name suffix name) some all many e (cond (has_twice (texts boxes)) (Some fault.BoxTwice) None)
+
+over_test : (limit count : ℕ) (t : Bool) → nat_lt limit count ≡ t → limit < count → t ≡ true
+over_test limit count true e above = refl
+over_test limit count false e above = let within : count ≤ limit = grind (arith, nat_tests) in absurd (omega (arith, above, within))
+
+-- more names than the limit are as many of their texts
+pub is_over : (limit : ℕ) (boxes : List (Bor (List ℕ))) → limit < length boxes → nat_lt limit (length (texts boxes)) ≡ true
+is_over limit boxes above =
+    over_test limit (length (texts boxes)) (nat_lt limit (length (texts boxes))) refl
+    (omega (arith, above, length-map boxes (λ (name : Bor (List ℕ)). name.now)))

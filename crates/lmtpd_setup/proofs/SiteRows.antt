@@ -4,7 +4,7 @@ use Rattle.lmtpd_setup.specs.declared.fault.Fault.TheVariants as fault
 use Rattle.lmtpd_setup.specs.Faults.{first_fault, is_usable_name}
 
 -- no mailbox, which is looked for before a bad host
-pub no_box : first_fault (codes ".mbox") (record {
+pub no_box : first_fault 256 (codes ".mbox") (record {
   host = codes "mx_example";
   domains = [];
   boxes = [];

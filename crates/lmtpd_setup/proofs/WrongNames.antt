@@ -10,11 +10,10 @@ use Rattle.std.proofs.lemmas.Bool.Decides.{nat_tests}
 use Rattle.std.proofs.lemmas.Cmp.{nat_list_eq_equiv}
 use Rattle.std.proofs.lemmas.List.{drop_more, length-map, map-append, take_more}
 use Rattle.mail_world.specs.Site.{has_text, has_twice, is_host_name, is_domain_name}
-use Rattle.mail_world.specs.declared.limits.TheConstants.{BOX_LIMIT}
 use Rattle.lmtp_text.specs.Sites.{texts}
 use Rattle.lmtpd_words.specs.Words.{named_site}
 use Rattle.lmtpd_words.specs.declared.words.SiteWords.{SiteWords}
-use Rattle.lmtpd_setup.specs.Faults.{is_usable_name, site_fault}
+use Rattle.lmtpd_setup.specs.Faults.{box_limit_of, is_usable_name, site_fault}
 use Rattle.lmtpd_setup.specs.Names.{IsNameLine, IsToldOf, place_in, twice_place}
 use Rattle.lmtpd_setup.specs.declared.fault.Fault.{Fault}
 use Rattle.lmtpd_setup.specs.declared.fault.Fault.TheVariants as fault
@@ -123,21 +122,21 @@ no_name words fault.Box first all =
     let usable = is_usable_name words.mailbox_suffix.now in
     let bad : list_all usable site.boxes ≡ false =
     bad_of (length site.boxes == 0) (is_host_name site.host) (list_all is_domain_name site.domains) (list_all usable site.boxes)
-    (nat_lt BOX_LIMIT (length site.boxes)) (has_twice site.boxes) first in
+    (nat_lt (box_limit_of words) (length site.boxes)) (has_twice site.boxes) first in
     absurd (true≢false (sym (all_good usable site.boxes all) ∙ bad))
 no_name words fault.TooManyBoxes first all =
     let site = named_site words in
     let usable = is_usable_name words.mailbox_suffix.now in
-    let many : nat_lt BOX_LIMIT (length site.boxes) ≡ true =
+    let many : nat_lt (box_limit_of words) (length site.boxes) ≡ true =
     many_of (length site.boxes == 0) (is_host_name site.host) (list_all is_domain_name site.domains) (list_all usable site.boxes)
-    (nat_lt BOX_LIMIT (length site.boxes)) (has_twice site.boxes) first in
-    absurd (over BOX_LIMIT (length site.boxes) many all)
+    (nat_lt (box_limit_of words) (length site.boxes)) (has_twice site.boxes) first in
+    absurd (over (box_limit_of words) (length site.boxes) many all)
 no_name words fault.BoxTwice first all =
     let site = named_site words in
     let usable = is_usable_name words.mailbox_suffix.now in
     let twice : has_twice site.boxes ≡ true =
     twice_of (length site.boxes == 0) (is_host_name site.host) (list_all is_domain_name site.domains) (list_all usable site.boxes)
-    (nat_lt BOX_LIMIT (length site.boxes)) (has_twice site.boxes) first in
+    (nat_lt (box_limit_of words) (length site.boxes)) (has_twice site.boxes) first in
     absurd (true≢false (sym twice ∙ none_twice [] site.boxes refl all))
 no_name words fault.Address first all = refl
 no_name words fault.Port first all = refl

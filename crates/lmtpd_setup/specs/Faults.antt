@@ -1,5 +1,5 @@
 -- What the program's words may lack, and what the program then answers.
-use Rattle.std.specs.Prelude.{ℕ, Bool, true, false, not, nat_eq, nat_lt, ◌==◌, ◌&&◌, List, [], ◌∷◌, ◌++◌, length}
+use Rattle.std.specs.Prelude.{ℕ, Bool, true, false, not, nat_eq, nat_lt, ◌==◌, ◌&&◌, ◌-◌, List, [], ◌∷◌, ◌++◌, length}
 use Rattle.std.specs.Prelude.{if◌then◌else◌}
 use Rattle.std.specs.Prelude.{Option, Some, None, codes}
 use Rattle.std.specs.Borrow.{Bor}
@@ -9,7 +9,9 @@ use Rattle.mail_world.specs.Site.{Site, is_host_name, is_domain_name, is_box_nam
 use Rattle.lmtp_text.specs.Sites.{texts}
 use Rattle.lmtp_text.specs.declared.site.SiteFault.{SiteFault}
 use Rattle.lmtp_text.specs.declared.site.SiteFault.TheVariants as cause
+use Rattle.lmtpd_words.specs.Boxes.{listed_boxes}
 use Rattle.lmtpd_words.specs.Words.{named_site}
+use Rattle.lmtpd_words.specs.declared.words.TheConstants.{COMMAND_LINE_BOX_LIMIT}
 use Rattle.lmtpd_words.specs.declared.words.SiteWords.{SiteWords}
 use Rattle.lmtpd_listen.specs.declared.fault.ListenFault.{ListenFault}
 use Rattle.lmtpd_listen.specs.declared.fault.ListenFault.TheVariants as listen
@@ -77,21 +79,38 @@ is_lock_name file = ends_with nat_eq file (codes ".lock")
 abbrev pub is_usable_name : List ℕ → List ℕ → Bool
 is_usable_name suffix name = is_box_name name && not (is_lock_name (name ++ suffix))
 
--- the first fault of a site whose mailboxes' files have that suffix, in the order in which the program looks: whether
--- there is a box comes before all names, and each box alone before their number
-abbrev pub first_fault : List ℕ → Site → Option Fault
-first_fault suffix site =
+-- the first fault of a site that may have so many mailboxes, whose files have that suffix, in the order in which the
+-- program looks: whether there is a box comes before all names, and each box alone before their number
+abbrev pub first_fault : ℕ → List ℕ → Site → Option Fault
+first_fault limit suffix site =
     if length site.boxes == 0 then Some fault.NoBox
     else if not (is_host_name site.host) then Some fault.Host
     else if not (list_all is_domain_name site.domains) then Some fault.Domain
     else if not (list_all (is_usable_name suffix) site.boxes) then Some fault.Box
-    else if nat_lt BOX_LIMIT (length site.boxes) then Some fault.TooManyBoxes
+    else if nat_lt limit (length site.boxes) then Some fault.TooManyBoxes
     else if has_twice site.boxes then Some fault.BoxTwice
     else None
 
--- the first fault of the site that the words name
+-- the first fault of the site that the words name, where it may have so many mailboxes
+abbrev pub fault_within : ℕ → SiteWords → Option Fault
+fault_within limit words = first_fault limit words.mailbox_suffix.now (named_site words)
+
+-- how many names the words have themselves
+abbrev pub own_count : SiteWords → ℕ
+own_count words = length words.boxes.items - length (listed_boxes words.listed.now)
+
+-- how many mailboxes a server's words may name: those with more names of their own than a command line may have no
+-- more than these
+abbrev pub box_limit_of : SiteWords → ℕ
+box_limit_of words = if nat_lt COMMAND_LINE_BOX_LIMIT (own_count words) then COMMAND_LINE_BOX_LIMIT else BOX_LIMIT
+
+-- the first fault of the site that a server's words name
 abbrev pub site_fault : SiteWords → Option Fault
-site_fault words = first_fault words.mailbox_suffix.now (named_site words)
+site_fault words = fault_within (box_limit_of words) words
+
+-- the same of a rehearsal's, wherever they name its mailboxes
+abbrev pub rehearsed_fault : SiteWords → Option Fault
+rehearsed_fault words = fault_within COMMAND_LINE_BOX_LIMIT words
 
 -- the site of that host with those further domains and one mailbox
 abbrev pub site_of_one : List ℕ → List (Bor (List ℕ)) → List ℕ → Site

@@ -1,5 +1,5 @@
 -- Which name of a mailbox can't be used, where it stands, and the line of the log that says it.
-use Rattle.std.specs.Prelude.{◌≡◌, ◌⊎◌, ◌<◌, ◌≤◌, ◌+◌, ◌-◌, ◌||◌, ℕ, Bool, true, false, List, [], ◌∷◌, ◌++◌, length}
+use Rattle.std.specs.Prelude.{◌≡◌, ◌⊎◌, ◌<◌, ◌≤◌, ◌+◌, ◌||◌, ℕ, Bool, true, false, List, [], ◌∷◌, ◌++◌, length}
 use Rattle.std.specs.Prelude.{take}
 use Rattle.std.specs.Prelude.{suc, Option, Some, None, String, string_bytes, codes, decimal, get_or, nat_lt}
 use Rattle.std.specs.Prelude.{if◌then◌else◌}
@@ -10,13 +10,12 @@ use Rattle.log.specs.declared.level.LevelFilter.{LevelFilter}
 use Rattle.log.specs.declared.level.LevelFilter.TheVariants as filter
 use Rattle.mail_world.specs.Site.{has_text}
 use Rattle.mail_world.specs.Text.{lf}
-use Rattle.mail_world.specs.declared.limits.TheConstants.{BOX_LIMIT}
 use Rattle.lmtp_text.specs.Sites.{texts}
-use Rattle.lmtpd_words.specs.Boxes.{IsLineOfName, listed_boxes}
+use Rattle.lmtpd_words.specs.Boxes.{IsLineOfName}
 use Rattle.lmtpd_output.specs.Printable.{printable_text}
 use Rattle.lmtpd_words.specs.declared.words.ServeWords.{ServeWords}
 use Rattle.lmtpd_words.specs.declared.words.SiteWords.{SiteWords}
-use Rattle.lmtpd_setup.specs.Faults.{fault_text, is_usable_name, site_fault}
+use Rattle.lmtpd_setup.specs.Faults.{box_limit_of, fault_text, is_usable_name, own_count, site_fault}
 use Rattle.lmtpd_setup.specs.declared.names.TheConstants.{SHOWN_LIMIT}
 use Rattle.lmtpd_setup.specs.declared.fault.Fault.{Fault}
 use Rattle.lmtpd_setup.specs.declared.fault.Fault.TheVariants as fault
@@ -29,25 +28,21 @@ twice_place seen [] = 0
 twice_place seen (name ∷ names) = if has_text seen name then 0 else suc (twice_place (seen ++ name ∷ []) names)
 
 -- The number, from 0 on, of the name that a fault is about: the first that no mailbox can have whose file has that
--- suffix, the first too many, the first that was named before.
-abbrev pub wrong_place : List ℕ → Fault → List (List ℕ) → ℕ
-wrong_place suffix fault.Box names = prefix_len (is_usable_name suffix) names
-wrong_place suffix fault.TooManyBoxes names = BOX_LIMIT
-wrong_place suffix fault.BoxTwice names = twice_place [] names
-wrong_place suffix _ names = length names
+-- suffix, the first too many where there may be so many, the first that was named before.
+abbrev pub wrong_place : ℕ → List ℕ → Fault → List (List ℕ) → ℕ
+wrong_place limit suffix fault.Box names = prefix_len (is_usable_name suffix) names
+wrong_place limit suffix fault.TooManyBoxes names = limit
+wrong_place limit suffix fault.BoxTwice names = twice_place [] names
+wrong_place limit suffix _ names = length names
 
--- the same of the names of these words
+-- the same of the names of a server's words
 abbrev pub place_in : SiteWords → Fault → ℕ
-place_in words f = wrong_place words.mailbox_suffix.now f (texts words.boxes.items)
+place_in words f = wrong_place (box_limit_of words) words.mailbox_suffix.now f (texts words.boxes.items)
 
 -- a place among that many names, where it is one
 abbrev pub IsFoundAt : ℕ → ℕ → Option ℕ → Type 0
 IsFoundAt place count None = count ≤ place
 IsFoundAt place count (Some found) = (found ≡ place) × (found < count)
-
--- how many names the words have themselves
-abbrev pub own_count : SiteWords → ℕ
-own_count words = length words.boxes.items - length (listed_boxes words.listed.now)
 
 -- The line of the file on which the mailbox of that number stands; those that the words name themselves come first, and
 -- stand on none.

@@ -1,10 +1,10 @@
 //! Which name of a mailbox can't be used, and the line of the log that says it.
 
-ghost use Rattle.std.specs.Prelude.{◌≡◌, ◌⊎◌, ◌<◌, ◌++◌, ◌∷◌, [], length, not, true, Some, IfOk, OnOk, string_bytes};
+ghost use Rattle.std.specs.Prelude.{◌≡◌, ◌⊎◌, ◌<◌, ◌≤◌, ◌++◌, ◌∷◌, [], length, not, true, Some, IfOk, OnOk, string_bytes};
 ghost use Rattle.std.specs.List.{prefix_len};
 ghost use Rattle.mail_world.specs.Site.{has_text};
 ghost use Rattle.lmtp_text.specs.Sites.{owned, texts};
-ghost use Rattle.lmtpd_setup.specs.Faults.{is_usable_name, site_fault};
+ghost use Rattle.lmtpd_setup.specs.Faults.{box_limit_of, is_usable_name, own_count, site_fault};
 ghost use Rattle.lmtpd_setup.specs.Names.{IsFoundAt, IsNameLine, IsNoSite, IsPlace, IsToldOf, place_in, place_text};
 ghost use Rattle.lmtpd_setup.specs.Names.{shown_name, tells_names, twice_place, wrong_place};
 
@@ -14,7 +14,7 @@ use crate::stop::Stop;
 use indexmap::IndexSet;
 use itoa::Buffer;
 use lmtpd_output::printable;
-use lmtpd_words::{ServeWords, SiteWords, count_names, line_of_name};
+use lmtpd_words::{COMMAND_LINE_BOX_LIMIT, ServeWords, SiteWords, count_names, line_of_name};
 use log::LevelFilter;
 use mail_world::limits::BOX_LIMIT;
 use std::alloc::{AllocError, Global};
@@ -45,7 +45,8 @@ fn told_site<'a>(alloc: Global, words: &SiteWords<'_>, fault: Fault) -> Stop<'a>
     requires { (fault ≡ Fault.Memory) ⊎ (site_fault words.now ≡ Some fault) }
     ensures { (result ≡ Stop.Fault Fault.Memory) ⊎ IsToldOf words.now fault result }
 {
-    let number = match wrong_number(alloc, words.mailbox_suffix, &words.boxes, fault) {
+    let limit = box_limit_of(words);
+    let number = match wrong_number(alloc, limit, words.mailbox_suffix, &words.boxes, fault) {
         Ok(Some(number)) => number,
         Ok(None) => return Stop::Fault(fault),
         Err(_) => return Stop::Fault(Fault::Memory),
@@ -56,18 +57,19 @@ fn told_site<'a>(alloc: Global, words: &SiteWords<'_>, fault: Fault) -> Stop<'a>
     }
 }
 
-// The number of the name that the fault is about, if it is about one of these.
+// The number of the name that the fault is about, where there may be so many, if it is about one of these.
 fn wrong_number(
     alloc: Global,
+    limit: usize,
     suffix: &str,
     names: &[&[u8]],
     fault: Fault,
 ) -> Result<Option<usize>, AllocError>
-    ensures { IfOk result (IsFoundAt (wrong_place suffix.now fault (texts names.now)) (length names.now)) }
+    ensures { IfOk result (IsFoundAt (wrong_place limit suffix.now fault (texts names.now)) (length names.now)) }
 {
     match fault {
         Fault::Box => first_bad(alloc, suffix, names),
-        Fault::TooManyBoxes => Ok(place_within(names, BOX_LIMIT)),
+        Fault::TooManyBoxes => Ok(place_within(names, limit)),
         Fault::BoxTwice => first_twice(alloc, names),
         _ => Ok(None),
     }
@@ -171,7 +173,25 @@ fn line_of(words: &SiteWords<'_>, number: usize) -> Option<usize>
     requires { number < length words.now.boxes.items }
     ensures { IsPlace words.now number result }
 {
-    let own = words.boxes.len().saturating_sub(count_names(words.listed));
-    let before = number.checked_sub(own)?;
+    let before = number.checked_sub(own_count(words))?;
     line_of_name(words.listed, before)
+}
+
+// How many names the words have themselves.
+fn own_count(words: &SiteWords<'_>) -> usize
+    ensures { result ≡ own_count words.now }
+{
+    words.boxes.len().saturating_sub(count_names(words.listed))
+}
+
+/// How many mailboxes a server's words may name.
+pub(crate) fn box_limit_of(words: &SiteWords<'_>) -> usize
+    ensures value { result ≡ box_limit_of words.now }
+    ensures most { result ≤ BOX_LIMIT }
+{
+    if own_count(words) > COMMAND_LINE_BOX_LIMIT {
+        COMMAND_LINE_BOX_LIMIT
+    } else {
+        BOX_LIMIT
+    }
 }

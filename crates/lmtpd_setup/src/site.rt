@@ -1,33 +1,43 @@
 //! The site that the program's words name.
 
-ghost use Rattle.std.specs.Prelude.{◌≡◌, ◌<◌, ◌⊎◌, ◌++◌, true, false, length, Some, None, IfOk, MatchResult};
+ghost use Rattle.std.specs.Prelude.{◌≡◌, ◌<◌, ◌≤◌, ◌⊎◌, ◌++◌, true, false, length, Some, None, IfOk, MatchResult};
 ghost use Rattle.std.specs.Arc.{arc_value};
 ghost use Rattle.mail_world.specs.Site.{IsSite};
+ghost use Rattle.mail_world.specs.declared.limits.TheConstants.{BOX_LIMIT};
 ghost use Rattle.std.specs.List.{list_all};
 ghost use Rattle.lmtp_text.specs.Sites.{site_of, texts};
 ghost use Rattle.lmtpd_words.specs.Words.{named_site, serving_site};
-ghost use Rattle.lmtpd_setup.specs.Faults.{first_fault, is_lock_name, is_usable_name, site_fault, site_of_one};
+ghost use Rattle.lmtpd_setup.specs.Faults.{fault_within, first_fault, is_lock_name, is_usable_name, site_fault};
+ghost use Rattle.lmtpd_setup.specs.Faults.{site_of_one};
 ghost use Rattle.lmtpd_setup.specs.Names.{IsNoSite};
 
 use crate::fault::Fault;
-use crate::names::{first_bad, refused_site};
+use crate::names::{box_limit_of, first_bad, refused_site};
 use crate::stop::Stop;
 use lmtp_text::Site;
 use lmtpd_words::{ServeWords, SiteWords};
 use std::alloc::{AllocError, Global};
 use std::sync::Arc;
 
-/// The site of these words. That there is a mailbox is looked at first; then each name is tried alone, so that a bad one
-/// comes before too many.
-pub fn site_of(alloc: Global, words: &SiteWords) -> Result<Site, Fault>
+/// The site of these words, which may name so many mailboxes. That there is one is looked at first; then each name is
+/// tried alone, so that a bad one comes before too many.
+pub fn site_of(alloc: Global, words: &SiteWords, limit: usize) -> Result<Site, Fault>
+    requires { limit ≤ BOX_LIMIT }
     ensures made { IfOk result (λ site. site ≡ named_site words.now) }
     ensures sound { IfOk result IsSite }
-    ensures order { MatchResult result (λ _. site_fault words.now ≡ None)
-        (λ fault. (fault ≡ Fault.Memory) ⊎ (site_fault words.now ≡ Some fault)) }
+    ensures order { MatchResult result (λ _. fault_within limit words.now ≡ None)
+        (λ fault. (fault ≡ Fault.Memory) ⊎ (fault_within limit words.now ≡ Some fault)) }
 {
     let domains = bytes_of(alloc, &words.domains)?;
     let host = words.host.as_bytes();
-    let site = make_site(alloc, host, &domains, words.mailbox_suffix, &words.boxes)?;
+    let site = make_site(
+        alloc,
+        host,
+        &domains,
+        words.mailbox_suffix,
+        &words.boxes,
+        limit,
+    )?;
     let site = site.with_message_limit(words.message_limit);
     let site = with_utf8_where_asked(site, words.smtputf8);
     let site = with_renamed_marks_where_asked(site, words.rename_marks);
@@ -100,7 +110,7 @@ fn shared_site(alloc: Global, words: &SiteWords) -> Result<Arc<Site>, Fault>
         (λ site. (arc_value site ≡ serving_site words.now) × (site_fault words.now ≡ None))
         (λ fault. (fault ≡ Fault.Memory) ⊎ (site_fault words.now ≡ Some fault)) }
 {
-    let site = site_of(alloc, words)?.with_busy_told();
+    let site = site_of(alloc, words, box_limit_of(words))?.with_busy_told();
     Ok(Arc::new(alloc, site)?)
 }
 
@@ -121,37 +131,42 @@ fn make_site(
     domains: &[&[u8]],
     suffix: &str,
     boxes: &[&[u8]],
+    limit: usize,
 ) -> Result<Site, Fault>
+    requires { limit ≤ BOX_LIMIT }
     ensures made { IfOk result (λ site. site ≡ site_of host.now domains.now boxes.now) }
     ensures sound { IfOk result IsSite }
     ensures order { let site = site_of host.now domains.now boxes.now in
-        MatchResult result (λ _. first_fault suffix.now site ≡ None)
-        (λ fault. (fault ≡ Fault.Memory) ⊎ (first_fault suffix.now site ≡ Some fault)) }
+        MatchResult result (λ _. first_fault limit suffix.now site ≡ None)
+        (λ fault. (fault ≡ Fault.Memory) ⊎ (first_fault limit suffix.now site ≡ Some fault)) }
 {
     if boxes.is_empty() {
         return Err(Fault::NoBox);
     }
-    try_each_box(alloc, host, domains, suffix, boxes)?;
+    try_each_box(alloc, host, domains, suffix, boxes, limit)?;
     let site = Site::new(alloc, host, domains, boxes)?;
     Ok(site)
 }
 
-// Host and domains are tried with the first name alone.
+// Host and domains are tried with the first name alone, and the number of names comes last.
 fn try_each_box(
     alloc: Global,
     host: &[u8],
     domains: &[&[u8]],
     suffix: &str,
     boxes: &[&[u8]],
+    limit: usize,
 ) -> Result<(), Fault>
     requires { 0 < length boxes.now }
-    ensures { MatchResult result (λ _. list_all (is_usable_name suffix.now) (texts boxes.now) ≡ true)
+    ensures { MatchResult result
+        (λ _. (list_all (is_usable_name suffix.now) (texts boxes.now) ≡ true) × (length boxes.now ≤ limit))
         (λ fault. (fault ≡ Fault.Memory)
-        ⊎ (first_fault suffix.now (site_of host.now domains.now boxes.now) ≡ Some fault)) }
+        ⊎ (first_fault limit suffix.now (site_of host.now domains.now boxes.now) ≡ Some fault)) }
 {
     try_box(alloc, host, domains, suffix, boxes[0])?;
     match first_bad(alloc, suffix, boxes)? {
         Some(_) => Err(Fault::Box),
+        None if boxes.len() > limit => Err(Fault::TooManyBoxes),
         None => Ok(()),
     }
 }
@@ -176,8 +191,8 @@ fn try_box(
     name: &[u8],
 ) -> Result<(), Fault>
     ensures { let site = site_of_one host.now domains.now name.now in
-        MatchResult result (λ _. first_fault suffix.now site ≡ None)
-        (λ fault. (fault ≡ Fault.Memory) ⊎ (first_fault suffix.now site ≡ Some fault)) }
+        MatchResult result (λ _. first_fault BOX_LIMIT suffix.now site ≡ None)
+        (λ fault. (fault ≡ Fault.Memory) ⊎ (first_fault BOX_LIMIT suffix.now site ≡ Some fault)) }
 {
     let _site = Site::new(alloc, host, domains, &[name])?;
     if is_lock_name(alloc, name, suffix)? {
