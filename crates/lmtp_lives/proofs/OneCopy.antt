@@ -415,7 +415,7 @@ module _ (outcome : Outcome) (end : TurnEnd) (lock unlock : Standing) (got : ℕ
         (record { ends = end ∷ []; are = (ended, tt); told = refl }) t b before after after x y y
 
     -- beside the channels of so few mailboxes none waits
-    one_waits : (t : Bool) → 1 ≡ capacity_of (handed t)
+    pub one_waits : (t : Bool) → 1 ≡ capacity_of (handed t)
     one_waits = two (λ t. 1 ≡ capacity_of (handed t)) refl refl
 
     unfoldable pub ran : (t : Bool) → HadIt t → HasRun (site_of t) (λ moment. ⊤) view spools (handed t) (back t)
