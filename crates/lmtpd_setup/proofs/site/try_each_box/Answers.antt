@@ -42,11 +42,11 @@ returns-in-None c =
     let found = subst (λ o. IsFoundAt (prefix_len usable (texts boxes)) (length boxes) o) c.in-None.is c.in_ok-first_bad.ensures in
     let all = all_good usable (texts boxes) (omega (arith, found, length-map boxes (λ (name : Bor (List ℕ)). name.now))) in
     inr (many_refused c.args.limit c.args.host.now c.args.domains.now boxes c.args.suffix.now (get_or boxes 0 no_name).now c.in_ok-try_box.ensures
-    (some_of_place c.args.host.now c.args.domains.now boxes 0 c.requires) all (is_over c.args.limit boxes c.if-boxes-gt-limit.true))
+    (some_of_place c.args.host.now c.args.domains.now boxes 0 c.requires) all (is_over c.args.limit boxes c.if-boxes-limit.true))
 
 pub returns-in-None-2 : goal.returns-in-None-2
 returns-in-None-2 c =
     let boxes = c.args.boxes.now in
     let usable = is_usable_name c.args.suffix.now in
     let found = subst (λ o. IsFoundAt (prefix_len usable (texts boxes)) (length boxes) o) c.in-None.is c.in_ok-first_bad.ensures in
-    (all_good usable (texts boxes) (omega (arith, found, length-map boxes (λ (name : Bor (List ℕ)). name.now))), omega (arith, c.if-boxes-gt-limit.false))
+    (all_good usable (texts boxes) (omega (arith, found, length-map boxes (λ (name : Bor (List ℕ)). name.now))), omega (arith, c.if-boxes-limit.false))
