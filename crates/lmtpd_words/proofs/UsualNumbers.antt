@@ -85,7 +85,7 @@ blocks_of_a_lane = refl
 pub blocks_at_25 : usual_blocks 4 26214400 ≡ 25600
 blocks_at_25 = refl
 
-pub most_of_a_boxes_file : BOXES_FILE_LIMIT ≡ 65536
+pub most_of_a_boxes_file : BOXES_FILE_LIMIT ≡ 16777216
 most_of_a_boxes_file = refl
 
 pub blocks_at_most : usual_blocks 64 268435456 ≡ 65536
