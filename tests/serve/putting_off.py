@@ -44,11 +44,11 @@ def a_locked_mailbox_of_a_thread(folder):
     for place, held in enumerate([bytes_held, name_held]):
         mail = folder / str(place)
         mail.mkdir()
-        with served(mail, 2, "--lock-wait", 60) as server:
-            with held(server.mailbox(BUSY)), waiting(server, BUSY, "hello") as client:
+        with served(mail, 2, "--lock-wait", 60) as server, contextlib.ExitStack() as clients:
+            with held(server.mailbox(BUSY)):
+                client = clients.enter_context(waiting(server, BUSY, "hello"))
                 time.sleep(0.2)
                 need_undisturbed(seconds_of_letters(server.address, OTHER, 40))
-                equal(letters.messages(server.mailbox(BUSY)), [])
             equal(client.hear(), stored(BUSY))
 
 
@@ -128,7 +128,9 @@ def a_mailbox_that_rests(folder):
         sending = threading.Thread(target=send_until, args=(server.address, BUSY, is_over, told))
         sending.start()
         try:
-            need_undisturbed(seconds_of_letters(server.address, OTHER, 1_000, RESTS + 3))
+            # the other one has a pause first, so that it needs no rest
+            time.sleep(RESTS - 5)
+            need_undisturbed(seconds_of_letters(server.address, OTHER, 1_000, 10))
         finally:
             is_over.set()
             sending.join()
