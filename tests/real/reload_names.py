@@ -19,7 +19,7 @@ REFUSED = [
     (WORDS, b"anna\nben\r\n\0\n", "lmtpd: bad box"),
     (WORDS, b"anna\n" + b"x" * 10_000 + b"\n", "lmtpd: bad box"),
     (WORDS, b"anna\nben # one\nanna\n", "lmtpd: box named twice"),
-    (WORDS, b"".join(b"box%d\n" % number for number in range(257)), "lmtpd: too many boxes"),
+    (WORDS, b"".join(b"box%d\n" % number for number in range(65_537)), "lmtpd: too many boxes"),
     (WORDS, b"anna\n\xff\n", "lmtpd: bad box"),
     (WORDS, b"# one\nanna\nFrieda\n", "[ERROR lmtpd] bad box name=Frieda file=/etc/lmtpd.boxes line=3"),
     (WORDS, b"anna\nben\nanna\n", "[ERROR lmtpd] box named twice name=anna file=/etc/lmtpd.boxes line=3"),

@@ -140,7 +140,7 @@ def a_file_of_mailboxes(folder):
         ("# anna\n", "no box"),
         ("anna\nBen\n", "bad box"),
         ("anna ben\n", "bad box"),
-        ("\n".join(MANY), "too many boxes"),
+        (lines(MOST + 1).decode(), "too many boxes"),
         ("anna\nben\nanna\n", "box named twice"),
     ]:
         boxes.write_text(text)
