@@ -4,9 +4,12 @@
 # side by side in rounds that take turns, how many letters a second 4 connections bring to 40 mailboxes of each; and that
 # each mailbox has just its letters. Over loopback, in a folder of mktemp, so TMPDIR says on which disk. LMTPD names a
 # program that is built already.
-# usage: bench/large_site.sh [MAILBOXES ..]: 256 65536 without numbers
+# usage: bench/large_site.sh --build or --try, which only builds, and here does nothing, or
+#        bench/large_site.sh [MAILBOXES ..]: 256 65536 without numbers
 set -euo pipefail
 cd "$(dirname "$0")/.."
 . tests/needs python3
+# nothing of it is built
+case "${1:-}" in --build | --try) exit 0 ;; esac
 . tests/built_program
 PYTHONPATH=$PYTHONPATH:$PWD/tests/serve exec python3 -B bench/large_site.py "$@"
