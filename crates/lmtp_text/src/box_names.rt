@@ -3,13 +3,14 @@
 ghost use Rattle.std.specs.Prelude.{◌≡◌, ◌<◌, [], ◌∷◌, ◌++◌, length, not, position, true, false, IfOk, IfSome};
 ghost use Rattle.std.specs.Prelude.{slice_get, unwrap_or, is_some};
 ghost use Rattle.std.specs.List.{list_all};
-ghost use Rattle.mail_world.specs.Site.{has_text, has_twice, is_box_name};
+ghost use Rattle.mail_world.specs.Site.{has_text, has_twice, is_listed_name};
 ghost use Rattle.mail_world.specs.Commands.{is_word};
-ghost use Rattle.mail_world.specs.Targets.{unescaped, local_name};
+ghost use Rattle.mail_world.specs.Targets.{local_name, place_of_address, place_of_local};
 ghost use Rattle.lmtp_text.specs.Seen.{seen_target};
 ghost use Rattle.lmtp_text.specs.Sites.{texts};
 
 use crate::command::Target;
+use crate::names::write_local;
 use indexmap::IndexSet;
 use mail_world::limits::BOX_NAME_LIMIT;
 use std::alloc::{AllocError, Global};
@@ -24,37 +25,51 @@ pub(crate) struct BoxNames {
 impl Model for BoxNames {
     ghost use Rattle.std.specs.Prelude.{◌≡◌, ℕ, List, true};
     ghost use Rattle.std.specs.List.{list_all};
-    ghost use Rattle.mail_world.specs.Site.{is_box_name};
+    ghost use Rattle.mail_world.specs.Site.{is_listed_name};
     ghost use Rattle.lmtp_text.specs.Sites.{owned};
 
     ghost Value = { List (List ℕ) };
 
     ghost view = { λ n. owned n.set.keys };
 
-    ghost invariant = { λ n. list_all is_box_name (owned n.set.keys) ≡ true };
+    ghost invariant = { λ n. list_all is_listed_name (owned n.set.keys) ≡ true };
 }
 
 impl BoxNames {
     /// These names in their order; none where two are the same.
     pub(crate) fn of(alloc: Global, names: &[&[u8]]) -> Result<Option<BoxNames>, AllocError>
-        requires { list_all is_box_name (texts names.now) ≡ true }
+        requires { list_all is_listed_name (texts names.now) ≡ true }
         ensures all { IfOk result (λ all. IfSome all (λ all. all ≡ texts names.now)) }
         ensures once { IfOk result (λ all. is_some all ≡ not (has_twice (texts names.now))) }
     {
         let mut all = BoxNames {
             set: IndexSet::with_capacity(alloc, names.len())?,
         };
+        if all.add_all(alloc, names)? {
+            Ok(Some(all))
+        } else {
+            Ok(None)
+        }
+    }
+
+    /// Further names behind these, in their order. Where two are the same then the answer is false, and some are there.
+    pub(crate) fn add_all(&mut self, alloc: Global, names: &[&[u8]]) -> Result<bool, AllocError>
+        requires { list_all is_listed_name (texts names.now) ≡ true }
+        ensures all { IfOk result (λ are_new. are_new ≡ true → self.new ≡ self.old ++ texts names.now) }
+        ensures once { has_twice self.old ≡ false
+            → IfOk result (λ are_new. are_new ≡ not (has_twice (self.old ++ texts names.now))) }
+    {
         for name in names {
-            if !all.add(alloc, name)? {
-                return Ok(None);
+            if !self.add(alloc, name)? {
+                return Ok(false);
             }
         }
-        Ok(Some(all))
+        Ok(true)
     }
 
     // One more name. Where it is there already nothing changes, and the answer is false.
     fn add(&mut self, alloc: Global, name: &[u8]) -> Result<bool, AllocError>
-        requires { is_box_name name.now ≡ true }
+        requires { is_listed_name name.now ≡ true }
         ensures is_new { IfOk result (λ is_new. is_new ≡ not (has_text self.old name.now)) }
         ensures more { IfOk result (λ is_new. is_new ≡ true → self.new ≡ self.old ++ name.now ∷ []) }
     {
@@ -79,56 +94,47 @@ impl BoxNames {
         }
     }
 
-    /// The place of the name that the target's local part is. It takes no memory.
-    pub(crate) fn place_of(&self, target: &Target) -> Option<usize>
-        ensures value { result ≡ position (λ name. is_word name (local_name (seen_target target.now))) self.now }
-        ensures within { IfSome result (λ place. place < length self.now) }
-    {
-        if target.quoted {
-            self.place_of_quoted(target.local)
-        } else {
-            self.place_of_text(target.local)
-        }
-    }
-
-    // The place of the name that the quoted text is once each backslash that begins a pair is taken away.
-    fn place_of_quoted(&self, text: &[u8]) -> Option<usize>
-        ensures value { result ≡ position (λ name. is_word name (unescaped false text.now)) self.now }
+    /// The place of the name that is just the target's address, where it has a domain. It takes no memory.
+    pub(crate) fn place_of_address(&self, target: &Target) -> Option<usize>
+        ensures value { result
+            ≡ place_of_address self.now (seen_target target.now).domain (local_name (seen_target target.now)) }
         ensures within { IfSome result (λ place. place < length self.now) }
     {
         let _ = &self.set;
-        let mut plain = [0; BOX_NAME_LIMIT];
-        let mut size = 0;
-        let mut escaped = false;
-        for b in text {
-            if !escaped && *b == b'\\' {
-                escaped = true;
-                continue;
-            }
-            if size == BOX_NAME_LIMIT {
-                return None;
-            }
-            plain[size] = *b;
-            size += 1;
-            escaped = false;
+        let domain = target.domain?;
+        let mut room = [0; BOX_NAME_LIMIT];
+        let size = write_local(&mut room, target)?;
+        if domain.len() >= BOX_NAME_LIMIT - size {
+            return None;
         }
-        self.place_of_text(&plain[..size])
+        room[size] = b'@';
+        let end = size + 1 + domain.len();
+        room[size + 1..end].copy_from_slice(domain);
+        self.place_of_text(&mut room[..end])
     }
 
-    // The place of the name that the text is, whatever the case of its letters. No name is longer than the limit.
-    fn place_of_text(&self, text: &[u8]) -> Option<usize>
-        ensures value { result ≡ position (λ name. is_word name text.now) self.now }
+    /// The place of the name that the target's local part is; none has an `@`. It takes no memory.
+    pub(crate) fn place_of_local(&self, target: &Target) -> Option<usize>
+        ensures value { result ≡ place_of_local self.now (local_name (seen_target target.now)) }
+        ensures within { IfSome result (λ place. place < length self.now) }
+    {
+        let _ = &self.set;
+        if target.local.contains(&b'@') {
+            return None;
+        }
+        let mut room = [0; BOX_NAME_LIMIT];
+        let size = write_local(&mut room, target)?;
+        self.place_of_text(&mut room[..size])
+    }
+
+    // The place of the name that the text is, whatever the case of its letters. They are small ones then.
+    fn place_of_text(&self, text: &mut [u8]) -> Option<usize>
+        ensures value { result ≡ position (λ name. is_word name text.old) self.now }
         ensures within { IfSome result (λ place. place < length self.now) }
     {
         let names = &self.set;
-        if text.len() > BOX_NAME_LIMIT {
-            return None;
-        }
-        let mut bytes = [0; BOX_NAME_LIMIT];
-        let lower = &mut bytes[..text.len()];
-        lower.copy_from_slice(text);
-        lower.make_ascii_lowercase();
-        let lower: &[u8] = lower;
+        text.make_ascii_lowercase();
+        let lower: &[u8] = text;
         names.get_index_of(lower)
     }
 }

@@ -8,6 +8,7 @@ mod alphabet;
 mod box_names;
 mod command;
 mod cut;
+mod first_addresses;
 mod names;
 mod offers;
 mod parameters;

@@ -1,6 +1,7 @@
 //! Whether a name is a word, whatever the case of its letters (RFC 5321, 2.4).
 
-ghost use Rattle.std.specs.Prelude.{◌≡◌, ◌==◌, false};
+ghost use Rattle.std.specs.Prelude.{◌≡◌, ◌==◌, ◌≤◌, ◌<◌, false, length, take};
+ghost use Rattle.std.specs.Option.{MatchOption};
 ghost use Rattle.std.specs.List.{before_first, list_any};
 ghost use Rattle.mail_world.specs.Commands.{is_word};
 ghost use Rattle.mail_world.specs.Targets.{unescaped, local_name, is_listed_as};
@@ -51,6 +52,55 @@ pub(crate) fn names(target: &Target, word: &[u8]) -> bool
     } else {
         is_word(target.local, word)
     }
+}
+
+/// Writes the target's local part to the room's front, without each backslash that begins a pair where it is quoted. The
+/// answer is its size; none where it is larger than the room.
+pub(crate) fn write_local(room: &mut [u8], target: &Target) -> Option<usize>
+    ensures size { length room.new ≡ length room.old }
+    ensures text { MatchOption result (length room.old < length (local_name (seen_target target.now)))
+        (λ size. (size ≤ length room.new) × (take size room.new ≡ local_name (seen_target target.now))) }
+{
+    if target.quoted {
+        write_unescaped(room, target.local)
+    } else {
+        write_plain(room, target.local)
+    }
+}
+
+fn write_plain(room: &mut [u8], text: &[u8]) -> Option<usize>
+    ensures size { length room.new ≡ length room.old }
+    ensures text { MatchOption result (length room.old < length text.now)
+        (λ size. (size ≤ length room.new) × (take size room.new ≡ text.now)) }
+{
+    if text.len() > room.len() {
+        return None;
+    }
+    room[..text.len()].copy_from_slice(text);
+    Some(text.len())
+}
+
+// The text without each backslash that begins a pair.
+fn write_unescaped(room: &mut [u8], text: &[u8]) -> Option<usize>
+    ensures size { length room.new ≡ length room.old }
+    ensures text { MatchOption result (length room.old < length (unescaped false text.now))
+        (λ size. (size ≤ length room.new) × (take size room.new ≡ unescaped false text.now)) }
+{
+    let mut size = 0;
+    let mut escaped = false;
+    for b in text {
+        if !escaped && *b == b'\\' {
+            escaped = true;
+            continue;
+        }
+        if size == room.len() {
+            return None;
+        }
+        room[size] = *b;
+        size += 1;
+        escaped = false;
+    }
+    Some(size)
 }
 
 /// The name stands for each domain.

@@ -2,16 +2,16 @@
 
 ghost use Rattle.std.specs.Prelude.{◌≡◌, length, option_map, IfSome, IfNone, Some, None, if◌then◌else◌, true};
 ghost use Rattle.std.specs.List.{list_all};
-ghost use Rattle.std.specs.Str.{byte};
-ghost use Rattle.mail_world.specs.Text.{begins};
 ghost use Rattle.mail_world.specs.Grammar.{is_between};
 ghost use Rattle.mail_world.specs.Site.{is_host_name, is_domain_name, is_box_name, has_text, has_twice, fault_of};
-ghost use Rattle.mail_world.specs.Site.{NamedTwice};
-ghost use Rattle.lmtp_text.specs.Sites.{texts, site_of, cause, is_of_host_name, is_of_box_name};
+ghost use Rattle.mail_world.specs.Site.{NamedTwice, is_listed_local, is_listed_domain, is_listed_name, listed_fault_of};
+ghost use Rattle.lmtp_text.specs.Sites.{texts, site_of, cause, is_of_host_name, is_of_box_name, is_of_listed_local};
+ghost use Rattle.lmtp_text.specs.Sites.{is_of_listed_domain, fault_of_others};
 
+use crate::cut::{begins_with_byte, cut_at};
 use crate::names::is_any_domain;
 use crate::site::SiteFault;
-use mail_world::limits::{BOX_LIMIT, BOX_NAME_LIMIT, NAME_LIMIT};
+use mail_world::limits::{BOX_LIMIT, GIVEN_NAME_LIMIT, LISTED_LOCAL_LIMIT, NAME_LIMIT};
 
 fn is_of_host_name(b: u8) -> bool
     ensures { result ≡ is_of_host_name b }
@@ -23,6 +23,18 @@ fn is_of_box_name(b: u8) -> bool
     ensures { result ≡ is_of_box_name b }
 {
     b.is_ascii_lowercase() || b.is_ascii_digit() || b"-_.".contains(&b)
+}
+
+fn is_of_listed_local(b: u8) -> bool
+    ensures { result ≡ is_of_listed_local b }
+{
+    b.is_ascii_lowercase() || b.is_ascii_digit() || b"-_.'+=".contains(&b)
+}
+
+fn is_of_listed_domain(b: u8) -> bool
+    ensures { result ≡ is_of_listed_domain b }
+{
+    b.is_ascii_lowercase() || b.is_ascii_digit() || b"-.".contains(&b)
 }
 
 fn has_size(text: &[u8], most: usize) -> bool
@@ -43,10 +55,16 @@ fn is_made_for_box(text: &[u8]) -> bool
     text.iter().all(|b| is_of_box_name(*b))
 }
 
-fn begins_with_dot(text: &[u8]) -> bool
-    ensures { result ≡ begins (byte ".") text.now }
+fn is_made_for_listed_local(text: &[u8]) -> bool
+    ensures { result ≡ list_all is_of_listed_local text.now }
 {
-    matches!(text, [b'.', ..])
+    text.iter().all(|b| is_of_listed_local(*b))
+}
+
+fn is_made_for_listed_domain(text: &[u8]) -> bool
+    ensures { result ≡ list_all is_of_listed_domain text.now }
+{
+    text.iter().all(|b| is_of_listed_domain(*b))
 }
 
 fn is_host_name(text: &[u8]) -> bool
@@ -58,7 +76,31 @@ fn is_host_name(text: &[u8]) -> bool
 fn is_box_name(text: &[u8]) -> bool
     ensures { result ≡ is_box_name text.now }
 {
-    has_size(text, BOX_NAME_LIMIT) && !begins_with_dot(text) && is_made_for_box(text)
+    has_size(text, GIVEN_NAME_LIMIT) && !begins_with_byte(text, b'.') && is_made_for_box(text)
+}
+
+fn is_listed_local(text: &[u8]) -> bool
+    ensures { result ≡ is_listed_local text.now }
+{
+    has_size(text, LISTED_LOCAL_LIMIT)
+        && !begins_with_byte(text, b'.')
+        && is_made_for_listed_local(text)
+}
+
+fn is_listed_domain(text: &[u8]) -> bool
+    ensures { result ≡ is_listed_domain text.now }
+{
+    has_size(text, NAME_LIMIT) && !begins_with_byte(text, b'.') && is_made_for_listed_domain(text)
+}
+
+/// Whether a list may have the name: a local part, or an address.
+fn is_listed_name(text: &[u8]) -> bool
+    ensures { result ≡ is_listed_name text.now }
+{
+    match cut_at(text, b'@') {
+        Some((local, domain)) => is_listed_local(local) && is_listed_domain(domain),
+        None => is_listed_local(text),
+    }
 }
 
 fn is_domain_name(text: &[u8]) -> bool
@@ -79,6 +121,13 @@ fn are_box_names(names: &[&[u8]]) -> bool
     names.iter().all(|name| is_box_name(name))
 }
 
+/// Whether a list may have each of the names.
+pub(crate) fn are_listed_names(names: &[&[u8]]) -> bool
+    ensures { result ≡ list_all is_listed_name (texts names.now) }
+{
+    names.iter().all(|name| is_listed_name(name))
+}
+
 fn has_text(names: &[&[u8]], text: &[u8]) -> bool
     ensures { result ≡ has_text (texts names.now) text.now }
 {
@@ -95,7 +144,7 @@ pub(crate) fn has_twice(names: &[&[u8]]) -> bool
     }
 }
 
-/// The first rule but `Twice` that a site of these names would break.
+/// The first rule but `Twice` that a site of these names would break, each given by itself.
 pub(crate) fn first_fault(host: &[u8], domains: &[&[u8]], boxes: &[&[u8]]) -> Option<SiteFault>
     ensures some { IfSome result (λ fault.
         option_map cause (fault_of (site_of host.now domains.now boxes.now)) ≡ Some fault) }
@@ -103,14 +152,46 @@ pub(crate) fn first_fault(host: &[u8], domains: &[&[u8]], boxes: &[&[u8]]) -> Op
         ≡ (if has_twice (texts boxes.now) then Some NamedTwice else None)) }
     ensures named { IfNone result (list_all is_box_name (texts boxes.now) ≡ true) }
 {
+    if let Some(fault) = first_fault_of_others(host, domains, boxes.len()) {
+        Some(fault)
+    } else if !are_box_names(boxes) {
+        Some(SiteFault::Box)
+    } else {
+        None
+    }
+}
+
+/// The first rule but `Twice` that a site of these names would break, which a list has.
+pub(crate) fn first_listed_fault(
+    host: &[u8],
+    domains: &[&[u8]],
+    boxes: &[&[u8]],
+) -> Option<SiteFault>
+    ensures some { IfSome result (λ fault.
+        option_map cause (listed_fault_of (site_of host.now domains.now boxes.now)) ≡ Some fault) }
+    ensures none { IfNone result (listed_fault_of (site_of host.now domains.now boxes.now)
+        ≡ (if has_twice (texts boxes.now) then Some NamedTwice else None)) }
+    ensures named { IfNone result (list_all is_listed_name (texts boxes.now) ≡ true) }
+{
+    if let Some(fault) = first_fault_of_others(host, domains, boxes.len()) {
+        Some(fault)
+    } else if !are_listed_names(boxes) {
+        Some(SiteFault::Box)
+    } else {
+        None
+    }
+}
+
+// The first rule that host, domains and how many mailboxes there are would break.
+fn first_fault_of_others(host: &[u8], domains: &[&[u8]], count: usize) -> Option<SiteFault>
+    ensures { result ≡ fault_of_others host.now (texts domains.now) count }
+{
     if !is_host_name(host) {
         Some(SiteFault::Host)
     } else if !are_domain_names(domains) {
         Some(SiteFault::Domain)
-    } else if !(1..=BOX_LIMIT).contains(&boxes.len()) {
+    } else if !(1..=BOX_LIMIT).contains(&count) {
         Some(SiteFault::Count)
-    } else if !are_box_names(boxes) {
-        Some(SiteFault::Box)
     } else {
         None
     }

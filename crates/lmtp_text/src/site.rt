@@ -1,18 +1,20 @@
 //! What a server is named and serves.
 
-ghost use Rattle.std.specs.Prelude.{◌≡◌, ◌≤◌, ◌<◌, [], Some, None, length, slice_get, unwrap_or, option_map, IfOk};
+ghost use Rattle.std.specs.Prelude.{◌≡◌, ◌≤◌, ◌<◌, [], ◌++◌, Some, None, length, slice_get, unwrap_or, option_map, IfOk};
 ghost use Rattle.std.specs.Prelude.{IfErr, IfSome, true, false};
 ghost use Rattle.std.specs.List.{list_all};
 ghost use Rattle.mail_world.specs.Site.{Fault, IsSite, IsDelimiter, IsMessageLimit, fault_of, box_name, is_delimiter};
-ghost use Rattle.mail_world.specs.Site.{extensions_of, is_box_name, has_twice};
-ghost use Rattle.mail_world.specs.Targets.{is_here, box_named, box_of, local_name, user_of};
+ghost use Rattle.mail_world.specs.Site.{extensions_of, is_box_name, has_twice, listed_fault_of};
+ghost use Rattle.mail_world.specs.Targets.{is_here, box_named, box_by_name, box_of, local_name, user_of, knows_domain};
+ghost use Rattle.mail_world.specs.Targets.{first_at};
 ghost use Rattle.lmtp_text.specs.Seen.{seen_target};
-ghost use Rattle.lmtp_text.specs.Sites.{texts, site_of, cause, owned};
+ghost use Rattle.lmtp_text.specs.Sites.{texts, site_of, site_with, cause, owned, IsListedFault};
 
 use crate::box_names::BoxNames;
 use crate::command::Target;
+use crate::first_addresses::FirstAddresses;
 use crate::names::{is_listed, is_word, names, user_of};
-use crate::rules::{first_fault, has_twice};
+use crate::rules::{are_listed_names, first_fault, first_listed_fault, has_twice};
 use mail_world::Extensions;
 use mail_world::limits::{BOX_LIMIT, BOX_NAME_LIMIT, MESSAGE_LIMIT, NAME_LIMIT};
 use std::alloc::{AllocError, Global};
@@ -55,6 +57,7 @@ pub struct Site {
     host: Vec<u8>,
     domains: Vec<Vec<u8>>,
     boxes: BoxNames,
+    firsts: FirstAddresses,
     message_limit: u32,
     recipient_delimiter: Option<u8>,
     utf8: bool,
@@ -76,7 +79,7 @@ impl Model for Site {
 
     ghost Value = { m.Site };
 
-    ghost use Rattle.lmtp_text.specs.Sites.{owned};
+    ghost use Rattle.lmtp_text.specs.Sites.{owned, AreFirsts};
 
     ghost view = { λ s. record {
       host = s.host.items;
@@ -103,7 +106,7 @@ impl Model for Site {
           refuses_malformed = s.refuses_malformed;
           rejects_over_quota = s.rejects_over_quota;
           tells_busy = s.tells_busy;
-        }) };
+        }) × AreFirsts s.boxes s.firsts };
 }
 
 fn copied(alloc: Global, names: &[&[u8]]) -> Result<Vec<Vec<u8>>, AllocError>
@@ -154,12 +157,48 @@ impl Site {
             return Err(fault);
         }
         let boxes = names_of(alloc, boxes)?;
+        let site = Site::with_names(alloc, host, domains, boxes)?;
+        Ok(site)
+    }
+
+    /// A site whose mailboxes' names a list has: each a local part of 1 to 64 bytes, or an address. It is else as `new`
+    /// makes it. Lack of memory may come before `Twice`.
+    pub fn of_list(
+        alloc: Global,
+        host: &[u8],
+        domains: &[&[u8]],
+        names: &[&[u8]],
+    ) -> Result<Site, SiteFault>
+        ensures made { IfOk result (λ site. site ≡ site_of host.now domains.now names.now) }
+        ensures sound { IfOk result IsSite }
+        ensures refused { IfErr result (IsListedFault (site_of host.now domains.now names.now)) }
+    {
+        if let Some(fault) = first_listed_fault(host, domains, names) {
+            return Err(fault);
+        }
+        match BoxNames::of(alloc, names)? {
+            Some(boxes) => Ok(Site::with_names(alloc, host, domains, boxes)?),
+            None => Err(SiteFault::Twice),
+        }
+    }
+
+    fn with_names(
+        alloc: Global,
+        host: &[u8],
+        domains: &[&[u8]],
+        boxes: BoxNames,
+    ) -> Result<Site, AllocError>
+        requires { listed_fault_of (site_with host.now (texts domains.now) boxes) ≡ None }
+        ensures { IfOk result (λ site. site ≡ site_with host.now (texts domains.now) boxes) }
+    {
         let host = host.to_vec(alloc)?;
         let domains = copied(alloc, domains)?;
+        let firsts = FirstAddresses::of(alloc, &boxes)?;
         Ok(Site {
             host,
             domains,
             boxes,
+            firsts,
             message_limit: MESSAGE_LIMIT,
             recipient_delimiter: None,
             utf8: false,
@@ -167,6 +206,32 @@ impl Site {
             refuses_malformed: false,
             rejects_over_quota: false,
             tells_busy: false,
+        })
+    }
+
+    /// The same site with further mailboxes, whose names a list has: each a local part of 1 to 64 bytes, or an address.
+    /// Of several broken rules the answer is the first in the order `Count`, `Box`, `Twice`, before which lack of memory
+    /// may come.
+    pub fn with_listed(self, alloc: Global, names: &[&[u8]]) -> Result<Site, SiteFault>
+        ensures made { IfOk result (λ site. site ≡ record self { boxes = self.boxes ++ texts names.now }) }
+        ensures sound { IfOk result IsSite }
+        ensures refused { IfErr result (IsListedFault (record self { boxes = self.boxes ++ texts names.now })) }
+    {
+        if names.len() > BOX_LIMIT - self.boxes.len() {
+            return Err(SiteFault::Count);
+        }
+        if !are_listed_names(names) {
+            return Err(SiteFault::Box);
+        }
+        let mut boxes = self.boxes;
+        if !boxes.add_all(alloc, names)? {
+            return Err(SiteFault::Twice);
+        }
+        let firsts = FirstAddresses::of(alloc, &boxes)?;
+        Ok(Site {
+            boxes,
+            firsts,
+            ..self
         })
     }
 
@@ -333,20 +398,17 @@ impl Site {
         ensures value { result ≡ box_of self.now (seen_target target.now) }
         ensures known { IfSome result (λ n. n < length self.now.boxes) }
     {
-        if !self.serves(target.domain) {
-            return None;
-        }
         match self.named(target) {
             Some(n) => Some(n),
             None => self.user_named(target),
         }
     }
 
-    // The mailbox of the user in a local part that is no mailbox's name.
+    // The mailbox of the user in a local part that has none itself.
     fn user_named(&self, target: &Target) -> Option<u32>
-        requires { box_named self.now.boxes (local_name (seen_target target.now)) ≡ None }
-        ensures value { result
-            ≡ box_named self.now.boxes (user_of self.now.recipient_delimiter (local_name (seen_target target.now))) }
+        requires { box_by_name self.now (seen_target target.now) ≡ None }
+        ensures value { result ≡ box_named self.now (seen_target target.now).domain
+            (user_of self.now.recipient_delimiter (local_name (seen_target target.now))) }
         ensures known { IfSome result (λ n. n < length self.now.boxes) }
     {
         match self.recipient_delimiter {
@@ -355,19 +417,41 @@ impl Site {
         }
     }
 
-    // The mailbox that has the local part as its name, and for `postmaster` where none has the first.
+    // The mailbox of the local part at the target's domain.
     fn named(&self, target: &Target) -> Option<u32>
-        ensures value { result ≡ box_named self.now.boxes (local_name (seen_target target.now)) }
+        ensures value { result ≡ box_by_name self.now (seen_target target.now) }
         ensures known { IfSome result (λ n. n < length self.now.boxes) }
     {
-        match self.boxes.place_of(target) {
-            Some(n) => Some(n as u32),
-            None if names(target, b"postmaster") => Some(0),
+        if let Some(place) = self.boxes.place_of_address(target) {
+            return Some(place as u32);
+        }
+        let is_here = self.serves(target.domain);
+        if is_here {
+            if let Some(place) = self.boxes.place_of_local(target) {
+                return Some(place as u32);
+            }
+        }
+        if !names(target, b"postmaster") {
+            None
+        } else if is_here {
+            Some(0)
+        } else {
+            self.first_at(target.domain)
+        }
+    }
+
+    // The mailbox of the first address at a domain.
+    fn first_at(&self, domain: Option<&[u8]>) -> Option<u32>
+        ensures value { result ≡ first_at self.now.boxes (option_map (λ d. d.now) domain.entry) }
+        ensures known { IfSome result (λ n. n < length self.now.boxes) }
+    {
+        match domain {
+            Some(domain) => self.firsts.place_at(domain),
             None => None,
         }
     }
 
-    /// Whether it serves that domain, or an address that names none; it serves none in brackets.
+    /// Whether the domain is the site's, or an address names none; none in brackets is.
     pub fn serves(&self, domain: Option<&[u8]>) -> bool
         ensures { result ≡ is_here self.now (option_map (λ d. d.now) domain.entry) }
     {
@@ -375,5 +459,12 @@ impl Site {
             None => true,
             Some(domain) => is_word(domain, &self.host) || is_listed(domain, &self.domains),
         }
+    }
+
+    /// Whether the domain is the site's, or a listed address is at it.
+    pub fn knows(&self, domain: Option<&[u8]>) -> bool
+        ensures { result ≡ knows_domain self.now (option_map (λ d. d.now) domain.entry) }
+    {
+        self.serves(domain) || self.first_at(domain).is_some()
     }
 }

@@ -11,6 +11,7 @@ use thiserror::Error;
 
 pub mod laws;
 pub mod limits;
+pub mod listed;
 pub mod rows;
 pub mod runs;
 pub mod steps;

@@ -9,8 +9,14 @@ pub const PATH_LIMIT: usize = 254;
 /// A client's name, a host's name, a domain, in bytes.
 pub const NAME_LIMIT: usize = 255;
 
-/// A mailbox's name, in bytes.
-pub const BOX_NAME_LIMIT: usize = 32;
+/// A mailbox's name where it is given by itself, in bytes.
+pub const GIVEN_NAME_LIMIT: usize = 32;
+
+/// The local part in a mailbox's name that a list has, in bytes (RFC 5321, 4.5.3.1.1).
+pub const LISTED_LOCAL_LIMIT: usize = 64;
+
+/// Any mailbox's name, in bytes: an address with the longest local part and the longest domain.
+pub const BOX_NAME_LIMIT: usize = 320;
 
 /// A message with its CRLFs and without the dots of transparency, in bytes, where a site names no other limit.
 pub const MESSAGE_LIMIT: u32 = 1_048_576;
