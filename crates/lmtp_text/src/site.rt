@@ -446,7 +446,10 @@ impl Site {
         ensures known { IfSome result (λ n. n < length self.now.boxes) }
     {
         match domain {
-            Some(domain) => self.firsts.place_at(domain),
+            Some(domain) => match self.firsts.place_at(domain) {
+                Some(place) => Some(place as u32),
+                None => None,
+            },
             None => None,
         }
     }
