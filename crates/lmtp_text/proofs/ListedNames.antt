@@ -61,6 +61,18 @@ domain_listed name e a = second (is_address name) a (prefix_true (is_listed_loca
     second true a e = e
     second false a e = cc
 
+-- the rule for a name, from its parts
+pub address_rule : (name : List ℕ) → is_address name ≡ true → is_listed_local (local_of name) ≡ true
+    → is_listed_domain (domain_of name) ≡ is_listed_name name
+address_rule name a e = rw (e, a) refl
+
+pub local_rule : (name : List ℕ) → is_address name ≡ false → is_listed_local name ≡ is_listed_name name
+local_rule name a = rw (whole_local name a, a) (sym (and_true (is_listed_local name)))
+  where
+    and_true : (b : Bool) → (b && true) ≡ b
+    and_true true = refl
+    and_true false = refl
+
 local_size : (text : List ℕ) → is_listed_local text ≡ true → length text ≤ LISTED_LOCAL_LIMIT
 local_size text e = grind (arith, nat_tests, prefix_true)
 

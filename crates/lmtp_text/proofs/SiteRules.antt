@@ -79,3 +79,40 @@ name_in (x ∷ xs) (suc i) e = name_in xs i (prefix_true _ _ e).1
 -- a mailbox's name has a bounded length, and so has that of no mailbox
 pub box_name-bounded : (site : Site) (i : ℕ) → IsSite site → length (box_name site i) ≤ BOX_NAME_LIMIT
 box_name-bounded site i sound = name_in site.boxes i (boxes_named site sound)
+
+pub box_bound : (site : Site) → AreKept is_listed_name site → length site.boxes ≤ BOX_LIMIT
+box_bound site kept = let count = kept.count in grind (arith, nat_tests)
+
+list_all-append : (p : List ℕ → Bool) (xs ys : List (List ℕ)) → list_all p xs ≡ true → list_all p (xs ++ ys) ≡ list_all p ys
+list_all-append p [] ys e = refl
+list_all-append p (x ∷ xs) ys e = let q = prefix_true (p x) (list_all p xs) e in rw (q.0, list_all-append p xs ys q.1) refl
+
+-- a site with further mailboxes
+abbrev pub more_boxes : Site → List (List ℕ) → Site
+more_boxes site names = record site { boxes = site.boxes ++ names }
+
+module _ (site : Site) (names : List (List ℕ)) (kept : AreKept is_listed_name site) where
+  pub more_count : BOX_LIMIT < length site.boxes + length names → listed_fault_of (more_boxes site names) ≡ Some BadCount
+  more_count h =
+      let n = length-append site.boxes names in
+      let few : ((length (site.boxes ++ names) == 0) || nat_lt BOX_LIMIT (length (site.boxes ++ names))) ≡ true = grind (arith, nat_tests) in
+      rw (kept.host, kept.domains, few) refl
+
+  few_enough : length site.boxes + length names ≤ BOX_LIMIT
+      → ((length (site.boxes ++ names) == 0) || nat_lt BOX_LIMIT (length (site.boxes ++ names))) ≡ false
+  few_enough h =
+      let n = length-append site.boxes names in
+      let count = kept.count in
+      grind (arith, nat_tests)
+
+  pub more_bad : length site.boxes + length names ≤ BOX_LIMIT → list_all is_listed_name names ≡ false
+      → listed_fault_of (more_boxes site names) ≡ Some BadBox
+  more_bad h e = rw (kept.host, kept.domains, few_enough h, list_all-append is_listed_name site.boxes names kept.names, e) refl
+
+  pub more_twice : length site.boxes + length names ≤ BOX_LIMIT → list_all is_listed_name names ≡ true
+      → has_twice (site.boxes ++ names) ≡ true → listed_fault_of (more_boxes site names) ≡ Some NamedTwice
+  more_twice h e t = rw (kept.host, kept.domains, few_enough h, list_all-append is_listed_name site.boxes names kept.names, e, t) refl
+
+  pub more_sound : length site.boxes + length names ≤ BOX_LIMIT → list_all is_listed_name names ≡ true
+      → has_twice (site.boxes ++ names) ≡ false → listed_fault_of (more_boxes site names) ≡ None
+  more_sound h e t = rw (kept.host, kept.domains, few_enough h, list_all-append is_listed_name site.boxes names kept.names, e, t) refl
