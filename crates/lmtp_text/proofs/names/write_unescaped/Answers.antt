@@ -1,8 +1,7 @@
-use Rattle.std.proofs.Common.{◌≡◌, false, arith, get_or, ◌∙◌}
+use Rattle.std.proofs.Common.{◌≡◌, false, arith, get_or}
 use Rattle.std.specs.Prelude.{not, ◌&&◌, ◌==◌}
 use Rattle.std.proofs.lemmas.Bool.Decides.{nat_tests}
-use Rattle.std.proofs.lemmas.List.{length-set}
-use Rattle.lmtp_text.proofs.WordSteps.{plain_step, plain_beyond}
+use Rattle.lmtp_text.proofs.WordSteps.{plain_beyond}
 use Rattle.lmtp_text.proofs.names.write_unescaped.Goals as goal
 use Rattle.lmtp_text.proofs.names.write_unescaped.Goals.{else-not-escaped-via-then-not-escaped+else-b-eq92, else-not-escaped-via-else-not-escaped}
 
