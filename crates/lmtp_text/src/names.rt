@@ -106,10 +106,10 @@ fn write_unescaped(room: &mut [u8], text: &[u8]) -> Option<usize>
         (λ size. (size ≤ length room.new) × (take size room.new ≡ unescaped false text.now)) }
 {
     let mut size = 0;
-    let mut escaped = false;
+    let mut in_pair = false;
     for b in text {
-        if !escaped && *b == b'\\' {
-            escaped = true;
+        if !in_pair && *b == b'\\' {
+            in_pair = true;
             continue;
         }
         if size == room.len() {
@@ -117,7 +117,7 @@ fn write_unescaped(room: &mut [u8], text: &[u8]) -> Option<usize>
         }
         room[size] = *b;
         size += 1;
-        escaped = false;
+        in_pair = false;
     }
     Some(size)
 }
