@@ -387,7 +387,7 @@ const CHECK_WORDS: Argument = Argument {
 const BOXES_FILE: Argument = Argument {
     name: "boxes",
     value: "FILE",
-    help: "A file of 16 MiB at most that lists further mailboxes, serve's up to 65536; # begins a comment [default: none]",
+    help: "A file of 16 MiB at most of further mailboxes, serve's up to 65536; names of up to 64, ', + and = too [default: none]",
     is_required: false,
     kind: ValueKind::Text,
 };
