@@ -3,7 +3,6 @@
 from replies import CLOSING, GO_AHEAD, RECIPIENT_OK, over_quota, stored
 from rows import HELLO, HELLO_STORED, OPENED, PROLOGUE, TO_ANNA, Row, record
 
-
 # names that the words may not have
 LONGER = ["o'brien", "anna+x", "a=b", "c" * 33, "d" * 64]
 

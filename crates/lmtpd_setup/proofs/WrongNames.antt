@@ -8,7 +8,7 @@ use Rattle.std.specs.List.{list_all, prefix_len}
 use Rattle.std.specs.Str.{bytes_eq}
 use Rattle.std.proofs.lemmas.Bool.Decides.{nat_tests}
 use Rattle.std.proofs.lemmas.Cmp.{nat_list_eq_equiv}
-use Rattle.std.proofs.lemmas.List.{drop_more, length-drop, length-map, length-take, map-append, take_more}
+use Rattle.std.proofs.lemmas.List.{drop-map, drop_more, length-drop, length-map, length-take, map-append, take-map, take_more}
 use Rattle.mail_world.specs.Site.{has_text, has_twice, is_host_name, is_domain_name}
 use Rattle.lmtp_text.specs.Sites.{texts}
 use Rattle.lmtpd_words.specs.Boxes.{listed_boxes}
@@ -147,6 +147,44 @@ pub one_unusable : (suffix : List ℕ) (own : ℕ) (names : List (List ℕ)) →
     → are_usable_names suffix own names ≡ false
 one_unusable suffix own names within before =
     bad_by suffix own names (nat_lt (prefix_len (is_usable_name suffix) (take own names)) own) refl within before
+
+-- the place of the first bad one, found among the words' own, then among the others; and where there is none
+pub found_own : (suffix : List ℕ) (own : ℕ) (names : List (Bor (List ℕ))) (place : ℕ) → own ≤ length names
+    → (place ≡ prefix_len (is_usable_name suffix) (texts (take own names))) × (place < length (take own names))
+    → (place ≡ bad_place suffix own (texts names)) × (place < length names)
+found_own suffix own names place within found =
+    let same : texts (take own names) ≡ take own (texts names) = sym (take-map (λ (name : Bor (List ℕ)). name.now) own names) in
+    let usable : place ≡ prefix_len (is_usable_name suffix) (take own (texts names)) = found.0 ∙ ap (prefix_len (is_usable_name suffix)) same in
+    let most = length-take own names in
+    (usable ∙ sym (bad_own suffix own (texts names) (omega (arith, usable, found.1, most, within))), omega (arith, found.1, most, within))
+
+none_own : (suffix : List ℕ) (own : ℕ) (names : List (Bor (List ℕ))) → own ≤ length names
+    → length (take own names) ≤ prefix_len (is_usable_name suffix) (texts (take own names))
+    → bad_place suffix own (texts names) ≡ own + prefix_len (is_usable_listed_name suffix) (texts (drop own names))
+none_own suffix own names within none =
+    let same : texts (take own names) ≡ take own (texts names) = sym (take-map (λ (name : Bor (List ℕ)). name.now) own names) in
+    let rest : texts (drop own names) ≡ drop own (texts names) = sym (drop-map (λ (name : Bor (List ℕ)). name.now) own names) in
+    let usable : prefix_len (is_usable_name suffix) (texts (take own names)) ≡ prefix_len (is_usable_name suffix) (take own (texts names)) =
+    ap (prefix_len (is_usable_name suffix)) same in
+    let most = length-take own names in
+    bad_listed suffix own (texts names) (omega (arith, usable, none, most, within))
+    ∙ ap (λ l. own + prefix_len (is_usable_listed_name suffix) l) (sym rest)
+
+pub found_listed : (suffix : List ℕ) (own : ℕ) (names : List (Bor (List ℕ))) (place : ℕ) → own ≤ length names
+    → length (take own names) ≤ prefix_len (is_usable_name suffix) (texts (take own names))
+    → (place ≡ prefix_len (is_usable_listed_name suffix) (texts (drop own names))) × (place < length (drop own names))
+    → (own + place ≡ bad_place suffix own (texts names)) × (own + place < length names)
+found_listed suffix own names place within none found =
+    let less = length-drop own names in
+    (ap (λ n. own + n) found.0 ∙ sym (none_own suffix own names within none), omega (arith, found.1, less, within))
+
+pub found_none : (suffix : List ℕ) (own : ℕ) (names : List (Bor (List ℕ))) → own ≤ length names
+    → length (take own names) ≤ prefix_len (is_usable_name suffix) (texts (take own names))
+    → length (drop own names) ≤ prefix_len (is_usable_listed_name suffix) (texts (drop own names))
+    → length names ≤ bad_place suffix own (texts names)
+found_none suffix own names within none all =
+    let less = length-drop own names in
+    omega (arith, none_own suffix own names within none, all, less, within)
 
 shuffle : (a e t b : Bool) → ((a || e) || (t || b)) ≡ ((a || t) || (e || b))
 shuffle true e t b = refl
