@@ -1,13 +1,13 @@
 -- The order in which the program says what is wrong with a site, against the site's own.
 use Rattle.std.proofs.Common.{◌≡◌, ◌∙◌, ◌⊎◌, ◌<◌, ◌≤◌, ◌∷◌, ◌++◌, [], inl, inr, ap, sym, subst, ℕ, Bool, true, false, List, length, Option, Some, None, refl, cond, arith, true≢false}
 use Rattle.std.proofs.Common.{drop, map, option_map, take}
-use Rattle.std.specs.Prelude.{not, ◌||◌, ◌==◌, ◌&&◌, nat_lt, Err, Result}
+use Rattle.std.specs.Prelude.{not, ◌||◌, ◌==◌, ◌&&◌, nat_lt, suc, Err, IfErr, IfOk, Ok, Result}
 use Rattle.std.specs.Borrow.{Bor}
 use Rattle.std.specs.List.{list_all}
 use Rattle.std.specs.Str.{bytes_eq}
 use Rattle.std.proofs.lemmas.Bool.{eqb-true}
 use Rattle.std.proofs.lemmas.Bool.Decides.{nat_tests}
-use Rattle.std.proofs.lemmas.List.{length-map, map-append, take-append-drop}
+use Rattle.std.proofs.lemmas.List.{drop-map, length-map, length-take, map-append, take-append-drop, take-map}
 use Rattle.std.proofs.lemmas.List.Folds.{list_all-append}
 use Rattle.mail_world.specs.Site.{Site, Fault as Rule, BadHost, BadDomain, BadCount, BadBox, NamedTwice, IsSite, fault_of, is_host_name, is_domain_name}
 use Rattle.mail_world.specs.Site.{is_address, is_box_name, is_listed_name, has_text, has_twice, listed_fault_of}
@@ -149,9 +149,17 @@ once_said : (u c t : Bool) → u ≡ true → c ≡ false → t ≡ false
     → cond (not u) (Some fault.Box) (cond c (Some fault.TooManyBoxes) (cond t (Some fault.BoxTwice) None)) ≡ None
 once_said u c t all few once = rw (all, few, once) refl
 
+-- a site of names has none exactly where there are none
+pub none_of_none : (host : List ℕ) (domains boxes : List (Bor (List ℕ))) (t : Bool) → t ≡ (length boxes == 0) → has_none (site_of host domains boxes) ≡ t
+none_of_none host domains boxes t e = ap (λ n. n == 0) (length-map boxes (λ (name : Bor (List ℕ)). name.now)) ∙ sym e
+
 not_zero : (n : ℕ) (t : Bool) → (n == 0) ≡ t → 0 < n → t ≡ false
 not_zero n true e above = absurd (omega (arith, eqb-true n 0 e, above))
 not_zero n false e above = refl
+
+above_zero : (n : ℕ) → (n == 0) ≡ false → 0 < n
+above_zero 0 e = cc
+above_zero (suc n) e = omega arith
 
 pub some_names : (names : List (List ℕ)) → 0 < length names → (length names == 0) ≡ false
 some_names names above = not_zero (length names) (length names == 0) refl above
@@ -202,7 +210,7 @@ rule_left false d n c b t host some few all = cc
 rule_left true false n c b t host some few all = cc
 rule_left true true n c b t host some few all = rw (some, few, all) refl
 
-abbrev few_names : List (List ℕ) → Type 0
+abbrev pub few_names : List (List ℕ) → Type 0
 few_names names = (0 < length names) × (length names ≤ BOX_LIMIT)
 
 given_left : (site : Site) → host_fault site.host site.domains ≡ None → few_names site.boxes → list_all is_box_name site.boxes ≡ true
@@ -295,3 +303,45 @@ pub with_others : (host : List ℕ) (domains boxes : List (Bor (List ℕ))) (own
 with_others host domains boxes own site is =
     ap (λ (s : Site). record s { boxes = s.boxes ++ texts (drop own boxes) }) is
     ∙ ap (λ (names : List (List ℕ)). record (site_of host domains boxes) { boxes = names }) (both_parts own boxes)
+
+-- what is answered for the first names is for all
+pub given_in_all : (host : List ℕ) (domains boxes : List (Bor (List ℕ))) (own : ℕ) (e : SiteFault) → host_fault host (texts domains) ≡ None
+    → (0 < length boxes) × (length boxes ≤ BOX_LIMIT) → own ≤ length boxes → (own == 0) ≡ false
+    → list_all is_box_name (take own (texts boxes)) ≡ true
+    → ((rule : Rule) → fault_of (site_of host domains (take own boxes)) ≡ Some rule → ◌≡◌ {A = Result Site SiteFault} (Err e) (Err (cause rule)))
+    → (fault_of (site_of host domains (take own boxes)) ≡ None → e ≡ faults.Memory) → IsTwiceOrMemory (texts boxes) e
+given_in_all host domains boxes own e good count within some named broken whole =
+    let first = take own boxes in
+    let same = length-map first (λ (name : Bor (List ℕ)). name.now) in
+    let most = length-take own boxes in
+    let above : 0 < own = above_zero own some in
+    let few : few_names (texts first) = (omega (arith, same, most, above, within), omega (arith, same, most, within, count.1)) in
+    let named_first : list_all is_box_name (texts first) ≡ true =
+    subst (λ l. list_all is_box_name l ≡ true) (take-map (λ (name : Bor (List ℕ)). name.now) own boxes) named in
+    twice_in_all own boxes e (given_refused (site_of host domains first) e good few named_first broken whole)
+
+-- the site of the first names with the others
+pub made_of_all : (host : List ℕ) (domains boxes : List (Bor (List ℕ))) (own : ℕ) (site : Site) (made : Result Site SiteFault)
+    → site ≡ site_of host domains (take own boxes)
+    → IfOk made (λ s. s ≡ record site { boxes = site.boxes ++ texts (drop own boxes) }) → IfOk made (λ s. s ≡ site_of host domains boxes)
+made_of_all host domains boxes own site made is all =
+    subst (λ (whole : Site). IfOk made (λ s. s ≡ whole)) (with_others host domains boxes own site is) all
+
+listed_of : (made : Result Site SiteFault) (site : Site) → host_fault site.host site.domains ≡ None → few_names site.boxes
+    → list_all is_listed_name site.boxes ≡ true → IfErr made (IsListedFault site) → IfErr made (IsTwiceOrMemory site.boxes)
+listed_of (Ok s) site good few named refused = tt
+listed_of (Err e) site good few named refused = listed_refused site e good few named refused
+
+pub listed_in_all : (host : List ℕ) (domains boxes : List (Bor (List ℕ))) (own : ℕ) (site : Site) (made : Result Site SiteFault)
+    → host_fault host (texts domains) ≡ None → (0 < length boxes) × (length boxes ≤ BOX_LIMIT)
+    → site ≡ site_of host domains (take own boxes) → IsSite site → list_all is_listed_name (drop own (texts boxes)) ≡ true
+    → IfErr made (IsListedFault (record site { boxes = site.boxes ++ texts (drop own boxes) })) → IfErr made (IsTwiceOrMemory (texts boxes))
+listed_in_all host domains boxes own site made good count is sound listed refused =
+    let first : list_all is_listed_name (texts (take own boxes)) ≡ true =
+    subst (λ (s : Site). list_all is_listed_name s.boxes ≡ true) is (names_of_site site sound).0 in
+    let rest : list_all is_listed_name (texts (drop own boxes)) ≡ true =
+    subst (λ l. list_all is_listed_name l ≡ true) (drop-map (λ (name : Bor (List ℕ)). name.now) own boxes) listed in
+    let same = length-map boxes (λ (name : Bor (List ℕ)). name.now) in
+    let few : few_names (texts boxes) = (omega (arith, same, count.0), omega (arith, same, count.1)) in
+    listed_of made (site_of host domains boxes) good few (all_listed own boxes first rest)
+    (subst (λ (whole : Site). IfErr made (IsListedFault whole)) (with_others host domains boxes own site is) refused)
