@@ -1,11 +1,11 @@
 -- The order in which the program says what is wrong with a site, against the site's own.
 use Rattle.std.proofs.Common.{◌≡◌, ◌∙◌, ◌⊎◌, ◌<◌, ◌≤◌, ◌∷◌, ◌++◌, [], inl, inr, ap, sym, subst, ℕ, Bool, true, false, List, length, Option, Some, None, refl, cond, arith, true≢false}
 use Rattle.std.proofs.Common.{drop, map, option_map, take}
-use Rattle.std.specs.Prelude.{not, ◌||◌, ◌==◌, ◌&&◌, nat_lt, suc, Err, IfErr, IfOk, Ok, Result}
+use Rattle.std.specs.Prelude.{not, ◌||◌, ◌==◌, ◌&&◌, nat_lt, Err, IfErr, IfOk, Ok, Result}
 use Rattle.std.specs.Borrow.{Bor}
 use Rattle.std.specs.List.{list_all}
 use Rattle.std.specs.Str.{bytes_eq}
-use Rattle.std.proofs.lemmas.Bool.{eqb-true}
+use Rattle.std.proofs.lemmas.Bool.{eqb-false, eqb-true}
 use Rattle.std.proofs.lemmas.Bool.Decides.{nat_tests}
 use Rattle.std.proofs.lemmas.List.{drop-map, length-map, length-take, map-append, take-append-drop, take-map}
 use Rattle.std.proofs.lemmas.List.Folds.{list_all-append}
@@ -158,8 +158,7 @@ not_zero n true e above = absurd (omega (arith, eqb-true n 0 e, above))
 not_zero n false e above = refl
 
 above_zero : (n : ℕ) → (n == 0) ≡ false → 0 < n
-above_zero 0 e = cc
-above_zero (suc n) e = omega arith
+above_zero n e = let some : n ≡ 0 → ⊥ = eqb-false n 0 e in omega (arith, some)
 
 pub some_names : (names : List (List ℕ)) → 0 < length names → (length names == 0) ≡ false
 some_names names above = not_zero (length names) (length names == 0) refl above

@@ -8,7 +8,7 @@ ghost use Rattle.mail_writing.specs.Offer.{offers};
 use crate::writing::put;
 use itoa::Buffer;
 use lmtp_text::Site;
-use mail_world::limits::NAME_LIMIT;
+use mail_world::limits::BOX_NAME_LIMIT;
 use mail_world::{BadCommand, Outcome, Reply};
 
 /// Bytes in which each reply has room.
@@ -68,7 +68,7 @@ fn pieces<'a>(reply: Reply, site: &'a Site) -> Option<Pieces<'a>>
     ensures text { IfSome result (λ p. p.0.now ++ p.1.now ++ p.2.now ≡ reply_text site.now reply) }
     ensures prefix { IfSome result (λ p. length p.0.now ≤ 64) }
     ensures code { IfSome result (λ p. 3 ≤ length p.0.now) }
-    ensures name { IfSome result (λ p. length p.1.now ≤ NAME_LIMIT) }
+    ensures name { IfSome result (λ p. length p.1.now ≤ BOX_NAME_LIMIT) }
     ensures back { IfSome result (λ p. length p.2.now ≤ 128) }
     ensures offer { IfNone result (reply ≡ Reply.Offer) }
 {

@@ -1,15 +1,11 @@
-use Rattle.std.proofs.Common.{◌≡◌, ◌∙◌, ◌<◌, ◌≤◌, ap, arith, drop, length, List, Option, ℕ, subst, sym, take}
-use Rattle.std.specs.Prelude.{IfErr, IfOk, true}
+use Rattle.std.proofs.Common.{◌≡◌, ◌++◌, List, ℕ, subst}
+use Rattle.std.specs.Prelude.{IfErr, IfOk}
 use Rattle.std.specs.Borrow.{Bor}
-use Rattle.std.specs.List.{list_all}
-use Rattle.std.proofs.lemmas.Bool.{eqb-true}
-use Rattle.std.proofs.lemmas.List.{drop-map, length-map, length-take, take-map}
+use Rattle.std.proofs.lemmas.List.{take_rest}
 use Rattle.std.proofs.lemmas.Result.{err_from_is_err_and}
-use Rattle.mail_world.specs.Site.{IsSite, Site, is_box_name, is_listed_name}
-use Rattle.lmtp_text.specs.Sites.{IsListedFault, site_of, texts}
-use Rattle.lmtp_text.specs.declared.site.SiteFault.{SiteFault}
-use Rattle.lmtpd_setup.specs.Faults.{IsTwiceOrMemory}
-use Rattle.lmtpd_setup.proofs.Orders.{few_names, given_in_all, listed_in_all, made_of_all}
+use Rattle.mail_world.specs.Site.{Site}
+use Rattle.lmtp_text.specs.Sites.{IsListedFault, texts}
+use Rattle.lmtpd_setup.proofs.Orders.{given_in_all, listed_in_all, made_of_all}
 use Rattle.lmtpd_setup.proofs.site.site_of_names.Goals as goal
 
 pub returns-in_err-site-clause-refused : goal.returns-in_err-site-clause-refused
@@ -20,10 +16,17 @@ returns-in_err-site-clause-refused c =
 
 pub returns-clause-made : goal.returns-clause-made
 returns-clause-made c =
-    made_of_all c.args.host.now c.args.domains.now c.args.boxes.now c.args.own c.in_ok-site.site c.with_listed.result c.in_ok-site.ensures.made
-    c.with_listed.ensures.made
+    let boxes = c.args.boxes.now in
+    let site = c.in_ok-site.site in
+    made_of_all c.args.host.now c.args.domains.now boxes c.args.own site c.with_listed.result c.in_ok-site.ensures.made
+    (subst (λ (l : List (Bor (List ℕ))). IfOk c.with_listed.result (λ (s : Site). s ≡ record site { boxes = site.boxes ++ texts l }))
+    (take_rest boxes c.args.own) c.with_listed.ensures.made)
 
 pub returns-clause-refused : goal.returns-clause-refused
 returns-clause-refused c =
-    listed_in_all c.args.host.now c.args.domains.now c.args.boxes.now c.args.own c.in_ok-site.site c.with_listed.result c.requires.host
-    c.requires.count c.in_ok-site.ensures.made c.in_ok-site.ensures.sound c.requires.listed c.with_listed.ensures.refused
+    let boxes = c.args.boxes.now in
+    let site = c.in_ok-site.site in
+    listed_in_all c.args.host.now c.args.domains.now boxes c.args.own site c.with_listed.result c.requires.host c.requires.count
+    c.in_ok-site.ensures.made c.in_ok-site.ensures.sound c.requires.listed
+    (subst (λ (l : List (Bor (List ℕ))). IfErr c.with_listed.result (IsListedFault (record site { boxes = site.boxes ++ texts l })))
+    (take_rest boxes c.args.own) c.with_listed.ensures.refused)
