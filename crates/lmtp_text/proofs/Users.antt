@@ -6,16 +6,16 @@ use Rattle.std.specs.List.{before_first}
 use Rattle.mail_world.specs.Site.{IsDelimiter}
 use Rattle.mail_world.specs.Targets.{unescaped}
 
-abbrev before : ℕ → List ℕ → List ℕ
+abbrev pub before : ℕ → List ℕ → List ℕ
 before c text = before_first (λ b. b == c) text
 
-before_here : (c b : ℕ) (text : List ℕ) → (b == c) ≡ true → before c (b ∷ text) ≡ []
+pub before_here : (c b : ℕ) (text : List ℕ) → (b == c) ≡ true → before c (b ∷ text) ≡ []
 before_here c b text e = rw e refl
 
 take_one_more : (n b : ℕ) (text : List ℕ) → take (1 + n) (b ∷ text) ≡ b ∷ take n text
 take_one_more n b text = let e : 1 + n ≡ suc n = omega arith in rw e refl
 
-before_more : (c b : ℕ) (text : List ℕ) → (b == c) ≡ false → before c (b ∷ text) ≡ b ∷ before c text
+pub before_more : (c b : ℕ) (text : List ℕ) → (b == c) ≡ false → before c (b ∷ text) ≡ b ∷ before c text
 before_more c b text e = rw e (take_one_more _ b text)
 
 -- no delimiter is a backslash

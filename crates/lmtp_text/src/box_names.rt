@@ -10,7 +10,7 @@ ghost use Rattle.lmtp_text.specs.Seen.{seen_target};
 ghost use Rattle.lmtp_text.specs.Sites.{texts};
 
 use crate::command::Target;
-use crate::names::write_local;
+use crate::names::{write_address, write_local};
 use indexmap::IndexSet;
 use mail_world::limits::BOX_NAME_LIMIT;
 use std::alloc::{AllocError, Global};
@@ -86,7 +86,8 @@ impl BoxNames {
 
     /// The name at that place; empty where there is none.
     pub(crate) fn at(&self, place: usize) -> &[u8]
-        ensures { result.now ≡ unwrap_or (slice_get self.now place) [] }
+        ensures value { result.now ≡ unwrap_or (slice_get self.now place) [] }
+        ensures named { place < length self.now → is_listed_name result.now ≡ true }
     {
         match self.set.get_index(place) {
             Some(name) => name,
@@ -101,16 +102,14 @@ impl BoxNames {
         ensures within { IfSome result (λ place. place < length self.now) }
     {
         let _ = &self.set;
-        let domain = target.domain?;
-        let mut room = [0; BOX_NAME_LIMIT];
-        let size = write_local(&mut room, target)?;
-        if domain.len() >= BOX_NAME_LIMIT - size {
+        let Some(domain) = target.domain else {
             return None;
+        };
+        let mut room = [0; BOX_NAME_LIMIT];
+        match write_address(&mut room, target, domain) {
+            Some(size) => self.place_of_text(&room[..size]),
+            None => None,
         }
-        room[size] = b'@';
-        let end = size + 1 + domain.len();
-        room[size + 1..end].copy_from_slice(domain);
-        self.place_of_text(&mut room[..end])
     }
 
     /// The place of the name that the target's local part is; none has an `@`. It takes no memory.
@@ -123,18 +122,26 @@ impl BoxNames {
             return None;
         }
         let mut room = [0; BOX_NAME_LIMIT];
-        let size = write_local(&mut room, target)?;
-        self.place_of_text(&mut room[..size])
+        match write_local(&mut room, target) {
+            Some(size) => self.place_of_text(&room[..size]),
+            None => None,
+        }
     }
 
-    // The place of the name that the text is, whatever the case of its letters. They are small ones then.
-    fn place_of_text(&self, text: &mut [u8]) -> Option<usize>
-        ensures value { result ≡ position (λ name. is_word name text.old) self.now }
+    // The place of the name that the text is, whatever the case of its letters. No name is longer than the limit.
+    fn place_of_text(&self, text: &[u8]) -> Option<usize>
+        ensures value { result ≡ position (λ name. is_word name text.now) self.now }
         ensures within { IfSome result (λ place. place < length self.now) }
     {
         let names = &self.set;
-        text.make_ascii_lowercase();
-        let lower: &[u8] = text;
+        if text.len() > BOX_NAME_LIMIT {
+            return None;
+        }
+        let mut bytes = [0; BOX_NAME_LIMIT];
+        let lower = &mut bytes[..text.len()];
+        lower.copy_from_slice(text);
+        lower.make_ascii_lowercase();
+        let lower: &[u8] = lower;
         names.get_index_of(lower)
     }
 }

@@ -1,8 +1,8 @@
 //! The domains of a site's listed addresses, each with the place of the first address at it.
 
-ghost use Rattle.std.specs.Prelude.{◌≡◌, [], ◌∷◌, ◌++◌, OnOk, IfOk, is_some, if◌then◌else◌};
+ghost use Rattle.std.specs.Prelude.{◌≡◌, ℕ, List, length, [], ◌∷◌, ◌++◌, OnOk, IfOk, is_some, true, if◌then◌else◌};
 ghost use Rattle.lmtp_text.specs.Sites.{place_at, AreFirsts};
-ghost use Rattle.mail_world.specs.Site.{is_listed_domain};
+ghost use Rattle.mail_world.specs.Site.{is_listed_domain, is_listed_name};
 
 use crate::box_names::BoxNames;
 use crate::cut::cut_at;
@@ -14,7 +14,7 @@ use std::marker::Model;
 /// Domains that a list may have, each with a place. Contracts see the list of both.
 #[derive(Drop)]
 pub(crate) struct FirstAddresses {
-    places: IndexMap<Vec<u8>, u32>,
+    places: IndexMap<Vec<u8>, usize>,
 }
 
 impl Model for FirstAddresses {
@@ -39,15 +39,25 @@ impl FirstAddresses {
             places: IndexMap::new(alloc),
         };
         for place in 0..names.len() {
-            if let Some((_local, domain)) = cut_at(names.at(place), b'@') {
-                firsts.add(alloc, domain, place as u32)?;
-            }
+            firsts.add_name(alloc, names.at(place), place)?;
         }
         Ok(firsts)
     }
 
+    // One more name, behind that many.
+    fn add_name(&mut self, alloc: Global, name: &[u8], place: usize) -> Result<(), AllocError>
+        requires { is_listed_name name.now ≡ true }
+        ensures { OnOk result ((names : List (List ℕ)) → length names ≡ place → AreFirsts names self.old
+            → AreFirsts (names ++ name.now ∷ []) self.new) }
+    {
+        match cut_at(name, b'@') {
+            Some((_local, domain)) => self.add(alloc, domain, place),
+            None => Ok(()),
+        }
+    }
+
     // One more domain, whose first address has that place. Where it is there already nothing changes.
-    fn add(&mut self, alloc: Global, domain: &[u8], place: u32) -> Result<(), AllocError>
+    fn add(&mut self, alloc: Global, domain: &[u8], place: usize) -> Result<(), AllocError>
         requires { is_listed_domain domain.now ≡ true }
         ensures { OnOk result
             (self.new ≡ (if is_some (place_at domain.now self.old) then self.old else self.old ++ (domain.now, place) ∷ [])) }
@@ -59,7 +69,7 @@ impl FirstAddresses {
     }
 
     /// The place of the first address at the domain, whatever the case of its letters. It takes no memory.
-    pub(crate) fn place_at(&self, domain: &[u8]) -> Option<u32>
+    pub(crate) fn place_at(&self, domain: &[u8]) -> Option<usize>
         ensures { result ≡ place_at domain.now self.now }
     {
         let places = &self.places;

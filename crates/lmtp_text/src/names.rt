@@ -1,12 +1,12 @@
 //! Whether a name is a word, whatever the case of its letters (RFC 5321, 2.4).
 
-ghost use Rattle.std.specs.Prelude.{◌≡◌, ◌==◌, ◌≤◌, ◌<◌, false, length, take};
+ghost use Rattle.std.specs.Prelude.{◌≡◌, ◌==◌, ◌≤◌, ◌<◌, ◌++◌, ◌∷◌, false, length, take};
 ghost use Rattle.std.specs.Option.{MatchOption};
 ghost use Rattle.std.specs.List.{before_first, list_any};
 ghost use Rattle.mail_world.specs.Commands.{is_word};
 ghost use Rattle.mail_world.specs.Targets.{unescaped, local_name, is_listed_as};
 ghost use Rattle.mail_world.specs.Site.{IsDelimiter, any_domain};
-ghost use Rattle.std.specs.Str.{bytes_eq};
+ghost use Rattle.std.specs.Str.{byte, bytes_eq};
 ghost use Rattle.lmtp_text.specs.Seen.{seen_target};
 ghost use Rattle.lmtp_text.specs.Sites.{owned};
 
@@ -66,6 +66,25 @@ pub(crate) fn write_local(room: &mut [u8], target: &Target) -> Option<usize>
     } else {
         write_plain(room, target.local)
     }
+}
+
+/// Writes the target's local part so, and behind it an `@` and the domain.
+pub(crate) fn write_address(room: &mut [u8], target: &Target, domain: &[u8]) -> Option<usize>
+    ensures size { length room.new ≡ length room.old }
+    ensures text { let address = local_name (seen_target target.now) ++ byte "@" ∷ domain.now in
+        MatchOption result (length room.old < length address)
+        (λ size. (size ≤ length room.new) × (take size room.new ≡ address)) }
+{
+    let Some(size) = write_local(room, target) else {
+        return None;
+    };
+    if domain.len() >= room.len() - size {
+        return None;
+    }
+    room[size] = b'@';
+    let end = size + 1 + domain.len();
+    room[size + 1..end].copy_from_slice(domain);
+    Some(end)
 }
 
 fn write_plain(room: &mut [u8], text: &[u8]) -> Option<usize>

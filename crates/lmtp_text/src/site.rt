@@ -6,7 +6,7 @@ ghost use Rattle.std.specs.List.{list_all};
 ghost use Rattle.mail_world.specs.Site.{Fault, IsSite, IsDelimiter, IsMessageLimit, fault_of, box_name, is_delimiter};
 ghost use Rattle.mail_world.specs.Site.{extensions_of, is_box_name, has_twice, listed_fault_of};
 ghost use Rattle.mail_world.specs.Targets.{is_here, box_named, box_by_name, box_of, local_name, user_of, knows_domain};
-ghost use Rattle.mail_world.specs.Targets.{first_at};
+ghost use Rattle.mail_world.specs.Targets.{first_at, box_of_local, box_of_postmaster};
 ghost use Rattle.lmtp_text.specs.Seen.{seen_target};
 ghost use Rattle.lmtp_text.specs.Sites.{texts, site_of, site_with, cause, owned, IsListedFault};
 
@@ -422,18 +422,38 @@ impl Site {
         ensures value { result ≡ box_by_name self.now (seen_target target.now) }
         ensures known { IfSome result (λ n. n < length self.now.boxes) }
     {
-        if let Some(place) = self.boxes.place_of_address(target) {
-            return Some(place as u32);
+        match self.boxes.place_of_address(target) {
+            Some(place) => Some(place as u32),
+            None => match self.local_named(target) {
+                Some(n) => Some(n),
+                None => self.postmaster_named(target),
+            },
         }
-        let is_here = self.serves(target.domain);
-        if is_here {
-            if let Some(place) = self.boxes.place_of_local(target) {
-                return Some(place as u32);
-            }
+    }
+
+    fn local_named(&self, target: &Target) -> Option<u32>
+        ensures value { result
+            ≡ box_of_local self.now (seen_target target.now).domain (local_name (seen_target target.now)) }
+        ensures known { IfSome result (λ n. n < length self.now.boxes) }
+    {
+        if !self.serves(target.domain) {
+            return None;
         }
+        match self.boxes.place_of_local(target) {
+            Some(place) => Some(place as u32),
+            None => None,
+        }
+    }
+
+    fn postmaster_named(&self, target: &Target) -> Option<u32>
+        ensures value { result
+            ≡ box_of_postmaster self.now (seen_target target.now).domain (local_name (seen_target target.now)) }
+        ensures known { IfSome result (λ n. n < length self.now.boxes) }
+    {
+        let _ = &self.host;
         if !names(target, b"postmaster") {
             None
-        } else if is_here {
+        } else if self.serves(target.domain) {
             Some(0)
         } else {
             self.first_at(target.domain)
@@ -446,7 +466,10 @@ impl Site {
         ensures known { IfSome result (λ n. n < length self.now.boxes) }
     {
         match domain {
-            Some(domain) => self.firsts.place_at(domain),
+            Some(domain) => match self.firsts.place_at(domain) {
+                Some(place) => Some(place as u32),
+                None => None,
+            },
             None => None,
         }
     }

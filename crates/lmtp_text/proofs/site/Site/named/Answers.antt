@@ -1,20 +1,11 @@
-use Rattle.std.proofs.Common.{true, false, Some, None, sym, ap, refl, ◌∙◌}
-use Rattle.mail_world.specs.Targets.{local_name}
+use Rattle.std.proofs.Common.{ap, sym, ◌∙◌, Option, ℕ, List, None, Some, ◌≡◌}
+use Rattle.mail_world.specs.Targets.{local_name, place_of_address}
 use Rattle.lmtp_text.specs.Seen.{seen_target}
-use Rattle.lmtp_text.proofs.Finds.{box_named-placed}
+use Rattle.lmtp_text.proofs.Finds.{named_by_address, named_by_local, named_otherwise}
 use Rattle.lmtp_text.proofs.site.Site.named.Goals as goal
 
 pub returns-in-Some-clause-value : goal.returns-in-Some-clause-value
 returns-in-Some-clause-value c =
-    sym (box_named-placed c.args.self.now.boxes c.self.inside.boxes (local_name (seen_target c.args.target.now)) _ c.place_of.result (Some c.in-Some.n)
-    (ap (λ s. s.boxes) c.self.view_is) c.place_of.ensures.value c.in-Some.is refl)
-
-pub returns-in-None-clause-value : goal.returns-in-None-clause-value
-returns-in-None-clause-value c =
-    sym (box_named-placed c.args.self.now.boxes c.self.inside.boxes (local_name (seen_target c.args.target.now)) true c.place_of.result None
-    (ap (λ s. s.boxes) c.self.view_is) c.place_of.ensures.value c.in-None.is (sym c.if-names.true ∙ c.names.ensures))
-
-pub returns-in-None-2-clause-value : goal.returns-in-None-2-clause-value
-returns-in-None-2-clause-value c =
-    sym (box_named-placed c.args.self.now.boxes c.self.inside.boxes (local_name (seen_target c.args.target.now)) false c.place_of.result None
-    (ap (λ s. s.boxes) c.self.view_is) c.place_of.ensures.value c.in-None-2.is (sym c.if-names.false ∙ c.names.ensures))
+    let t = seen_target c.args.target.now in
+    named_by_address c.args.self.now t.domain (local_name t) c.in-Some.place
+    (ap (λ (l : List (List ℕ)). place_of_address l t.domain (local_name t)) (sym (ap (λ s. s.boxes) c.self.view_is)) ∙ sym c.place_of_address.ensures.value ∙ c.in-Some.is)
