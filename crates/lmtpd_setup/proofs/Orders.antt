@@ -5,7 +5,7 @@ use Rattle.std.specs.Prelude.{not, ◌||◌, ◌==◌, ◌&&◌, nat_lt, Err, If
 use Rattle.std.specs.Borrow.{Bor}
 use Rattle.std.specs.List.{list_all}
 use Rattle.std.specs.Str.{bytes_eq}
-use Rattle.std.proofs.lemmas.Bool.{eqb-false, eqb-true}
+use Rattle.std.proofs.lemmas.Bool.{eqb-true}
 use Rattle.std.proofs.lemmas.Bool.Decides.{nat_tests}
 use Rattle.std.proofs.lemmas.List.{drop-map, length-map, length-take, map-append, take-append-drop, take-map}
 use Rattle.std.proofs.lemmas.List.Folds.{list_all-append}
@@ -157,9 +157,6 @@ not_zero : (n : ℕ) (t : Bool) → (n == 0) ≡ t → 0 < n → t ≡ false
 not_zero n true e above = absurd (omega (arith, eqb-true n 0 e, above))
 not_zero n false e above = refl
 
-above_zero : (n : ℕ) → (n == 0) ≡ false → 0 < n
-above_zero n e = let some : n ≡ 0 → ⊥ = eqb-false n 0 e in omega (arith, some)
-
 pub some_names : (names : List (List ℕ)) → 0 < length names → (length names == 0) ≡ false
 some_names names above = not_zero (length names) (length names == 0) refl above
 
@@ -305,7 +302,7 @@ with_others host domains boxes own site is =
 
 -- what is answered for the first names is for all
 pub given_in_all : (host : List ℕ) (domains boxes : List (Bor (List ℕ))) (own : ℕ) (e : SiteFault) → host_fault host (texts domains) ≡ None
-    → (0 < length boxes) × (length boxes ≤ BOX_LIMIT) → own ≤ length boxes → (own == 0) ≡ false
+    → (0 < length boxes) × (length boxes ≤ BOX_LIMIT) → own ≤ length boxes → (own ≡ 0 → ⊥)
     → list_all is_box_name (take own (texts boxes)) ≡ true
     → ((rule : Rule) → fault_of (site_of host domains (take own boxes)) ≡ Some rule → ◌≡◌ {A = Result Site SiteFault} (Err e) (Err (cause rule)))
     → (fault_of (site_of host domains (take own boxes)) ≡ None → e ≡ faults.Memory) → IsTwiceOrMemory (texts boxes) e
@@ -313,7 +310,7 @@ given_in_all host domains boxes own e good count within some named broken whole 
     let first = take own boxes in
     let same = length-map first (λ (name : Bor (List ℕ)). name.now) in
     let most = length-take own boxes in
-    let above : 0 < own = above_zero own some in
+    let above : 0 < own = omega (arith, some) in
     let few : few_names (texts first) = (omega (arith, same, most, above, within), omega (arith, same, most, within, count.1)) in
     let named_first : list_all is_box_name (texts first) ≡ true =
     subst (λ l. list_all is_box_name l ≡ true) (take-map (λ (name : Bor (List ℕ)). name.now) own boxes) named in
