@@ -9,7 +9,7 @@ use Rattle.std.proofs.lemmas.Slice.Eq.{bytes_eq-Decides}
 use Rattle.std.proofs.lemmas.List.Sums.{position_or_len_is}
 use Rattle.mail_world.specs.declared.limits.TheConstants.{BOX_LIMIT}
 use Rattle.mail_world.specs.Site.{Site, Fault, BadHost, BadDomain, BadCount, BadBox, NamedTwice, IsSite, box_name}
-use Rattle.mail_world.specs.Site.{is_box_name, is_domain_name, is_host_name, has_text, has_twice}
+use Rattle.mail_world.specs.Site.{is_listed_name, is_domain_name, is_host_name, has_text, has_twice}
 use Rattle.lmtp_lives.specs.Runs.{number_of}
 
 neither : (a b : Bool) → (a || b) ≡ false → (a ≡ false) × (b ≡ false)
@@ -25,14 +25,14 @@ no_fault false fault rest e = (refl, e)
 none_twice : (site : Site) → IsSite site → has_twice site.boxes ≡ false
 none_twice site sound =
     let twice = cond (has_twice site.boxes) (Some NamedTwice) None in
-    let named = cond (not (list_all is_box_name site.boxes)) (Some BadBox) twice in
+    let named = cond (not (list_all is_listed_name site.boxes)) (Some BadBox) twice in
     let many : Bool = (length site.boxes == 0) || nat_lt BOX_LIMIT (length site.boxes) in
     let counted = cond many (Some BadCount) named in
     let further = cond (not (list_all is_domain_name site.domains)) (Some BadDomain) counted in
     let host = no_fault (not (is_host_name site.host)) BadHost further sound.0 in
     let domains = no_fault (not (list_all is_domain_name site.domains)) BadDomain counted host.1 in
     let count = no_fault many BadCount named domains.1 in
-    let names = no_fault (not (list_all is_box_name site.boxes)) BadBox twice count.1 in
+    let names = no_fault (not (list_all is_listed_name site.boxes)) BadBox twice count.1 in
     (no_fault (has_twice site.boxes) NamedTwice None names.1).0
 
 other_way : (xs ys : List ℕ) → bytes_eq xs ys ≡ false → bytes_eq ys xs ≡ false

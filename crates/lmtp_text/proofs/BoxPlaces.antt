@@ -145,8 +145,8 @@ twice-there old names i d now h held e =
     let name = (get_or names i d).now in
     let there : has_text (old ++ texts (take i names)) name ≡ true = ap (λ l. has_text l name) (sym held) ∙ e in
     let twice : has_twice (old ++ texts (take (i + 1) names)) ≡ true =
-        ap has_twice (next-more old names i d h) ∙ has_twice-more (old ++ texts (take i names)) name
-        ∙ or_right (has_twice (old ++ texts (take i names))) _ there in
+    ap has_twice (next-more old names i d h) ∙ has_twice-more (old ++ texts (take i names)) name
+    ∙ or_right (has_twice (old ++ texts (take i names))) _ there in
     ap has_twice (ap (λ (l : List (List ℕ)). old ++ l) (texts-split names (i + 1)) ∙ sym (append_assoc old (texts (take (i + 1) names)) (texts (drop (i + 1) names))))
     ∙ has_twice-before (old ++ texts (take (i + 1) names)) (texts (drop (i + 1) names)) twice
 

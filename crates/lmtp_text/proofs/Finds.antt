@@ -1,12 +1,12 @@
 -- The mailbox of a target, from the places of its name or of its user's.
-use Rattle.std.proofs.Common.{◌≡◌, ◌<◌, ℕ, Bool, true, false, List, [], length, Option, Some, None, refl, sym, ◌∙◌, ap}
-use Rattle.std.specs.Prelude.{codes, position, option_map, IfSome}
+use Rattle.std.proofs.Common.{◌≡◌, ◌<◌, ℕ, true, false, List, [], length, Option, Some, None, refl, sym}
+use Rattle.std.specs.Prelude.{codes, position}
 use Rattle.std.proofs.lemmas.List.Quantifiers.{position-Some}
 use Rattle.mail_world.specs.Site.{Site}
 use Rattle.mail_world.specs.Grammar.{Target}
 use Rattle.mail_world.specs.Commands.{is_word}
-use Rattle.mail_world.specs.Targets.{box_of, box_named, box_by_name, box_of_local, box_of_postmaster, found_or, first_at, is_at_domain, is_here, local_name}
-use Rattle.mail_world.specs.Targets.{place_of_address, place_of_local, postmaster_box, user_of}
+use Rattle.mail_world.specs.Targets.{box_of, box_named, box_by_name, box_of_local, box_of_postmaster, first_at, is_at_domain, is_here, local_name}
+use Rattle.mail_world.specs.Targets.{place_of_address, place_of_local, user_of}
 
 -- the mailbox of a local part at a domain
 pub named_by_address : (site : Site) (domain : Option (List ℕ)) (local : List ℕ) (n : ℕ) → place_of_address site.boxes domain local ≡ Some n

@@ -51,7 +51,7 @@ place-too_long domain (x ∷ xs) named h =
     let p = prefix_true (is_listed_domain x.0) (keys_listed xs) named in
     let size = domain_size x.0 p.0 in
     let other : is_word x.0 domain ≡ false =
-        eq_length (map to_ascii_lowercase domain) (map to_ascii_lowercase x.0) (rw (length-lower domain, length-lower x.0) (omega arith)) in
+    eq_length (map to_ascii_lowercase domain) (map to_ascii_lowercase x.0) (rw (length-lower domain, length-lower x.0) (omega arith)) in
     rw other (place-too_long domain xs p.1 h)
   where
     length-lower : (xs : List ℕ) → length (map to_ascii_lowercase xs) ≡ length xs
@@ -92,6 +92,7 @@ module _ {X : Type 0} (p : X → Bool) where
       shifted : Option ℕ → Option ℕ
       shifted None = None
       shifted (Some n) = Some (1 + n)
+
       step : (zs : List X) → p x ≡ false → position p (x ∷ zs) ≡ shifted (position p zs)
       step zs e = by_value (cond (not (p x)) (1 + position_or_len p zs) 0) (ap (λ b. cond (not b) (1 + position_or_len p zs) 0) e)
         where
@@ -102,15 +103,18 @@ module _ {X : Type 0} (p : X → Bool) where
                   → cond (nat_lt n (length (x ∷ zs))) (Some n) None ≡ shifted (cond b (Some (position_or_len p zs)) None)
               by_less true less = let f : nat_lt n (length (x ∷ zs)) ≡ true = grind (arith, nat_tests) in ap (λ b. cond b (Some n) None) f ∙ ap Some is
               by_less false less = let f : nat_lt n (length (x ∷ zs)) ≡ false = grind (arith, nat_tests) in ap (λ b. cond b (Some n) None) f
+
       over : (o : Option ℕ) (b : Bool) (n : ℕ) → shifted (found_or o (if b then Some n else None)) ≡ found_or (shifted o) (if b then Some (1 + n) else None)
       over None true n = refl
       over None false n = refl
       over (Some m) b n = refl
+
       here : (zs : List X) → p x ≡ true → position p (x ∷ zs) ≡ Some 0
       here zs e = by_value (cond (not (p x)) (1 + position_or_len p zs) 0) (ap (λ b. cond (not b) (1 + position_or_len p zs) 0) e)
         where
           by_value : (n : ℕ) → n ≡ 0 → cond (nat_lt n (length (x ∷ zs))) (Some n) None ≡ Some 0
           by_value n is = let f : nat_lt n (length (x ∷ zs)) ≡ true = grind (arith, nat_tests) in ap (λ b. cond b (Some n) None) f ∙ ap Some is
+
       by_first : (b : Bool) → p x ≡ b → position p (xs ++ y ∷ []) ≡ found_or (position p xs) (if p y then Some (length xs) else None)
           → position p (x ∷ (xs ++ y ∷ [])) ≡ found_or (position p (x ∷ xs)) (if p y then Some (length (x ∷ xs)) else None)
       by_first true e rest = here (xs ++ y ∷ []) e ∙ sym (ap (λ o. found_or o (if p y then Some (length (x ∷ xs)) else None)) (here xs e))
@@ -154,15 +158,19 @@ firsts-address names name places new e held more domain = by_place (place_at (do
   where
     at : is_at_domain domain name ≡ is_word (domain_of name) domain
     at = rw e refl
+
     last : Option ℕ
     last = if is_word (domain_of name) domain then Some (length names) else None
+
     after : position (is_at_domain domain) (names ++ name ∷ []) ≡ found_or (position (is_at_domain domain) names) last
     after = position-more (is_at_domain domain) names name ∙ ap (λ b. found_or (position (is_at_domain domain) names) (if b then Some (length names) else None)) at
+
     there : (n : ℕ) (o : Option ℕ) (b : Bool) → is_word (domain_of name) domain ≡ b → place_at (domain_of name) places ≡ Some n → place_at domain places ≡ o
         → o ≡ found_or o (if b then Some (length names) else None)
     there n (Some m) b is here found = refl
     there n None false is here found = refl
     there n None true is here found = let same = same_place (domain_of name) domain places is in cc
+
     by_place : (o : Option ℕ) → place_at (domain_of name) places ≡ o
         → new ≡ (if is_some o then places else places ++ (domain_of name, length names) ∷ [])
         → place_at domain new ≡ position (is_at_domain domain) (names ++ name ∷ [])

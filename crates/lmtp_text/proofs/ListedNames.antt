@@ -1,13 +1,13 @@
 -- Names that a list may have: their parts, their sizes, the case of their letters.
-use Rattle.std.proofs.Common.{◌≡◌, ℕ, suc, ◌+◌, ◌≤◌, take, drop, Bool, true, false, List, [], ◌∷◌, ◌++◌, length, refl, sym, ap, ◌∙◌, arith, cond}
+use Rattle.std.proofs.Common.{◌≡◌, ℕ, suc, ◌+◌, ◌≤◌, drop, Bool, true, false, List, [], ◌∷◌, ◌++◌, length, refl, sym, ap, ◌∙◌, arith}
 use Rattle.std.proofs.lemmas.Bool.Decides.{nat_tests}
 use Rattle.std.proofs.lemmas.List.{length-append, map-append}
 use Rattle.std.specs.Prelude.{map, not, ◌&&◌, ◌||◌, ◌==◌, nat_le}
-use Rattle.std.specs.List.{list_all, list_any, before_first, after_first}
+use Rattle.std.specs.List.{list_all}
 use Rattle.std.specs.Char.{to_ascii_lowercase}
 use Rattle.std.specs.Str.{byte}
 use Rattle.mail_world.specs.Text.{begins, has_byte}
-use Rattle.mail_world.specs.Site.{is_at, is_address, local_of, domain_of, is_box_name, is_listed_local, is_listed_domain, is_listed_name}
+use Rattle.mail_world.specs.Site.{is_address, local_of, domain_of, is_box_name, is_listed_local, is_listed_domain, is_listed_name}
 use Rattle.mail_world.specs.declared.limits.TheConstants.{BOX_NAME_LIMIT, GIVEN_NAME_LIMIT, LISTED_LOCAL_LIMIT, NAME_LIMIT}
 use Rattle.lmtp_text.specs.Sites.{is_of_box_name, is_of_listed_local, is_of_listed_domain}
 use Rattle.lmtp_text.proofs.Users.{before_here, before_more}
@@ -87,7 +87,7 @@ name_size name e = by_kind (is_address name) refl
         let local = local_size (local_of name) (local_listed name e) in
         let domain = domain_size (domain_of name) (domain_listed name e a) in
         let sum : length name ≡ length (local_of name) + suc (length (domain_of name)) =
-            ap length (whole_address name a) ∙ length-append (local_of name) (64 ∷ domain_of name) in
+        ap length (whole_address name a) ∙ length-append (local_of name) (64 ∷ domain_of name) in
         omega (arith, local, domain, sum)
     by_kind false a =
         let local = local_size (local_of name) (local_listed name e) in

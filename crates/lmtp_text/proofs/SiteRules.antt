@@ -1,8 +1,8 @@
 -- What follows from the rules of a site.
-use Rattle.std.proofs.Common.{◌≡◌, ℕ, zero, suc, ◌≤◌, ◌+◌, ◌<◌, ◌⊎◌, Bool, true, false, List, [], ◌∷◌, ◌++◌, length, Option, Some, None, refl, sym, ap, ◌∙◌, arith, cond, inr}
+use Rattle.std.proofs.Common.{◌≡◌, ℕ, zero, suc, ◌≤◌, ◌+◌, ◌<◌, Bool, true, false, List, [], ◌∷◌, ◌++◌, length, Option, Some, None, refl, arith, cond}
 use Rattle.std.proofs.lemmas.Bool.Decides.{nat_tests}
 use Rattle.std.proofs.lemmas.List.{length-append}
-use Rattle.std.specs.Prelude.{slice_get, unwrap_or, not, ◌&&◌, ◌||◌, ◌==◌, nat_lt, option_map}
+use Rattle.std.specs.Prelude.{slice_get, unwrap_or, not, ◌||◌, ◌==◌, nat_lt}
 use Rattle.std.specs.List.{list_all}
 use Rattle.mail_world.specs.Site.{Site, Fault, BadHost, BadDomain, BadCount, BadBox, NamedTwice, IsSite, box_name, is_listed_name, has_twice, is_host_name, is_domain_name}
 use Rattle.mail_world.specs.Site.{is_box_name, fault_of, listed_fault_of}

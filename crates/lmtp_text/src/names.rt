@@ -106,10 +106,10 @@ fn write_unescaped(room: &mut [u8], text: &[u8]) -> Option<usize>
         (λ size. (size ≤ length room.new) × (take size room.new ≡ unescaped false text.now)) }
 {
     let mut size = 0;
-    let mut escaped = false;
+    let mut in_pair = false;
     for b in text {
-        if !escaped && *b == b'\\' {
-            escaped = true;
+        if !in_pair && *b == b'\\' {
+            in_pair = true;
             continue;
         }
         if size == room.len() {
@@ -117,7 +117,7 @@ fn write_unescaped(room: &mut [u8], text: &[u8]) -> Option<usize>
         }
         room[size] = *b;
         size += 1;
-        escaped = false;
+        in_pair = false;
     }
     Some(size)
 }
@@ -147,8 +147,9 @@ pub(crate) fn is_listed(domain: &[u8], domains: &[Vec<u8>]) -> bool
 /// none. A delimiter is no backslash, so in a quoted text each stands for itself.
 pub(crate) fn user_of<'a>(target: &Target<'a>, delimiter: u8) -> Target<'a>
     requires { IsDelimiter delimiter }
-    ensures { local_name (seen_target result)
+    ensures user { local_name (seen_target result)
         ≡ before_first (λ b. b == delimiter) (local_name (seen_target target.now)) }
+    ensures domain { (seen_target result).domain ≡ (seen_target target.now).domain }
 {
     let (user, _detail) = split_at_byte(target.local, delimiter);
     Target {

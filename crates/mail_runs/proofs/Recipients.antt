@@ -1,5 +1,5 @@
 -- Each copy that conversations owe is for a mailbox of the site.
-use Rattle.std.proofs.Common.{◌≡◌, ℕ, ◌+◌, ◌<◌, length, List, [], ◌∷◌, Bool, true, false, Option, Some, None, refl}
+use Rattle.std.proofs.Common.{◌≡◌, ℕ, ◌+◌, ◌<◌, length, List, [], ◌∷◌, ◌++◌, Bool, true, false, Option, Some, None, refl}
 use Rattle.std.specs.Prelude.{flat_map, if◌then◌else◌, nat_lt, position, codes, Result, Ok, Err, IfSome}
 use Rattle.std.specs.List.{AllByRecursion}
 use Rattle.std.proofs.lemmas.List.Quantifiers.{position-Some}
@@ -10,10 +10,11 @@ use Rattle.mail_world.specs.declared.State.{State}
 use Rattle.mail_world.specs.declared.State.TheVariants.{Fresh, Greeted, Sender, Recipients, Content, Waiting, Ended}
 use Rattle.mail_world.specs.declared.BadCommand.{BadCommand}
 use Rattle.mail_world.specs.declared.limits.TheConstants.{RECIPIENT_LIMIT}
-use Rattle.mail_world.specs.Site.{Site, extensions_of}
+use Rattle.mail_world.specs.Site.{Site, extensions_of, is_address}
 use Rattle.mail_world.specs.Grammar.{Target}
 use Rattle.mail_world.specs.Commands.{Command, Lhlo, Mail, Rcpt, StartData, Rset, Noop, Quit, Vrfy, Help, is_word, command_at}
-use Rattle.mail_world.specs.Targets.{local_name, is_here, box_or, box_named, user_of, found_or, box_for, box_of}
+use Rattle.mail_world.specs.Targets.{local_name, is_here, is_at_domain, first_at, place_of_address, place_of_local, box_of_local, box_of_postmaster}
+use Rattle.mail_world.specs.Targets.{box_named, box_by_name, user_of, found_or, box_of}
 use Rattle.mail_world.specs.Session.{Session, fresh, Input, Line, LongLine, Busy, DataEnded, Outcomes, Stop, Transition, add_recipient, on_mail, on_rcpt, on_data}
 use Rattle.mail_world.specs.Session.{on_rset, on_command, on_verdict, step}
 use Rattle.mail_world.proofs.BusyLines.{after_busy}
@@ -34,32 +35,48 @@ module _ (site : Site) (some : 0 < length site.boxes) where
   found_known p None e = tt
   found_known p (Some n) e = (position-Some p site.boxes n [] e).0
 
-  first_known : (postmaster : Bool) (o : Option ℕ) → IfSome o IsKnown → IfSome (box_or postmaster o) IsKnown
-  first_known postmaster (Some n) h = h
-  first_known true None h = some
-  first_known false None h = tt
-
-  named_known : (name : List ℕ) → IfSome (box_named site.boxes name) IsKnown
-  named_known name =
-      let p : List ℕ → Bool = λ box. is_word box name in
-      first_known (is_word (codes "postmaster") name) (position p site.boxes) (found_known p (position p site.boxes) refl)
-
   either_known : (a b : Option ℕ) → IfSome a IsKnown → IfSome b IsKnown → IfSome (found_or a b) IsKnown
   either_known (Some n) b h k = h
   either_known None b h k = k
 
-  box_known : (name : List ℕ) → IfSome (box_for site name) IsKnown
-  box_known name =
-      let user : List ℕ = user_of site.recipient_delimiter name in
-      either_known (box_named site.boxes name) (box_named site.boxes user) (named_known name) (named_known user)
+  chosen_known : (t : Bool) (a b : Option ℕ) → IfSome a IsKnown → IfSome b IsKnown → IfSome (if t then a else b) IsKnown
+  chosen_known true a b h k = h
+  chosen_known false a b h k = k
 
-  here_known : (t : Bool) (o : Option ℕ) → IfSome o IsKnown → IfSome (if t then o else None) IsKnown
-  here_known true o h = h
-  here_known false o h = tt
+  address_known : (domain : Option (List ℕ)) (local : List ℕ) → IfSome (place_of_address site.boxes domain local) IsKnown
+  address_known None local = tt
+  address_known (Some d) local =
+      let p : List ℕ → Bool = λ box. is_word box (local ++ 64 ∷ d) in
+      found_known p (position p site.boxes) refl
+
+  local_known : (local : List ℕ) → IfSome (place_of_local site.boxes local) IsKnown
+  local_known local =
+      let p : List ℕ → Bool = λ box. is_word box local in
+      chosen_known (is_address local) None (position p site.boxes) tt (found_known p (position p site.boxes) refl)
+
+  first_known : (domain : Option (List ℕ)) → IfSome (first_at site.boxes domain) IsKnown
+  first_known None = tt
+  first_known (Some d) = found_known (is_at_domain d) (position (is_at_domain d) site.boxes) refl
+
+  named_known : (domain : Option (List ℕ)) (local : List ℕ) → IfSome (box_named site domain local) IsKnown
+  named_known domain local =
+      let here : Bool = is_here site domain in
+      let postmaster : Option ℕ = if here then Some 0 else first_at site.boxes domain in
+      either_known (place_of_address site.boxes domain local) (found_or (box_of_local site domain local) (box_of_postmaster site domain local))
+      (address_known domain local)
+      (
+        either_known (box_of_local site domain local) (box_of_postmaster site domain local)
+        (chosen_known here (place_of_local site.boxes local) None (local_known local) tt)
+        (chosen_known (is_word (codes "postmaster") local) postmaster None
+          (chosen_known here (Some 0) (first_at site.boxes domain) some (first_known domain)) tt)
+      )
 
   target_known : (target : Target) → IfSome (box_of site target) IsKnown
   unfolding box_of
-  target_known target = here_known (is_here site target.domain) (box_for site (local_name target)) (box_known (local_name target))
+  target_known target =
+      let user : List ℕ = user_of site.recipient_delimiter (local_name target) in
+      either_known (box_by_name site target) (box_named site target.domain user) (named_known target.domain (local_name target))
+      (named_known target.domain user)
 
   -- a session's recipients stay known
   abbrev Knows : Session → Type 0

@@ -23,6 +23,6 @@ returns-clause-text c =
     let fits = put_fits (size + 1) (set room size 64) c.copy_from_slice.new.self rest (omega (arith, marked, below, free)) in (
       omega (arith, part, fits),
       take-put_mid (size + 1) (size + 1 + length domain - (size + 1)) (set room size 64) c.copy_from_slice.new.self (size + 1 + length domain) (omega (arith, part)) (omega (arith, marked, below, free))
-      ∙ ap (λ (l : List ℕ). l ++ c.copy_from_slice.new.self) (take_more_set room size 64 (omega (arith, below, free)) ∙ ap (λ (l : List ℕ). l ++ 64 ∷ []) written.1)
-      ∙ append_assoc local (64 ∷ []) c.copy_from_slice.new.self ∙ ap (λ (l : List ℕ). local ++ 64 ∷ l) c.copy_from_slice.ensures.after,
+          ∙ ap (λ (l : List ℕ). l ++ c.copy_from_slice.new.self) (take_more_set room size 64 (omega (arith, below, free)) ∙ ap (λ (l : List ℕ). l ++ 64 ∷ []) written.1)
+          ∙ append_assoc local (64 ∷ []) c.copy_from_slice.new.self ∙ ap (λ (l : List ℕ). local ++ 64 ∷ l) c.copy_from_slice.ensures.after,
     )

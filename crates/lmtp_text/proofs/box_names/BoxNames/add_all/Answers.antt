@@ -25,5 +25,5 @@ loop-name-preserved c =
     let more = c.in_ok-add.ensures.more c.if-not-branch.false in (
       more-names c.args.self.now c.args.names.now c.loop-name.name-index _ c.loop-name.self c.add.new.self (omega arith) c.loop-name.invariant.0 more,
       λ once. once-more c.args.self.now c.args.names.now c.loop-name.name-index _ c.loop-name.self (omega arith) c.loop-name.invariant.0
-      (c.loop-name.invariant.1 once) fresh,
+          (c.loop-name.invariant.1 once) fresh,
     )

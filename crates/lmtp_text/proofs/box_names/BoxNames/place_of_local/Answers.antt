@@ -1,8 +1,7 @@
-use Rattle.std.proofs.Common.{◌≡◌, ◌<◌, true, false, length, ap, sym, ◌∙◌}
+use Rattle.std.proofs.Common.{◌≡◌, true, false, ap, sym, ◌∙◌}
 use Rattle.std.specs.List.{list_all}
 use Rattle.mail_world.specs.Site.{is_address, is_listed_name}
 use Rattle.mail_world.specs.Targets.{local_name}
-use Rattle.mail_world.specs.declared.limits.TheConstants.{BOX_NAME_LIMIT}
 use Rattle.lmtp_text.specs.Seen.{seen_target}
 use Rattle.lmtp_text.proofs.AddressPlaces.{local_at, local_placed, local_too_long, local_with_at}
 use Rattle.lmtp_text.proofs.box_names.BoxNames.place_of_local.Goals as goal

@@ -1,7 +1,6 @@
-use Rattle.std.proofs.Common.{◌≡◌, ◌++◌, ◌∷◌, [], true, false, ℕ, List, length, ap, sym, ◌∙◌, if◌then◌else◌}
+use Rattle.std.proofs.Common.{◌≡◌, true, false, ap, sym, ◌∙◌}
 use Rattle.std.specs.Prelude.{is_some}
-use Rattle.mail_world.specs.Site.{is_address, domain_of, is_listed_domain}
-use Rattle.lmtp_text.specs.Sites.{place_at, AreFirsts}
+use Rattle.mail_world.specs.Site.{is_address, is_listed_domain}
 use Rattle.lmtp_text.proofs.ListedNames.{domain_listed, has_at}
 use Rattle.lmtp_text.proofs.FirstPlaces.{firsts-added, firsts-local}
 use Rattle.lmtp_text.proofs.first_addresses.FirstAddresses.add_name.Goals as goal

@@ -1,7 +1,7 @@
-use Rattle.std.proofs.Common.{ap, sym, ◌∙◌, Option, ℕ, List, None, Some, ◌≡◌}
+use Rattle.std.proofs.Common.{ap, sym, ◌∙◌, ℕ, List}
 use Rattle.mail_world.specs.Targets.{local_name, place_of_address}
 use Rattle.lmtp_text.specs.Seen.{seen_target}
-use Rattle.lmtp_text.proofs.Finds.{named_by_address, named_by_local, named_otherwise}
+use Rattle.lmtp_text.proofs.Finds.{named_by_address}
 use Rattle.lmtp_text.proofs.site.Site.named.Goals as goal
 
 pub returns-in-Some-clause-value : goal.returns-in-Some-clause-value

@@ -1,4 +1,4 @@
-use Rattle.std.proofs.Common.{◌<◌, ap, length, subst}
+use Rattle.std.proofs.Common.{◌<◌, length, subst}
 use Rattle.mail_world.specs.Site.{Site}
 use Rattle.lmtp_text.specs.contracts.site.Site.{the_view}
 use Rattle.lmtp_text.proofs.SiteRules.{some_box}
