@@ -93,9 +93,16 @@ try 1 'lmtpd: cannot open anna.mbox' "${serve[@]}" --dir /nowhere --boxes "$two"
 try 1 'lmtpd: cannot open carl.mbox' "${serve[@]}" --dir /nowhere --boxes "$two" carl
 try 2 'lmtpd: bad host' rehearse --host mx_example --time 0 --boxes "$two"
 long=$(printf '%010000d' 0)
-for text in Anna 'anna ben' .anna anna,ben 'an\0na' 'anna\0' '\xef\xbb\xbfanna' 'anna;ben' '-- anna' '\xff' 'an\xffna' "$long"; do
+for text in Anna 'anna ben' .anna anna,ben 'an\0na' 'anna\0' '\xef\xbb\xbfanna' 'anna;ben' '-- anna' '\xff' 'an\xffna' \
+    "$long" anna@two.example @x anna@ a/b "$(printf '%065d' 0)"; do
     try 2 'lmtpd: bad box' "${good[@]}" --boxes "$(lists "ben\n$text\n")"
     try 2 'lmtpd: bad box' "${serve[@]}" --dir /nowhere --boxes "$(lists "ben\n$text\n")"
+done
+for name in "o'brien" anna+x a=b "$(printf '%033d' 0)" "$(printf '%064d' 0)"; do
+    try 0 none "${good[@]}" --boxes "$(lists "$name")"
+    try 0 none "${serve[@]}" --dir "$folder" --check-words --boxes "$(lists "$name")" anna
+    try 2 'lmtpd: bad box' "${good[@]}" "$name"
+    try 2 'lmtpd: bad box' "${good[@]}" --boxes "$(lists "$name")" "$name"
 done
 try 0 none "${good[@]}" --boxes "$(lists 'anna # \xff')"
 try 2 'lmtpd: bad box' "${good[@]}" --boxes "$(lists 'anna\nanna\n')" Anna

@@ -3,6 +3,9 @@
 from replies import CLOSING, GO_AHEAD, RECIPIENT_OK, over_quota, stored
 from rows import HELLO, HELLO_STORED, OPENED, PROLOGUE, TO_ANNA, Row, record
 
+# names that the words may not have
+LONGER = ["o'brien", "anna+x", "a=b", "c" * 33, "d" * 64]
+
 
 def rows():
     yield from names()
@@ -17,6 +20,7 @@ def names():
         ("mailboxes of the words come before those of a file", b"ben\ncarl\n", ["anna"], ["anna", "ben", "carl"]),
         ("the order of a file", b"carl\n0\nanna\n", ["ben"], ["ben", "carl", "0", "anna"]),
         ("an empty file of mailboxes", b"", ["anna"], ["anna"]),
+        ("names that only a file may have", "\n".join(LONGER).encode(), ["anna"], ["anna", *LONGER]),
     ]:
         row = Row(
             name,

@@ -116,3 +116,35 @@ def quotas_of_their_own(folder):
     equal(vars(ended), {"status": 0, "said": said, "errors": errors})
     equal([len(letters.read(server.mailbox(name))) for name in counts], [*counts.values()])
     equal(400 < server.mailbox("anna").stat().st_size <= 1_024, True)
+
+
+# Names that a file may have and the words may not, and local parts that mean none of them.
+LONG, LONGEST = "a" * 33, "b" * 64
+OF_A_FILE = ["o'brien", "anna+x", "a=b", LONG, LONGEST]
+OF_NOBODY = ["o", "anna", "anna+y", "b" * 63]
+
+
+@case
+def names_that_only_a_file_may_have(folder):
+    """a name with ', + or =, and one of 33 and of 64 bytes: RCPT finds it in any letter case, and the letter is in
+    NAME.mbox; what is no name is refused"""
+    (folder / "boxes").write_text("".join(f"{name}\n" for name in OF_A_FILE))
+    with Server(folder, ["carl"], 1, "--boxes", folder / "boxes") as server:
+        known, finals = delivered(server, [*OF_NOBODY, *(name.upper() for name in OF_A_FILE)])
+        equal(known, [NO_SUCH_BOX] * len(OF_NOBODY) + [RECIPIENT_OK] * len(OF_A_FILE))
+        equal(finals, [stored(name) for name in OF_A_FILE])
+        ended = server.end()
+    said = ["carl stored 0", *(f"{name} stored 1" for name in OF_A_FILE)]
+    equal(vars(ended), {"status": 0, "said": said, "errors": []})
+    equal({path.name for path in folder.glob("*.mbox")}, {f"{name}.mbox" for name in OF_A_FILE})
+    for name in OF_A_FILE:
+        equal([letter.message for letter in letters.read(server.mailbox(name))], [b"Subject: hi\n\nhello\n"])
+
+
+@case
+def a_listed_name_comes_before_its_user(folder):
+    """--recipient-delimiter +: anna+x of the file has its own letters, and anna those of anna+y"""
+    (folder / "boxes").write_text("anna+x\n")
+    with Server(folder, ["anna"], 1, "--recipient-delimiter", "+", "--boxes", folder / "boxes") as server:
+        equal(delivered(server, ["anna+x", "anna+y"])[1], [stored("anna+x"), stored("anna")])
+        equal(server.end().said, ["anna stored 1", "anna+x stored 1"])

@@ -7,7 +7,7 @@ use Rattle.mail_world.specs.declared.Reply.TheVariants as replies
 use Rattle.mail_world.specs.declared.limits.TheConstants.{NAME_LIMIT}
 use Rattle.mail_world.specs.Replies.{reply_text}
 use Rattle.mail_world.specs.Site.{Site, box_name}
-use Rattle.mail_world.specs.Targets.{is_here}
+use Rattle.mail_world.specs.Targets.{knows_domain}
 use Rattle.lmtp_talk.specs.Entries.{Entry, OfLine, OfCopy, OfEnd}
 use Rattle.lmtp_talk.specs.declared.client.Traffic.{Traffic}
 use Rattle.lmtp_talk.specs.declared.ending.EndCause.{EndCause}
@@ -37,10 +37,11 @@ entries_heard heard = map (λ h. h.entry) heard
 abbrev pub code_of : Site → Reply → List ℕ
 code_of site reply = take 3 (reply_text site reply)
 
--- why the recipient of a command isn't known: no mailbox has the name, or the domain isn't served
+-- why the recipient of a command isn't known: no mailbox has the name, or the site doesn't know the domain
 abbrev pub unknown_reason : Site → List ℕ → Reply → Option (List ℕ)
 unknown_reason site line replies.NoSuchBox =
-    option_map (λ target. if is_here site target.domain then codes "mailbox" else codes "domain") (target_in site.utf8 line)
+    option_map (λ target. if knows_domain site target.domain then codes "mailbox" else codes "domain")
+    (target_in site.utf8 line)
 unknown_reason site line _ = None
 
 -- The lines that are owed for one entry, one or none: for a command that was refused, for a copy to and from these

@@ -120,20 +120,20 @@ impl LaneSetting {
             return None;
         }
         let target = target_in(said, self.site.utf8())?;
-        if self.site.serves(target.domain) {
+        if self.site.knows(target.domain) {
             Some(Unknown::Mailbox)
         } else {
             Some(Unknown::Domain)
         }
     }
 
-    /// The domain that a recipient's command names where that is the reply and the domain isn't served.
+    /// The domain that a recipient's command names where that is the reply and the site doesn't know the domain.
     pub(crate) fn unserved<'a>(&self, said: Reading<'a>, reply: Reply) -> Option<&'a [u8]> {
         if !matches!(reply, Reply::NoSuchBox) {
             return None;
         }
         let target = target_in(said, self.site.utf8())?;
-        if self.site.serves(target.domain) {
+        if self.site.knows(target.domain) {
             return None;
         }
         target.domain

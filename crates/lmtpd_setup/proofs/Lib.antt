@@ -1,4 +1,5 @@
 mod SiteRows
+mod OneName
 pub mod Orders
 pub mod Paths
 mod Whole

@@ -1,10 +1,11 @@
 -- What the definition of a site's first fault gives, by computing, where no run of the program reaches it as easily.
-use Rattle.std.proofs.Common.{◌≡◌, refl, [], Some, None, true, false, codes}
+use Rattle.std.proofs.Common.{◌≡◌, ◌∷◌, refl, [], Some, None, true, false, codes}
 use Rattle.lmtpd_setup.specs.declared.fault.Fault.TheVariants as fault
-use Rattle.lmtpd_setup.specs.Faults.{first_fault, is_usable_name}
+use Rattle.std.specs.Prelude.{replicate}
+use Rattle.lmtpd_setup.specs.Faults.{are_usable_names, first_fault, is_usable_listed_name, is_usable_name}
 
 -- no mailbox, which is looked for before a bad host
-pub no_box : first_fault 256 (codes ".mbox") (record {
+pub no_box : first_fault 256 (codes ".mbox") 0 (record {
   host = codes "mx_example";
   domains = [];
   boxes = [];
@@ -39,3 +40,32 @@ no_dot = refl
 
 pub not_at_the_end : is_usable_name [] (codes "a.lock.b") ≡ true
 not_at_the_end = refl
+
+-- the names that a list may have and the words may not, and those that a list may not have either
+pub apostrophe : is_usable_listed_name (codes ".mbox") (codes "o'brien") ≡ true
+apostrophe = refl
+
+pub own_apostrophe : is_usable_name (codes ".mbox") (codes "o'brien") ≡ false
+own_apostrophe = refl
+
+pub longest : is_usable_listed_name (codes ".mbox") (replicate 64 97) ≡ true
+longest = refl
+
+pub too_long : is_usable_listed_name (codes ".mbox") (replicate 65 97) ≡ false
+too_long = refl
+
+pub own_too_long : is_usable_name (codes ".mbox") (replicate 33 97) ≡ false
+own_too_long = refl
+
+pub listed_address : is_usable_listed_name (codes ".mbox") (codes "anna@two.example") ≡ false
+listed_address = refl
+
+pub listed_lock : is_usable_listed_name [] (codes "anna+x.lock") ≡ false
+listed_lock = refl
+
+-- the first names are the words' own
+pub own_then_listed : are_usable_names (codes ".mbox") 1 (codes "anna" ∷ codes "anna+x" ∷ []) ≡ true
+own_then_listed = refl
+
+pub two_own : are_usable_names (codes ".mbox") 2 (codes "anna" ∷ codes "anna+x" ∷ []) ≡ false
+two_own = refl

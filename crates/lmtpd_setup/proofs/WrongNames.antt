@@ -1,28 +1,29 @@
 -- Where the name stands that can't be used, and what is said of it.
 use Rattle.std.proofs.Common.{◌≡◌, ◌∙◌, ◌⊎◌, ◌+◌, ◌<◌, ◌≤◌, ◌++◌, ◌∷◌, [], inl, inr, ap, sym, refl, suc, ℕ, Bool, true, false, List, String, Some, None, length, cond, arith}
 use Rattle.std.proofs.Common.{append_assoc, append-nil, ap₂, drop, get_or, take, true≢false}
-use Rattle.std.specs.Prelude.{not, ◌||◌, ◌&&◌, ◌==◌, nat_lt, string_bytes}
+use Rattle.std.specs.Prelude.{not, ◌||◌, ◌&&◌, ◌==◌, ◌-◌, nat_lt, string_bytes}
 use Rattle.std.specs.declared.alloc.Global.{Global}
 use Rattle.std.specs.Borrow.{Bor}
 use Rattle.std.specs.List.{list_all, prefix_len}
 use Rattle.std.specs.Str.{bytes_eq}
 use Rattle.std.proofs.lemmas.Bool.Decides.{nat_tests}
 use Rattle.std.proofs.lemmas.Cmp.{nat_list_eq_equiv}
-use Rattle.std.proofs.lemmas.List.{drop_more, length-map, map-append, take_more}
+use Rattle.std.proofs.lemmas.List.{drop-map, drop_more, length-drop, length-map, length-take, map-append, take-map, take_more}
 use Rattle.mail_world.specs.Site.{has_text, has_twice, is_host_name, is_domain_name}
 use Rattle.lmtp_text.specs.Sites.{texts}
+use Rattle.lmtpd_words.specs.Boxes.{listed_boxes}
 use Rattle.lmtpd_words.specs.Words.{named_site}
 use Rattle.lmtpd_words.specs.declared.words.SiteWords.{SiteWords}
-use Rattle.lmtpd_setup.specs.Faults.{box_limit_of, is_usable_name, site_fault}
-use Rattle.lmtpd_setup.specs.Names.{IsNameLine, IsToldOf, place_in, twice_place}
+use Rattle.lmtpd_setup.specs.Faults.{are_usable_names, box_limit_of, fault_or, is_usable_listed_name, is_usable_name, own_count, site_fault}
+use Rattle.lmtpd_setup.specs.Names.{IsNameLine, IsToldOf, bad_place, place_in, twice_place}
 use Rattle.lmtpd_setup.specs.declared.fault.Fault.{Fault}
 use Rattle.lmtpd_setup.specs.declared.fault.Fault.TheVariants as fault
 use Rattle.lmtpd_setup.specs.declared.stop.Stop.TheVariants as stop
 
 -- of the first fault of a site which of its tests failed
 bad_of : (n h d b c t : Bool)
-    → cond n (Some fault.NoBox) (cond (not h) (Some fault.Host) (cond (not d) (Some fault.Domain) (cond (not b) (Some fault.Box)
-    (cond c (Some fault.TooManyBoxes) (cond t (Some fault.BoxTwice) None))))) ≡ Some fault.Box → b ≡ false
+    → cond n (Some fault.NoBox) (fault_or (cond (not h) (Some fault.Host) (cond (not d) (Some fault.Domain) None))
+    (cond (not b) (Some fault.Box) (cond c (Some fault.TooManyBoxes) (cond t (Some fault.BoxTwice) None)))) ≡ Some fault.Box → b ≡ false
 bad_of true h d b c t e = cc
 bad_of false false d b c t e = cc
 bad_of false true false b c t e = cc
@@ -32,8 +33,8 @@ bad_of false true true true false true e = cc
 bad_of false true true true false false e = cc
 
 many_of : (n h d b c t : Bool)
-    → cond n (Some fault.NoBox) (cond (not h) (Some fault.Host) (cond (not d) (Some fault.Domain) (cond (not b) (Some fault.Box)
-    (cond c (Some fault.TooManyBoxes) (cond t (Some fault.BoxTwice) None))))) ≡ Some fault.TooManyBoxes → c ≡ true
+    → cond n (Some fault.NoBox) (fault_or (cond (not h) (Some fault.Host) (cond (not d) (Some fault.Domain) None))
+    (cond (not b) (Some fault.Box) (cond c (Some fault.TooManyBoxes) (cond t (Some fault.BoxTwice) None)))) ≡ Some fault.TooManyBoxes → c ≡ true
 many_of true h d b c t e = cc
 many_of false false d b c t e = cc
 many_of false true false b c t e = cc
@@ -43,8 +44,8 @@ many_of false true true true false true e = cc
 many_of false true true true false false e = cc
 
 twice_of : (n h d b c t : Bool)
-    → cond n (Some fault.NoBox) (cond (not h) (Some fault.Host) (cond (not d) (Some fault.Domain) (cond (not b) (Some fault.Box)
-    (cond c (Some fault.TooManyBoxes) (cond t (Some fault.BoxTwice) None))))) ≡ Some fault.BoxTwice → t ≡ true
+    → cond n (Some fault.NoBox) (fault_or (cond (not h) (Some fault.Host) (cond (not d) (Some fault.Domain) None))
+    (cond (not b) (Some fault.Box) (cond c (Some fault.TooManyBoxes) (cond t (Some fault.BoxTwice) None)))) ≡ Some fault.BoxTwice → t ≡ true
 twice_of true h d b c t e = cc
 twice_of false false d b c t e = cc
 twice_of false true false b c t e = cc
@@ -72,6 +73,118 @@ pub one_bad : (good : List ℕ → Bool) (names : List (List ℕ)) → prefix_le
 one_bad good [] before = absurd (omega (arith, before))
 one_bad good (name ∷ names) before =
     bad_step (good name) (prefix_len good names) (length names) (list_all good names) before (one_bad good names)
+
+-- The same of names of which so many are the words' own: where none is bad among these, the others are looked at.
+own_bad : (usable own : ℕ) (t : Bool) → nat_lt usable own ≡ t → usable < own → t ≡ true
+own_bad usable own true e below = refl
+own_bad usable own false e below = let above : own ≤ usable = grind (arith, nat_tests) in absurd (omega (arith, above, below))
+
+own_good : (usable own : ℕ) (t : Bool) → nat_lt usable own ≡ t → own ≤ usable → t ≡ false
+own_good usable own false e above = refl
+own_good usable own true e above = let below : usable < own = grind (arith, nat_tests) in absurd (omega (arith, above, below))
+
+-- the place of the first bad one among the words' own
+pub bad_own : (suffix : List ℕ) (own : ℕ) (names : List (List ℕ)) → prefix_len (is_usable_name suffix) (take own names) < own
+    → bad_place suffix own names ≡ prefix_len (is_usable_name suffix) (take own names)
+bad_own suffix own names below =
+    let usable = prefix_len (is_usable_name suffix) (take own names) in
+    ap (λ t. cond t usable (own + prefix_len (is_usable_listed_name suffix) (drop own names))) (own_bad usable own (nat_lt usable own) refl below)
+
+-- and where none is
+pub bad_listed : (suffix : List ℕ) (own : ℕ) (names : List (List ℕ)) → own ≤ prefix_len (is_usable_name suffix) (take own names)
+    → bad_place suffix own names ≡ own + prefix_len (is_usable_listed_name suffix) (drop own names)
+bad_listed suffix own names above =
+    let usable = prefix_len (is_usable_name suffix) (take own names) in
+    ap (λ t. cond t usable (own + prefix_len (is_usable_listed_name suffix) (drop own names))) (own_good usable own (nat_lt usable own) refl above)
+
+left_bad : (a b : Bool) → a ≡ false → (a && b) ≡ false
+left_bad false b e = refl
+left_bad true b e = cc
+
+right_bad : (a b : Bool) → b ≡ false → (a && b) ≡ false
+right_bad true b e = e
+right_bad false b e = refl
+
+both_good : (a b : Bool) → a ≡ true → b ≡ true → (a && b) ≡ true
+both_good true b left right = right
+both_good false b left right = cc
+
+-- names that are all passed are all usable, and where one isn't passed not all are
+usable_by : (suffix : List ℕ) (own : ℕ) (names : List (List ℕ)) (t : Bool) → nat_lt (prefix_len (is_usable_name suffix) (take own names)) own ≡ t
+    → own ≤ length names
+    → length names ≤ cond t (prefix_len (is_usable_name suffix) (take own names)) (own + prefix_len (is_usable_listed_name suffix) (drop own names))
+    → are_usable_names suffix own names ≡ true
+usable_by suffix own names true is within all =
+    let usable = prefix_len (is_usable_name suffix) (take own names) in
+    let below : usable < own = grind (arith, nat_tests) in
+    absurd (omega (arith, below, within, all))
+usable_by suffix own names false is within all =
+    let usable = prefix_len (is_usable_name suffix) (take own names) in
+    let above : own ≤ usable = grind (arith, nat_tests) in
+    let first = all_good (is_usable_name suffix) (take own names) (omega (arith, above, length-take own names)) in
+    let rest = all_good (is_usable_listed_name suffix) (drop own names) (omega (arith, all, within, length-drop own names)) in
+    both_good (list_all (is_usable_name suffix) (take own names)) (list_all (is_usable_listed_name suffix) (drop own names)) first rest
+
+pub all_usable : (suffix : List ℕ) (own : ℕ) (names : List (List ℕ)) → own ≤ length names → length names ≤ bad_place suffix own names
+    → are_usable_names suffix own names ≡ true
+all_usable suffix own names within all =
+    usable_by suffix own names (nat_lt (prefix_len (is_usable_name suffix) (take own names)) own) refl within all
+
+bad_by : (suffix : List ℕ) (own : ℕ) (names : List (List ℕ)) (t : Bool) → nat_lt (prefix_len (is_usable_name suffix) (take own names)) own ≡ t
+    → own ≤ length names
+    → cond t (prefix_len (is_usable_name suffix) (take own names)) (own + prefix_len (is_usable_listed_name suffix) (drop own names)) < length names
+    → are_usable_names suffix own names ≡ false
+bad_by suffix own names true is within before =
+    let usable = prefix_len (is_usable_name suffix) (take own names) in
+    let below : usable < own = grind (arith, nat_tests) in
+    left_bad (list_all (is_usable_name suffix) (take own names)) (list_all (is_usable_listed_name suffix) (drop own names))
+    (one_bad (is_usable_name suffix) (take own names) (omega (arith, below, within, length-take own names)))
+bad_by suffix own names false is within before =
+    right_bad (list_all (is_usable_name suffix) (take own names)) (list_all (is_usable_listed_name suffix) (drop own names))
+    (one_bad (is_usable_listed_name suffix) (drop own names) (omega (arith, before, within, length-drop own names)))
+
+pub one_unusable : (suffix : List ℕ) (own : ℕ) (names : List (List ℕ)) → own ≤ length names → bad_place suffix own names < length names
+    → are_usable_names suffix own names ≡ false
+one_unusable suffix own names within before =
+    bad_by suffix own names (nat_lt (prefix_len (is_usable_name suffix) (take own names)) own) refl within before
+
+-- the place of the first bad one, found among the words' own, then among the others; and where there is none
+pub found_own : (suffix : List ℕ) (own : ℕ) (names : List (Bor (List ℕ))) (place : ℕ) → own ≤ length names
+    → (place ≡ prefix_len (is_usable_name suffix) (texts (take own names))) × (place < length (take own names))
+    → (place ≡ bad_place suffix own (texts names)) × (place < length names)
+found_own suffix own names place within found =
+    let same : texts (take own names) ≡ take own (texts names) = sym (take-map (λ (name : Bor (List ℕ)). name.now) own names) in
+    let usable : place ≡ prefix_len (is_usable_name suffix) (take own (texts names)) = found.0 ∙ ap (prefix_len (is_usable_name suffix)) same in
+    let most = length-take own names in
+    (usable ∙ sym (bad_own suffix own (texts names) (omega (arith, usable, found.1, most, within))), omega (arith, found.1, most, within))
+
+none_own : (suffix : List ℕ) (own : ℕ) (names : List (Bor (List ℕ))) → own ≤ length names
+    → length (take own names) ≤ prefix_len (is_usable_name suffix) (texts (take own names))
+    → bad_place suffix own (texts names) ≡ own + prefix_len (is_usable_listed_name suffix) (texts (drop own names))
+none_own suffix own names within none =
+    let same : texts (take own names) ≡ take own (texts names) = sym (take-map (λ (name : Bor (List ℕ)). name.now) own names) in
+    let rest : texts (drop own names) ≡ drop own (texts names) = sym (drop-map (λ (name : Bor (List ℕ)). name.now) own names) in
+    let usable : prefix_len (is_usable_name suffix) (texts (take own names)) ≡ prefix_len (is_usable_name suffix) (take own (texts names)) =
+    ap (prefix_len (is_usable_name suffix)) same in
+    let most = length-take own names in
+    bad_listed suffix own (texts names) (omega (arith, usable, none, most, within))
+    ∙ ap (λ l. own + prefix_len (is_usable_listed_name suffix) l) (sym rest)
+
+pub found_listed : (suffix : List ℕ) (own : ℕ) (names : List (Bor (List ℕ))) (place : ℕ) → own ≤ length names
+    → length (take own names) ≤ prefix_len (is_usable_name suffix) (texts (take own names))
+    → (place ≡ prefix_len (is_usable_listed_name suffix) (texts (drop own names))) × (place < length (drop own names))
+    → (own + place ≡ bad_place suffix own (texts names)) × (own + place < length names)
+found_listed suffix own names place within none found =
+    let less = length-drop own names in
+    (ap (λ n. own + n) found.0 ∙ sym (none_own suffix own names within none), omega (arith, found.1, less, within))
+
+pub found_none : (suffix : List ℕ) (own : ℕ) (names : List (Bor (List ℕ))) → own ≤ length names
+    → length (take own names) ≤ prefix_len (is_usable_name suffix) (texts (take own names))
+    → length (drop own names) ≤ prefix_len (is_usable_listed_name suffix) (texts (drop own names))
+    → length names ≤ bad_place suffix own (texts names)
+found_none suffix own names within none all =
+    let less = length-drop own names in
+    omega (arith, none_own suffix own names within none, all, less, within)
 
 shuffle : (a e t b : Bool) → ((a || e) || (t || b)) ≡ ((a || t) || (e || b))
 shuffle true e t b = refl
@@ -115,27 +228,34 @@ none_twice seen (name ∷ names) once all = once_step seen name names (has_text 
 over : (limit count : ℕ) → nat_lt limit count ≡ true → count ≤ limit → ⊥
 over limit count more within = let above : limit < count = grind (arith, nat_tests) in omega (arith, above, within)
 
+-- the words have no more names themselves than they have
+own_within : (words : SiteWords) → own_count words ≤ length (texts words.boxes.items)
+own_within words =
+    let own = length (listed_boxes words.listed.now) in
+    let less : length words.boxes.items - own ≤ length words.boxes.items = omega arith in
+    omega (arith, less, length-map words.boxes.items (λ (name : Bor (List ℕ)). name.now))
+
 no_name : (words : SiteWords) (f : Fault) → site_fault words ≡ Some f → length (texts words.boxes.items) ≤ place_in words f
     → IsToldOf words f (stop.Fault f)
 no_name words fault.Box first all =
     let site = named_site words in
-    let usable = is_usable_name words.mailbox_suffix.now in
-    let bad : list_all usable site.boxes ≡ false =
-    bad_of (length site.boxes == 0) (is_host_name site.host) (list_all is_domain_name site.domains) (list_all usable site.boxes)
+    let usable = are_usable_names words.mailbox_suffix.now (own_count words) site.boxes in
+    let bad : usable ≡ false =
+    bad_of (length site.boxes == 0) (is_host_name site.host) (list_all is_domain_name site.domains) usable
     (nat_lt (box_limit_of words) (length site.boxes)) (has_twice site.boxes) first in
-    absurd (true≢false (sym (all_good usable site.boxes all) ∙ bad))
+    absurd (true≢false (sym (all_usable words.mailbox_suffix.now (own_count words) site.boxes (own_within words) all) ∙ bad))
 no_name words fault.TooManyBoxes first all =
     let site = named_site words in
-    let usable = is_usable_name words.mailbox_suffix.now in
+    let usable = are_usable_names words.mailbox_suffix.now (own_count words) site.boxes in
     let many : nat_lt (box_limit_of words) (length site.boxes) ≡ true =
-    many_of (length site.boxes == 0) (is_host_name site.host) (list_all is_domain_name site.domains) (list_all usable site.boxes)
+    many_of (length site.boxes == 0) (is_host_name site.host) (list_all is_domain_name site.domains) usable
     (nat_lt (box_limit_of words) (length site.boxes)) (has_twice site.boxes) first in
     absurd (over (box_limit_of words) (length site.boxes) many all)
 no_name words fault.BoxTwice first all =
     let site = named_site words in
-    let usable = is_usable_name words.mailbox_suffix.now in
+    let usable = are_usable_names words.mailbox_suffix.now (own_count words) site.boxes in
     let twice : has_twice site.boxes ≡ true =
-    twice_of (length site.boxes == 0) (is_host_name site.host) (list_all is_domain_name site.domains) (list_all usable site.boxes)
+    twice_of (length site.boxes == 0) (is_host_name site.host) (list_all is_domain_name site.domains) usable
     (nat_lt (box_limit_of words) (length site.boxes)) (has_twice site.boxes) first in
     absurd (true≢false (sym twice ∙ none_twice [] site.boxes refl all))
 no_name words fault.Address first all = refl
@@ -177,10 +297,6 @@ name_told words fault.Size line is = absurd (no_place words.boxes.items is.withi
 name_told words fault.NoThread line is = absurd (no_place words.boxes.items is.within)
 name_told words fault.ChannelGone line is = absurd (no_place words.boxes.items is.within)
 name_told words fault.Device line is = absurd (no_place words.boxes.items is.within)
-
-alone : (b : Bool) → cond (not (b && true)) (Some fault.Box) None ≡ Some fault.Box → b ≡ false
-alone true e = cc
-alone false e = refl
 
 -- the name at this place stands among those before it, which were seen, or it doesn't
 pub here : (names : List (Bor (List ℕ))) (k : ℕ) (d : Bor (List ℕ)) (seen : List (List ℕ)) → k < length names → seen ≡ texts (take k names)

@@ -1,12 +1,10 @@
 -- What the program's words may lack, and what the program then answers.
-use Rattle.std.specs.Prelude.{ℕ, Bool, true, false, not, nat_eq, nat_lt, ◌==◌, ◌&&◌, ◌-◌, List, [], ◌∷◌, ◌++◌, length}
-use Rattle.std.specs.Prelude.{if◌then◌else◌}
+use Rattle.std.specs.Prelude.{◌≡◌, ◌⊎◌, ℕ, Bool, true, false, not, nat_eq, nat_lt, ◌==◌, ◌&&◌, ◌-◌, List, [], ◌∷◌, ◌++◌, length}
+use Rattle.std.specs.Prelude.{drop, if◌then◌else◌, take}
 use Rattle.std.specs.Prelude.{Option, Some, None, codes}
-use Rattle.std.specs.Borrow.{Bor}
 use Rattle.std.specs.List.{ends_with, list_all}
-use Rattle.mail_world.specs.declared.limits.TheConstants.{BOX_LIMIT, MESSAGE_LIMIT}
-use Rattle.mail_world.specs.Site.{Site, is_host_name, is_domain_name, is_box_name, has_twice}
-use Rattle.lmtp_text.specs.Sites.{texts}
+use Rattle.mail_world.specs.declared.limits.TheConstants.{BOX_LIMIT}
+use Rattle.mail_world.specs.Site.{Site, is_host_name, is_domain_name, is_box_name, is_listed_name, is_address, has_twice}
 use Rattle.lmtp_text.specs.declared.site.SiteFault.{SiteFault}
 use Rattle.lmtp_text.specs.declared.site.SiteFault.TheVariants as cause
 use Rattle.lmtpd_words.specs.Boxes.{listed_boxes}
@@ -75,29 +73,57 @@ is_memory _ = false
 abbrev pub is_lock_name : List ℕ → Bool
 is_lock_name file = ends_with nat_eq file (codes ".lock")
 
--- a name that a mailbox can have whose file is called by it and that suffix
+-- a name that the words have themselves, of a mailbox whose file is called by it and that suffix
 abbrev pub is_usable_name : List ℕ → List ℕ → Bool
 is_usable_name suffix name = is_box_name name && not (is_lock_name (name ++ suffix))
 
--- the first fault of a site that may have so many mailboxes, whose files have that suffix, in the order in which the
--- program looks: whether there is a box comes before all names, and each box alone before their number
-abbrev pub first_fault : ℕ → List ℕ → Site → Option Fault
-first_fault limit suffix site =
-    if length site.boxes == 0 then Some fault.NoBox
-    else if not (is_host_name site.host) then Some fault.Host
-    else if not (list_all is_domain_name site.domains) then Some fault.Domain
-    else if not (list_all (is_usable_name suffix) site.boxes) then Some fault.Box
-    else if nat_lt limit (length site.boxes) then Some fault.TooManyBoxes
-    else if has_twice site.boxes then Some fault.BoxTwice
+-- the same of a name that is listed: it may be longer and have more bytes, and is no address
+abbrev pub is_usable_listed_name : List ℕ → List ℕ → Bool
+is_usable_listed_name suffix name = is_listed_name name && not (is_address name) && not (is_lock_name (name ++ suffix))
+
+-- names that mailboxes can have, of which the words have so many themselves, and the others are listed
+abbrev pub are_usable_names : List ℕ → ℕ → List (List ℕ) → Bool
+are_usable_names suffix own names =
+    list_all (is_usable_name suffix) (take own names) && list_all (is_usable_listed_name suffix) (drop own names)
+
+-- what is wrong with a host and further domains
+abbrev pub host_fault : List ℕ → List (List ℕ) → Option Fault
+host_fault host domains =
+    if not (is_host_name host) then Some fault.Host
+    else if not (list_all is_domain_name domains) then Some fault.Domain
     else None
 
--- the first fault of the site that the words name, where it may have so many mailboxes
-abbrev pub fault_within : ℕ → SiteWords → Option Fault
-fault_within limit words = first_fault limit words.mailbox_suffix.now (named_site words)
+-- and with such names, of which there may be so many: each alone is looked at before their number
+abbrev pub names_fault : ℕ → List ℕ → ℕ → List (List ℕ) → Option Fault
+names_fault limit suffix own names =
+    if not (are_usable_names suffix own names) then Some fault.Box
+    else if nat_lt limit (length names) then Some fault.TooManyBoxes
+    else if has_twice names then Some fault.BoxTwice
+    else None
+
+abbrev pub fault_or : Option Fault → Option Fault → Option Fault
+fault_or (Some f) other = Some f
+fault_or None other = other
+
+-- the first fault of a site that may have so many mailboxes, whose files have that suffix, and the names of so many of
+-- which the words have themselves, in the order in which the program looks: whether there is a box comes before all
+-- names
+abbrev pub first_fault : ℕ → List ℕ → ℕ → Site → Option Fault
+first_fault limit suffix own site =
+    if length site.boxes == 0 then Some fault.NoBox
+    else fault_or (host_fault site.host site.domains) (names_fault limit suffix own site.boxes)
+
+-- a site of good names isn't made because two are the same, or for lack of memory
+abbrev pub IsTwiceOrMemory : List (List ℕ) → SiteFault → Type 0
+IsTwiceOrMemory names f = (f ≡ cause.Memory) ⊎ ((f ≡ cause.Twice) × (has_twice names ≡ true))
 
 -- how many names the words have themselves
 abbrev pub own_count : SiteWords → ℕ
 own_count words = length words.boxes.items - length (listed_boxes words.listed.now)
+
+-- the first fault of the site that the words name, where it may have so many mailboxes
+abbrev pub fault_within : ℕ → SiteWords → Option Fault
+fault_within limit words = first_fault limit words.mailbox_suffix.now (own_count words) (named_site words)
 
 -- how many mailboxes a server's words may name: those with more names of their own than a command line may have no
 -- more than these
@@ -111,22 +137,6 @@ site_fault words = fault_within (box_limit_of words) words
 -- the same of a rehearsal's, wherever they name its mailboxes
 abbrev pub rehearsed_fault : SiteWords → Option Fault
 rehearsed_fault words = fault_within COMMAND_LINE_BOX_LIMIT words
-
--- the site of that host with those further domains and one mailbox
-abbrev pub site_of_one : List ℕ → List (Bor (List ℕ)) → List ℕ → Site
-site_of_one host domains name =
-    record {
-      host = host;
-      domains = texts domains;
-      boxes = name ∷ [];
-      message_limit = MESSAGE_LIMIT;
-      recipient_delimiter = None;
-      utf8 = false;
-      renames_marks = false;
-      refuses_malformed = false;
-      rejects_over_quota = false;
-      tells_busy = false;
-    }
 
 -- why the program ends where clap answers so
 abbrev pub stop_for : Error → Stop

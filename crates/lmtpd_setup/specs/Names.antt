@@ -1,6 +1,6 @@
 -- Which name of a mailbox can't be used, where it stands, and the line of the log that says it.
 use Rattle.std.specs.Prelude.{◌≡◌, ◌⊎◌, ◌<◌, ◌≤◌, ◌+◌, ◌||◌, ℕ, Bool, true, false, List, [], ◌∷◌, ◌++◌, length}
-use Rattle.std.specs.Prelude.{take}
+use Rattle.std.specs.Prelude.{drop, take}
 use Rattle.std.specs.Prelude.{suc, Option, Some, None, String, string_bytes, codes, decimal, get_or, nat_lt}
 use Rattle.std.specs.Prelude.{if◌then◌else◌}
 use Rattle.std.specs.declared.alloc.Global.{Global}
@@ -15,7 +15,8 @@ use Rattle.lmtpd_words.specs.Boxes.{IsLineOfName}
 use Rattle.lmtpd_output.specs.Printable.{printable_text}
 use Rattle.lmtpd_words.specs.declared.words.ServeWords.{ServeWords}
 use Rattle.lmtpd_words.specs.declared.words.SiteWords.{SiteWords}
-use Rattle.lmtpd_setup.specs.Faults.{box_limit_of, fault_text, is_usable_name, own_count, site_fault}
+use Rattle.lmtpd_setup.specs.Faults.{box_limit_of, fault_text, is_usable_listed_name, is_usable_name, own_count}
+use Rattle.lmtpd_setup.specs.Faults.{site_fault}
 use Rattle.lmtpd_setup.specs.declared.names.TheConstants.{SHOWN_LIMIT}
 use Rattle.lmtpd_setup.specs.declared.fault.Fault.{Fault}
 use Rattle.lmtpd_setup.specs.declared.fault.Fault.TheVariants as fault
@@ -27,17 +28,25 @@ abbrev pub twice_place : List (List ℕ) → List (List ℕ) → ℕ
 twice_place seen [] = 0
 twice_place seen (name ∷ names) = if has_text seen name then 0 else suc (twice_place (seen ++ name ∷ []) names)
 
+-- how many names come before the first that no mailbox can have, where the words have so many themselves and the others
+-- are listed
+abbrev pub bad_place : List ℕ → ℕ → List (List ℕ) → ℕ
+bad_place suffix own names =
+    let usable = prefix_len (is_usable_name suffix) (take own names) in
+    if nat_lt usable own then usable else own + prefix_len (is_usable_listed_name suffix) (drop own names)
+
 -- The number, from 0 on, of the name that a fault is about: the first that no mailbox can have whose file has that
 -- suffix, the first too many where there may be so many, the first that was named before.
-abbrev pub wrong_place : ℕ → List ℕ → Fault → List (List ℕ) → ℕ
-wrong_place limit suffix fault.Box names = prefix_len (is_usable_name suffix) names
-wrong_place limit suffix fault.TooManyBoxes names = limit
-wrong_place limit suffix fault.BoxTwice names = twice_place [] names
-wrong_place limit suffix _ names = length names
+abbrev pub wrong_place : ℕ → List ℕ → ℕ → Fault → List (List ℕ) → ℕ
+wrong_place limit suffix own fault.Box names = bad_place suffix own names
+wrong_place limit suffix own fault.TooManyBoxes names = limit
+wrong_place limit suffix own fault.BoxTwice names = twice_place [] names
+wrong_place limit suffix own _ names = length names
 
 -- the same of the names of a server's words
 abbrev pub place_in : SiteWords → Fault → ℕ
-place_in words f = wrong_place (box_limit_of words) words.mailbox_suffix.now f (texts words.boxes.items)
+place_in words f =
+    wrong_place (box_limit_of words) words.mailbox_suffix.now (own_count words) f (texts words.boxes.items)
 
 -- a place among that many names, where it is one
 abbrev pub IsFoundAt : ℕ → ℕ → Option ℕ → Type 0

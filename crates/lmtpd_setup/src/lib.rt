@@ -23,6 +23,7 @@ mod shares;
 mod site;
 mod sizes;
 mod stop;
+mod usable;
 
 pub use boxes::fill;
 pub use ends::{Ends, ServerCurfew};

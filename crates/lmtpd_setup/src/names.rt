@@ -4,13 +4,13 @@ ghost use Rattle.std.specs.Prelude.{◌≡◌, ◌⊎◌, ◌<◌, ◌≤◌, �
 ghost use Rattle.std.specs.List.{prefix_len};
 ghost use Rattle.mail_world.specs.Site.{has_text};
 ghost use Rattle.lmtp_text.specs.Sites.{owned, texts};
-ghost use Rattle.lmtpd_setup.specs.Faults.{box_limit_of, is_usable_name, own_count, site_fault};
+ghost use Rattle.lmtpd_setup.specs.Faults.{box_limit_of, is_usable_listed_name, is_usable_name, own_count, site_fault};
 ghost use Rattle.lmtpd_setup.specs.Names.{IsFoundAt, IsNameLine, IsNoSite, IsPlace, IsToldOf, place_in, place_text};
-ghost use Rattle.lmtpd_setup.specs.Names.{shown_name, tells_names, twice_place, wrong_place};
+ghost use Rattle.lmtpd_setup.specs.Names.{bad_place, shown_name, tells_names, twice_place, wrong_place};
 
 use crate::fault::Fault;
-use crate::site::is_usable_name;
 use crate::stop::Stop;
+use crate::usable::{is_usable_listed_name, is_usable_name};
 use indexmap::IndexSet;
 use itoa::Buffer;
 use lmtpd_output::printable;
@@ -46,7 +46,8 @@ fn told_site<'a>(alloc: Global, words: &SiteWords<'_>, fault: Fault) -> Stop<'a>
     ensures { (result ≡ Stop.Fault Fault.Memory) ⊎ IsToldOf words.now fault result }
 {
     let limit = box_limit_of(words);
-    let number = match wrong_number(alloc, limit, words.mailbox_suffix, &words.boxes, fault) {
+    let own = own_count(words);
+    let number = match wrong_number(alloc, limit, words.mailbox_suffix, own, &words.boxes, fault) {
         Ok(Some(number)) => number,
         Ok(None) => return Stop::Fault(fault),
         Err(_) => return Stop::Fault(Fault::Memory),
@@ -57,18 +58,21 @@ fn told_site<'a>(alloc: Global, words: &SiteWords<'_>, fault: Fault) -> Stop<'a>
     }
 }
 
-// The number of the name that the fault is about, where there may be so many, if it is about one of these.
+// The number of the name that the fault is about, where there may be so many, if it is about one of these. The words have
+// the first `own` themselves.
 fn wrong_number(
     alloc: Global,
     limit: usize,
     suffix: &str,
+    own: usize,
     names: &[&[u8]],
     fault: Fault,
 ) -> Result<Option<usize>, AllocError>
-    ensures { IfOk result (IsFoundAt (wrong_place limit suffix.now fault (texts names.now)) (length names.now)) }
+    requires { own ≤ length names.now }
+    ensures { IfOk result (IsFoundAt (wrong_place limit suffix.now own fault (texts names.now)) (length names.now)) }
 {
     match fault {
-        Fault::Box => first_bad(alloc, suffix, names),
+        Fault::Box => first_bad(alloc, suffix, own, names),
         Fault::TooManyBoxes => Ok(place_within(names, limit)),
         Fault::BoxTwice => first_twice(alloc, names),
         _ => Ok(None),
@@ -85,16 +89,47 @@ fn place_within(names: &[&[u8]], place: usize) -> Option<usize>
     }
 }
 
-/// The first of the names that no mailbox can have whose file has that suffix.
+/// The first of the names that no mailbox can have whose file has that suffix. The words have the first `own` themselves,
+/// and the others are listed.
 pub(crate) fn first_bad(
     alloc: Global,
     suffix: &str,
+    own: usize,
     names: &[&[u8]],
 ) -> Result<Option<usize>, AllocError>
+    requires { own ≤ length names.now }
+    ensures { IfOk result (IsFoundAt (bad_place suffix.now own (texts names.now)) (length names.now)) }
+{
+    match first_bad_own(alloc, suffix, &names[..own])? {
+        Some(place) => Ok(Some(place)),
+        None => match first_bad_listed(alloc, suffix, &names[own..])? {
+            Some(place) => Ok(Some(own + place)),
+            None => Ok(None),
+        },
+    }
+}
+
+fn first_bad_own(alloc: Global, suffix: &str, names: &[&[u8]]) -> Result<Option<usize>, AllocError>
     ensures { IfOk result (IsFoundAt (prefix_len (is_usable_name suffix.now) (texts names.now)) (length names.now)) }
 {
     for (place, name) in names.iter().enumerate() {
         if !is_usable_name(alloc, suffix, name)? {
+            return Ok(Some(place));
+        }
+    }
+    Ok(None)
+}
+
+fn first_bad_listed(
+    alloc: Global,
+    suffix: &str,
+    names: &[&[u8]],
+) -> Result<Option<usize>, AllocError>
+    ensures { IfOk result
+        (IsFoundAt (prefix_len (is_usable_listed_name suffix.now) (texts names.now)) (length names.now)) }
+{
+    for (place, name) in names.iter().enumerate() {
+        if !is_usable_listed_name(alloc, suffix, name)? {
             return Ok(Some(place));
         }
     }
@@ -177,9 +212,10 @@ fn line_of(words: &SiteWords<'_>, number: usize) -> Option<usize>
     line_of_name(words.listed, before)
 }
 
-// How many names the words have themselves.
-fn own_count(words: &SiteWords<'_>) -> usize
-    ensures { result ≡ own_count words.now }
+/// How many names the words have themselves.
+pub(crate) fn own_count(words: &SiteWords<'_>) -> usize
+    ensures value { result ≡ own_count words.now }
+    ensures within { result ≤ length words.now.boxes.items }
 {
     words.boxes.len().saturating_sub(count_names(words.listed))
 }

@@ -1,26 +1,27 @@
 //! The site that the program's words name.
 
-ghost use Rattle.std.specs.Prelude.{◌≡◌, ◌<◌, ◌≤◌, ◌⊎◌, ◌++◌, true, false, length, Some, None, IfOk, MatchResult};
+ghost use Rattle.std.specs.Prelude.{◌≡◌, ◌<◌, ◌≤◌, ◌⊎◌, true, false, length, take, drop, Some, None, IfErr, IfOk};
+ghost use Rattle.std.specs.Prelude.{MatchResult};
 ghost use Rattle.std.specs.Arc.{arc_value};
-ghost use Rattle.mail_world.specs.Site.{IsSite};
+ghost use Rattle.mail_world.specs.Site.{IsSite, is_box_name, is_listed_name};
 ghost use Rattle.mail_world.specs.declared.limits.TheConstants.{BOX_LIMIT};
 ghost use Rattle.std.specs.List.{list_all};
 ghost use Rattle.lmtp_text.specs.Sites.{site_of, texts};
 ghost use Rattle.lmtpd_words.specs.Words.{named_site, serving_site};
-ghost use Rattle.lmtpd_setup.specs.Faults.{fault_within, first_fault, is_lock_name, is_usable_name, site_fault};
-ghost use Rattle.lmtpd_setup.specs.Faults.{site_of_one};
+ghost use Rattle.lmtpd_setup.specs.Faults.{IsTwiceOrMemory, are_usable_names, fault_within, first_fault, host_fault};
+ghost use Rattle.lmtpd_setup.specs.Faults.{names_fault, site_fault};
 ghost use Rattle.lmtpd_setup.specs.Names.{IsNoSite};
 
 use crate::fault::Fault;
-use crate::names::{box_limit_of, first_bad, refused_site};
+use crate::names::{box_limit_of, first_bad, own_count, refused_site};
 use crate::stop::Stop;
-use lmtp_text::Site;
+use lmtp_text::{Site, SiteFault};
 use lmtpd_words::{ServeWords, SiteWords};
 use std::alloc::{AllocError, Global};
 use std::sync::Arc;
 
-/// The site of these words, which may name so many mailboxes. That there is one is looked at first; then each name is
-/// tried alone, so that a bad one comes before too many.
+/// The site of these words, which may name so many mailboxes. That there is one is looked at first, and host and domains
+/// next; then each name is tried alone, so that a bad one comes before too many.
 pub fn site_of(alloc: Global, words: &SiteWords, limit: usize) -> Result<Site, Fault>
     requires { limit ≤ BOX_LIMIT }
     ensures made { IfOk result (λ site. site ≡ named_site words.now) }
@@ -30,11 +31,13 @@ pub fn site_of(alloc: Global, words: &SiteWords, limit: usize) -> Result<Site, F
 {
     let domains = bytes_of(alloc, &words.domains)?;
     let host = words.host.as_bytes();
+    let own = own_count(words);
     let site = make_site(
         alloc,
         host,
         &domains,
         words.mailbox_suffix,
+        own,
         &words.boxes,
         limit,
     )?;
@@ -124,89 +127,83 @@ fn bytes_of<'a>(alloc: Global, names: &[&'a str]) -> Result<Vec<&'a [u8]>, Alloc
     Ok(all)
 }
 
-#[tactic(auto, using(crate::proofs::Orders::none_refused))]
+// The words have the first `own` names themselves, and the others are listed.
 fn make_site(
     alloc: Global,
     host: &[u8],
     domains: &[&[u8]],
     suffix: &str,
+    own: usize,
     boxes: &[&[u8]],
     limit: usize,
 ) -> Result<Site, Fault>
-    requires { limit ≤ BOX_LIMIT }
+    requires least { limit ≤ BOX_LIMIT }
+    requires own { own ≤ length boxes.now }
     ensures made { IfOk result (λ site. site ≡ site_of host.now domains.now boxes.now) }
     ensures sound { IfOk result IsSite }
     ensures order { let site = site_of host.now domains.now boxes.now in
-        MatchResult result (λ _. first_fault limit suffix.now site ≡ None)
-        (λ fault. (fault ≡ Fault.Memory) ⊎ (first_fault limit suffix.now site ≡ Some fault)) }
+        MatchResult result (λ _. first_fault limit suffix.now own site ≡ None)
+        (λ fault. (fault ≡ Fault.Memory) ⊎ (first_fault limit suffix.now own site ≡ Some fault)) }
 {
     if boxes.is_empty() {
         return Err(Fault::NoBox);
     }
-    try_each_box(alloc, host, domains, suffix, boxes, limit)?;
-    let site = Site::new(alloc, host, domains, boxes)?;
+    try_host(alloc, host, domains)?;
+    try_each_box(alloc, suffix, own, boxes, limit)?;
+    let site = site_of_names(alloc, host, domains, own, boxes)?;
     Ok(site)
 }
 
-// Host and domains are tried with the first name alone, and the number of names comes last.
+// Whether a site can have that host and those further domains.
+fn try_host(alloc: Global, host: &[u8], domains: &[&[u8]]) -> Result<(), Fault>
+    ensures { MatchResult result (λ _. host_fault host.now (texts domains.now) ≡ None)
+        (λ fault. (fault ≡ Fault.Memory) ⊎ (host_fault host.now (texts domains.now) ≡ Some fault)) }
+{
+    let _site = Site::new(alloc, host, domains, &[b"a"])?;
+    Ok(())
+}
+
+// Each name is tried alone, and their number comes after that.
 fn try_each_box(
     alloc: Global,
-    host: &[u8],
-    domains: &[&[u8]],
     suffix: &str,
+    own: usize,
     boxes: &[&[u8]],
     limit: usize,
 ) -> Result<(), Fault>
-    requires { 0 < length boxes.now }
+    requires { own ≤ length boxes.now }
     ensures { MatchResult result
-        (λ _. (list_all (is_usable_name suffix.now) (texts boxes.now) ≡ true) × (length boxes.now ≤ limit))
-        (λ fault. (fault ≡ Fault.Memory)
-        ⊎ (first_fault limit suffix.now (site_of host.now domains.now boxes.now) ≡ Some fault)) }
+        (λ _. (are_usable_names suffix.now own (texts boxes.now) ≡ true) × (length boxes.now ≤ limit))
+        (λ fault. (fault ≡ Fault.Memory) ⊎ (names_fault limit suffix.now own (texts boxes.now) ≡ Some fault)) }
 {
-    try_box(alloc, host, domains, suffix, boxes[0])?;
-    match first_bad(alloc, suffix, boxes)? {
+    match first_bad(alloc, suffix, own, boxes)? {
         Some(_) => Err(Fault::Box),
         None if boxes.len() > limit => Err(Fault::TooManyBoxes),
         None => Ok(()),
     }
 }
 
-/// Whether the name is one that a mailbox can have whose file has that suffix.
-pub(crate) fn is_usable_name(alloc: Global, suffix: &str, name: &[u8]) -> Result<bool, AllocError>
-    ensures { IfOk result (λ usable. usable ≡ is_usable_name suffix.now name.now) }
-{
-    match try_box(alloc, b"h", &[], suffix, name) {
-        Ok(()) => Ok(true),
-        Err(Fault::Box) => Ok(false),
-        Err(_) => Err(AllocError),
-    }
-}
-
-// Whether the name is one that a mailbox can have whose file has that suffix, beside that host and these domains.
-fn try_box(
+// The site of names that are all good, but where two may be the same.
+fn site_of_names(
     alloc: Global,
     host: &[u8],
     domains: &[&[u8]],
-    suffix: &str,
-    name: &[u8],
-) -> Result<(), Fault>
-    ensures { let site = site_of_one host.now domains.now name.now in
-        MatchResult result (λ _. first_fault BOX_LIMIT suffix.now site ≡ None)
-        (λ fault. (fault ≡ Fault.Memory) ⊎ (first_fault BOX_LIMIT suffix.now site ≡ Some fault)) }
+    own: usize,
+    boxes: &[&[u8]],
+) -> Result<Site, SiteFault>
+    requires host { host_fault host.now (texts domains.now) ≡ None }
+    requires count { (0 < length boxes.now) × (length boxes.now ≤ BOX_LIMIT) }
+    requires within { own ≤ length boxes.now }
+    requires own { list_all is_box_name (take own (texts boxes.now)) ≡ true }
+    requires listed { list_all is_listed_name (drop own (texts boxes.now)) ≡ true }
+    ensures made { IfOk result (λ site. site ≡ site_of host.now domains.now boxes.now) }
+    ensures sound { IfOk result IsSite }
+    ensures refused { IfErr result (IsTwiceOrMemory (texts boxes.now)) }
 {
-    let _site = Site::new(alloc, host, domains, &[name])?;
-    if is_lock_name(alloc, name, suffix)? {
-        return Err(Fault::Box);
+    let listed = &boxes[own..];
+    if own == 0 {
+        return Site::of_list(alloc, host, domains, listed);
     }
-    Ok(())
-}
-
-// Whether the file of that name and suffix is called as a lock file is.
-fn is_lock_name(alloc: Global, name: &[u8], suffix: &str) -> Result<bool, AllocError>
-    ensures { IfOk result (λ is. is ≡ is_lock_name (name.now ++ suffix.now)) }
-{
-    let mut file = Vec::new(alloc);
-    file.extend_from_slice(name)?;
-    file.extend_from_slice(suffix.as_bytes())?;
-    Ok(file.ends_with(b".lock"))
+    let site = Site::new(alloc, host, domains, &boxes[..own])?;
+    site.with_listed(alloc, listed)
 }

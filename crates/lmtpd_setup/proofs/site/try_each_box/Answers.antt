@@ -1,52 +1,43 @@
-use Rattle.std.proofs.Common.{◌∙◌, inl, inr, arith, length, ℕ, List, [], get_or, subst}
+use Rattle.std.proofs.Common.{◌≤◌, ◌<◌, inr, arith, length, ℕ, List, subst}
+use Rattle.std.specs.Prelude.{cond, nat_lt, Some, None}
 use Rattle.std.specs.Borrow.{Bor}
-use Rattle.std.specs.List.{prefix_len}
 use Rattle.std.proofs.lemmas.List.{length-map}
-use Rattle.std.proofs.lemmas.List.Folds.{list_all-map, list_all_at}
-use Rattle.std.proofs.lemmas.Result.{err_from_is_err_and}
+use Rattle.mail_world.specs.Site.{has_twice}
 use Rattle.lmtp_text.specs.Sites.{texts}
-use Rattle.lmtpd_setup.specs.Faults.{is_usable_name}
-use Rattle.lmtpd_setup.specs.Names.{IsFoundAt}
-use Rattle.lmtpd_setup.proofs.Orders.{box_refused, is_over, many_refused, name_refused, some_of_place}
-use Rattle.lmtpd_setup.proofs.WrongNames.{all_good, one_bad}
+use Rattle.lmtpd_setup.specs.Faults.{are_usable_names}
+use Rattle.lmtpd_setup.specs.Names.{IsFoundAt, bad_place}
+use Rattle.lmtpd_setup.specs.declared.fault.Fault.TheVariants as fault
+use Rattle.lmtpd_setup.proofs.Orders.{bad_said, is_over, many_said}
+use Rattle.lmtpd_setup.proofs.WrongNames.{all_usable, one_unusable}
 use Rattle.lmtpd_setup.proofs.site.try_each_box.Goals as goal
-
-pub returns-in_err-try_box : goal.returns-in_err-try_box
-returns-in_err-try_box c =
-    let p = err_from_is_err_and c.from_residual.result c.from_residual.ensures.1 in
-    let boxes = c.args.boxes.now in
-    let usable = is_usable_name c.args.suffix.now in
-    let no_name : Bor (List ℕ) = record { ref_ptr = (0, 0); now = [] } in
-    rw (p.1, p.2) (elim c.in_err-try_box.ensures [
-      | inl memory ↦ inl memory
-      | inr found ↦ inr (box_refused c.args.limit c.args.host.now c.args.domains.now boxes c.args.suffix.now (get_or boxes 0 no_name).now _ found
-          (some_of_place c.args.host.now c.args.domains.now boxes 0 c.requires)
-          (λ bad. list_all-map usable (λ n. n.now) boxes ∙ list_all_at (λ n. usable n.now) boxes 0 no_name c.requires bad))
-    ])
 
 pub returns-in-Some : goal.returns-in-Some
 returns-in-Some c =
     let boxes = c.args.boxes.now in
-    let usable = is_usable_name c.args.suffix.now in
-    let no_name : Bor (List ℕ) = record { ref_ptr = (0, 0); now = [] } in
-    let found = subst (λ o. IsFoundAt (prefix_len usable (texts boxes)) (length boxes) o) c.in-Some.is c.in_ok-first_bad.ensures in
-    let bad = one_bad usable (texts boxes) (omega (arith, found, length-map boxes (λ (name : Bor (List ℕ)). name.now))) in
-    inr (name_refused c.args.limit c.args.host.now c.args.domains.now boxes c.args.suffix.now (get_or boxes 0 no_name).now c.in_ok-try_box.ensures
-    (some_of_place c.args.host.now c.args.domains.now boxes 0 c.requires) bad)
+    let suffix = c.args.suffix.now in
+    let own = c.args.own in
+    let same = length-map boxes (λ (name : Bor (List ℕ)). name.now) in
+    let found = subst (λ o. IsFoundAt (bad_place suffix own (texts boxes)) (length boxes) o) c.in-Some.is c.in_ok-first_bad.ensures in
+    let bad = one_unusable suffix own (texts boxes) (omega (arith, c.requires, same)) (omega (arith, found, same)) in
+    let rest = cond (nat_lt c.args.limit (length (texts boxes))) (Some fault.TooManyBoxes) (cond (has_twice (texts boxes)) (Some fault.BoxTwice) None) in
+    inr (bad_said (are_usable_names suffix own (texts boxes)) rest bad)
 
 pub returns-in-None : goal.returns-in-None
 returns-in-None c =
     let boxes = c.args.boxes.now in
-    let usable = is_usable_name c.args.suffix.now in
-    let no_name : Bor (List ℕ) = record { ref_ptr = (0, 0); now = [] } in
-    let found = subst (λ o. IsFoundAt (prefix_len usable (texts boxes)) (length boxes) o) c.in-None.is c.in_ok-first_bad.ensures in
-    let all = all_good usable (texts boxes) (omega (arith, found, length-map boxes (λ (name : Bor (List ℕ)). name.now))) in
-    inr (many_refused c.args.limit c.args.host.now c.args.domains.now boxes c.args.suffix.now (get_or boxes 0 no_name).now c.in_ok-try_box.ensures
-    (some_of_place c.args.host.now c.args.domains.now boxes 0 c.requires) all (is_over c.args.limit boxes c.if-boxes-limit.true))
+    let suffix = c.args.suffix.now in
+    let own = c.args.own in
+    let same = length-map boxes (λ (name : Bor (List ℕ)). name.now) in
+    let found = subst (λ o. IsFoundAt (bad_place suffix own (texts boxes)) (length boxes) o) c.in-None.is c.in_ok-first_bad.ensures in
+    let all = all_usable suffix own (texts boxes) (omega (arith, c.requires, same)) (omega (arith, found, same)) in
+    inr (many_said (are_usable_names suffix own (texts boxes)) (nat_lt c.args.limit (length (texts boxes)))
+    (cond (has_twice (texts boxes)) (Some fault.BoxTwice) None) all (is_over c.args.limit boxes c.if-boxes-limit.true))
 
 pub returns-in-None-2 : goal.returns-in-None-2
 returns-in-None-2 c =
     let boxes = c.args.boxes.now in
-    let usable = is_usable_name c.args.suffix.now in
-    let found = subst (λ o. IsFoundAt (prefix_len usable (texts boxes)) (length boxes) o) c.in-None.is c.in_ok-first_bad.ensures in
-    (all_good usable (texts boxes) (omega (arith, found, length-map boxes (λ (name : Bor (List ℕ)). name.now))), omega (arith, c.if-boxes-limit.false))
+    let suffix = c.args.suffix.now in
+    let own = c.args.own in
+    let same = length-map boxes (λ (name : Bor (List ℕ)). name.now) in
+    let found = subst (λ o. IsFoundAt (bad_place suffix own (texts boxes)) (length boxes) o) c.in-None.is c.in_ok-first_bad.ensures in
+    (all_usable suffix own (texts boxes) (omega (arith, c.requires, same)) (omega (arith, found, same)), omega (arith, c.if-boxes-limit.false))

@@ -2,7 +2,7 @@ use Rattle.std.proofs.Common.{◌≡◌, ◌+◌, drop}
 use Rattle.std.specs.List.{prefix_len}
 use Rattle.lmtp_text.specs.Sites.{texts}
 use Rattle.lmtpd_setup.specs.Faults.{is_usable_name}
-use Rattle.lmtpd_setup.proofs.names.first_bad.Given as goal
+use Rattle.lmtpd_setup.proofs.names.first_bad_own.Given as goal
 
 -- what was passed are names that mailboxes can have
 abbrev pub invariant-loop-place : goal.invariant-loop-place
