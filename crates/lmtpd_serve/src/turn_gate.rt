@@ -67,12 +67,17 @@ impl<C: Clock + Drop, E: Curfew> TurnGate<C, E> {
 
 impl<C: Clock + Drop, E: Curfew> Gate for TurnGate<C, E> {
     fn is_free(&mut self) -> bool {
-        self.rest.is_free()
+        let is_free = self.rest.is_free();
+        if is_free {
+            self.words.slow.looks(self.mailbox, &self.clock);
+        }
+        is_free
     }
 
     /// As long as a turn may be waited for that is under way. A mailbox whose turn is put off for two seconds is slow.
     fn may_put_off(&mut self) -> bool {
         let now = self.now();
+        self.words.slow.leaves(self.mailbox);
         if !self.is_put_off {
             self.is_put_off = true;
             self.looked = now;

@@ -26,6 +26,7 @@ use lmtpd_listen::Manager;
 use lmtpd_log::{LineSetting, LogSink, MailboxSink};
 use lmtpd_words::ServeWords;
 use log::LevelFilter;
+use mail_post::WORKER_THREADS;
 use mbox_rd::{RangeLock, Writeback};
 use slow_boxes::SlowBoxes;
 use std::alloc::Global;
@@ -167,7 +168,9 @@ fn shared_curfew<H: Drop>(
 fn shared_words(alloc: Global, words: &ServeWords<'_>) -> Result<Arc<SlowBoxes>, Fault>
     ensures err { IfErr result (λ f. f ≡ Fault.Memory) }
 {
-    let slow = SlowBoxes::new(alloc, words.lanes, words.site.boxes.len())?;
+    let boxes = words.site.boxes.len();
+    let threads = boxes.min(WORKER_THREADS as usize);
+    let slow = SlowBoxes::of_threads(alloc, words.lanes, boxes, threads)?;
     Ok(Arc::new(alloc, slow)?)
 }
 

@@ -8,12 +8,14 @@ use std::alloc::{AllocError, Global};
 use std::sync::atomic::{AtomicU64, Ordering};
 use std::time::Clock;
 
-/// Of each mailbox how its turns stand and which lanes have a copy there without an answer, and which lanes count: they
-/// had a recipient with a slow mailbox. A lane that is no lane of the server, and a mailbox that is none, change nothing.
+/// Of each mailbox how its turns stand and which lanes have a copy there without an answer, of each thread since when it
+/// is at one of its mailboxes, and which lanes count: they had a recipient with a slow mailbox. A lane that is no lane of
+/// the server, and a mailbox that is none, change nothing.
 #[derive(Drop)]
 pub struct SlowBoxes {
     lanes: u32,
     boxes: Vec<BoxWords>,
+    threads: Vec<Turns>,
     counting: AtomicU64,
     // the lanes whose message has several copies for one mailbox
     doubled: AtomicU64,
@@ -27,11 +29,31 @@ struct BoxWords {
 }
 
 impl SlowBoxes {
-    /// For that many lanes and mailboxes. From here on it takes no memory.
+    /// For that many lanes and mailboxes, of which each has a thread of its own. From here on it takes no memory.
     pub fn new(alloc: Global, lanes: u32, boxes: usize) -> Result<SlowBoxes, AllocError>
         ensures lanes { IfOk result (λ made. made.lanes ≡ lanes) }
         ensures boxes { IfOk result (λ made. length made.boxes.items ≡ boxes) }
+        ensures threads { IfOk result (λ made. length made.threads.items ≡ boxes) }
     {
+        SlowBoxes::of_threads(alloc, lanes, boxes, boxes)
+    }
+
+    /// For that many lanes, mailboxes and threads, which have the mailboxes by turns: mailbox b is thread b modulo their
+    /// number's. From here on it takes no memory.
+    pub fn of_threads(
+        alloc: Global,
+        lanes: u32,
+        boxes: usize,
+        threads: usize,
+    ) -> Result<SlowBoxes, AllocError>
+        ensures lanes { IfOk result (λ made. made.lanes ≡ lanes) }
+        ensures boxes { IfOk result (λ made. length made.boxes.items ≡ boxes) }
+        ensures threads { IfOk result (λ made. length made.threads.items ≡ threads) }
+    {
+        let mut at = Vec::with_capacity(alloc, threads)?;
+        for _ in 0..threads {
+            at.push(Turns::new())?;
+        }
         let mut words = Vec::with_capacity(alloc, boxes)?;
         for _ in 0..boxes {
             words.push(BoxWords {
@@ -42,6 +64,7 @@ impl SlowBoxes {
         Ok(SlowBoxes {
             lanes,
             boxes: words,
+            threads: at,
             counting: AtomicU64::new(0),
             doubled: AtomicU64::new(0),
         })
@@ -86,8 +109,23 @@ impl SlowBoxes {
 
     /// A turn begins at the mailbox.
     pub fn begins<C: Clock>(&self, mailbox: u32, clock: &C) {
+        self.looks(mailbox, clock);
         if let Some(words) = self.boxes.get(mailbox as usize) {
             words.turns.begin(milliseconds(clock));
+        }
+    }
+
+    /// The mailbox's thread looks from now on whether a turn can be had there.
+    pub fn looks<C: Clock>(&self, mailbox: u32, clock: &C) {
+        if let Some(thread) = self.thread_of(mailbox as usize) {
+            thread.begin(milliseconds(clock));
+        }
+    }
+
+    /// The mailbox's thread goes on with others.
+    pub fn leaves(&self, mailbox: u32) {
+        if let Some(thread) = self.thread_of(mailbox as usize) {
+            thread.end();
         }
     }
 
@@ -108,9 +146,10 @@ impl SlowBoxes {
         } else {
             words.turns.end();
         }
+        self.leaves(mailbox);
     }
 
-    /// Whether a recipient of the lane is answered that his mailbox is busy: it is slow, and other lanes that count are
+    /// Whether a recipient of the lane is answered that his mailbox is busy: it or its thread is slow, and other lanes that count are
     /// as many as may, or each other one counts or waits at a slow mailbox since before that was known. Else the lane
     /// counts from now on where the mailbox is slow, so that lanes that count are never more than that. A lane that asks
     /// counts meanwhile for the others that ask.
@@ -119,7 +158,19 @@ impl SlowBoxes {
             return false;
         };
         let now = milliseconds(clock);
-        words.turns.is_slow(now) && !self.counts(lane, now)
+        self.is_slow(mailbox as usize, words, now) && !self.counts(lane, now)
+    }
+
+    // Whether the mailbox is slow, or its thread is at another one for as long.
+    fn is_slow(&self, mailbox: usize, words: &BoxWords, now: u64) -> bool {
+        words.turns.is_slow(now)
+            || self
+                .thread_of(mailbox)
+                .is_some_and(|thread| thread.is_old(now))
+    }
+
+    fn thread_of(&self, mailbox: usize) -> Option<&Turns> {
+        self.threads.get(mailbox.checked_rem(self.threads.len())?)
     }
 
     // Whether the lane counts from now on, or does already.
@@ -163,8 +214,8 @@ impl SlowBoxes {
     // The lanes that have a copy without an answer at a slow mailbox.
     fn lanes_held(&self, now: u64) -> u64 {
         let mut lanes = 0;
-        for words in &self.boxes {
-            if words.turns.is_slow(now) {
+        for (mailbox, words) in self.boxes.iter().enumerate() {
+            if self.is_slow(mailbox, words, now) {
                 lanes |= words.lanes.load(Ordering::SeqCst);
             }
         }
