@@ -8,8 +8,9 @@ import time
 
 from cases import case, equal
 from clients import Client
-from leases import lease_break_seconds, letters_beside_a_lease, put_a_lease_in_place
+from leases import hold_leases, lease_break_seconds, letters_beside_a_lease, put_a_lease_in_place
 from neighbours import ANNA, MANY, Senders, Site, done_by, need_undisturbed, seconds_of_letters
+from putting_off import THREADS, served, waiting
 from readers import bytes_held
 from replies import BUSY, GO_AHEAD, RECIPIENT_OK, RESET_OK, stored
 from server import Server
@@ -98,6 +99,31 @@ def leases_on_new_mailboxes_for_all_lanes(folder):
 
 
 leases_on_new_mailboxes_for_all_lanes.seconds = 180
+
+
+@case
+def lease_on_a_mailbox_of_a_thread(folder):
+    """a lease is on one of a thread's mailboxes, and a letter for it waits: of three clients that then send letters to
+    others of that thread, on four lanes, two do and the third is told 450, and another thread's letters go on, 0.1 s in
+    the middle and 1 s at most; the three letters come once the system's wait is over"""
+    names = [f"u{place * THREADS}" for place in range(4)]
+    leased = folder / f"{names[0]}.mbox"
+    leased.touch()
+    with served(folder, len(names)) as server, contextlib.ExitStack() as held:
+        held.enter_context(done_by(os.geteuid(), hold_leases, leased))
+        clients = [held.enter_context(waiting(server, names[0], "hello"))]
+        time.sleep(1)
+        for name in names[1:3]:
+            clients.append(held.enter_context(waiting(server, name, "hello")))
+        with Client(server.address).greet() as last:
+            last.ask("MAIL FROM:<carl@a.example>")
+            equal(last.ask(f"RCPT TO:<{names[3]}@mx.example>"), BUSY)
+            last.quit()
+        need_undisturbed(seconds_of_letters(server.address, "u1", 40))
+        equal([client.hear() for client in clients], [stored(name) for name in names[:3]])
+
+
+lease_on_a_mailbox_of_a_thread.seconds = lease_break_seconds() + 60
 
 
 @case
