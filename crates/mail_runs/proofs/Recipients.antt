@@ -65,10 +65,10 @@ module _ (site : Site) (some : 0 < length site.boxes) where
       either_known (place_of_address site.boxes domain local) (found_or (box_of_local site domain local) (box_of_postmaster site domain local))
       (address_known domain local)
       (
-        either_known (box_of_local site domain local) (box_of_postmaster site domain local)
-        (chosen_known here (place_of_local site.boxes local) None (local_known local) tt)
-        (chosen_known (is_word (codes "postmaster") local) postmaster None
-          (chosen_known here (Some 0) (first_at site.boxes domain) some (first_known domain)) tt)
+      either_known (box_of_local site domain local) (box_of_postmaster site domain local)
+      (chosen_known here (place_of_local site.boxes local) None (local_known local) tt)
+      (chosen_known (is_word (codes "postmaster") local) postmaster None
+      (chosen_known here (Some 0) (first_at site.boxes domain) some (first_known domain)) tt)
       )
 
   target_known : (target : Target) → IfSome (box_of site target) IsKnown
