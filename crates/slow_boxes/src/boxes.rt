@@ -5,7 +5,7 @@ ghost use Rattle.std.specs.Prelude.{◌≡◌, length, IfOk};
 use crate::lanes::{bit_of, share_of};
 use crate::turns::{Turns, milliseconds};
 use std::alloc::{AllocError, Global};
-use std::sync::atomic::{AtomicU64, Ordering};
+use std::sync::atomic::{AtomicU32, AtomicU64, Ordering};
 use std::time::Clock;
 
 /// Of each mailbox how its turns stand and which lanes have a copy there without an answer, of each thread since when it
@@ -15,7 +15,7 @@ use std::time::Clock;
 pub struct SlowBoxes {
     lanes: u32,
     boxes: Vec<BoxWords>,
-    threads: Vec<Turns>,
+    threads: Vec<ThreadWords>,
     counting: AtomicU64,
     // the lanes whose message has several copies for one mailbox
     doubled: AtomicU64,
@@ -26,6 +26,13 @@ pub struct SlowBoxes {
 struct BoxWords {
     turns: Turns,
     lanes: AtomicU64,
+}
+
+/// What is known of a thread: at which of its mailboxes it is, and since when.
+#[derive(Drop)]
+struct ThreadWords {
+    mailbox: AtomicU32,
+    turns: Turns,
 }
 
 impl SlowBoxes {
@@ -52,7 +59,10 @@ impl SlowBoxes {
     {
         let mut at = Vec::with_capacity(alloc, threads)?;
         for _ in 0..threads {
-            at.push(Turns::new())?;
+            at.push(ThreadWords {
+                mailbox: AtomicU32::new(0),
+                turns: Turns::new(),
+            })?;
         }
         let mut words = Vec::with_capacity(alloc, boxes)?;
         for _ in 0..boxes {
@@ -118,14 +128,15 @@ impl SlowBoxes {
     /// The mailbox's thread looks from now on whether a turn can be had there.
     pub fn looks<C: Clock>(&self, mailbox: u32, clock: &C) {
         if let Some(thread) = self.thread_of(mailbox as usize) {
-            thread.begin(milliseconds(clock));
+            thread.mailbox.store(mailbox, Ordering::SeqCst);
+            thread.turns.begin(milliseconds(clock));
         }
     }
 
     /// The mailbox's thread goes on with others.
     pub fn leaves(&self, mailbox: u32) {
         if let Some(thread) = self.thread_of(mailbox as usize) {
-            thread.end();
+            thread.turns.end();
         }
     }
 
@@ -166,10 +177,10 @@ impl SlowBoxes {
         words.turns.is_slow(now)
             || self
                 .thread_of(mailbox)
-                .is_some_and(|thread| thread.is_old(now))
+                .is_some_and(|thread| thread.turns.is_old(now))
     }
 
-    fn thread_of(&self, mailbox: usize) -> Option<&Turns> {
+    fn thread_of(&self, mailbox: usize) -> Option<&ThreadWords> {
         self.threads.get(mailbox.checked_rem(self.threads.len())?)
     }
 
@@ -203,10 +214,23 @@ impl SlowBoxes {
             || self.lanes_held(now).count_ones() < share_of(self.lanes)
     }
 
-    /// Whether the turn under way at the mailbox, if there is one, is old.
+    /// Whether the turn under way at the mailbox, if there is one, is old, or its thread looks for as long whether one can
+    /// be had there.
     pub fn has_old_turn<C: Clock>(&self, mailbox: u32, clock: &C) -> bool {
-        match self.boxes.get(mailbox as usize) {
-            Some(words) => words.turns.is_old(milliseconds(clock)),
+        let now = milliseconds(clock);
+        let is_old = match self.boxes.get(mailbox as usize) {
+            Some(words) => words.turns.is_old(now),
+            None => false,
+        };
+        is_old || self.is_looked_at(mailbox, now)
+    }
+
+    // Whether the mailbox's thread is there for long.
+    fn is_looked_at(&self, mailbox: u32, now: u64) -> bool {
+        match self.thread_of(mailbox as usize) {
+            Some(thread) => {
+                thread.turns.is_old(now) && thread.mailbox.load(Ordering::SeqCst) == mailbox
+            }
             None => false,
         }
     }
