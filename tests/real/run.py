@@ -17,6 +17,7 @@ import killed_server_lock  # noqa: F401
 import killed_under_load  # noqa: F401
 import lease_in_var_mail  # noqa: F401
 import leases_are_told  # noqa: F401
+import lockers_of_one_thread  # noqa: F401
 import log_keeps_lines  # noqa: F401
 import long_run  # noqa: F401
 import mailbox_of_user  # noqa: F401
@@ -51,6 +52,7 @@ import site_that_grows  # noqa: F401
 import soak  # noqa: F401
 import takeover  # noqa: F401
 import ten_lines  # noqa: F401
+import thirty_thousand_users  # noqa: F401
 import three_hosts  # noqa: F401
 import torn_writes_read  # noqa: F401
 import watched  # noqa: F401

@@ -6,11 +6,11 @@ import threading
 import time
 
 import letters
-from cases import case, equal
+from cases import Absent, case, equal
 from clients import Client
-from neighbours import MANY, Senders, need_undisturbed, seconds_of_letters
+from neighbours import BEN, MANY, MIDDLE, Senders, need_undisturbed, seconds_of_letters
 from readers import bytes_held, name_held
-from replies import not_stored, stored
+from replies import BUSY as TOLD_BUSY, not_stored, stored
 from restarts import asked_to_stop, ended_in_time
 from server import Server
 
@@ -183,3 +183,32 @@ def mailboxes_that_are_none(folder):
         errors = server.end().errors
     for name in names[:4]:
         assert sum(f"mailbox={name} " in f"{line} " for line in errors) >= 1, (name, errors)
+
+
+@case
+def senders_to_mailboxes_that_are_none(folder):
+    """of a thread's mailboxes a folder, a FIFO, another's file (as root) and a file with a second link, to which four
+    clients send letters meanwhile: each has its line at the start and every letter is told 451, or 450 at its RCPT, and
+    none for another one of the thread takes longer than 0.1 s"""
+    if os.geteuid() != 0:
+        raise Absent("root")
+    names = [f"u{place * THREADS}" for place in range(5)]
+    a_folder, a_pipe, of_another, linked = (folder / f"{name}.mbox" for name in names[:4])
+    a_folder.mkdir()
+    os.mkfifo(a_pipe)
+    of_another.touch()
+    os.chown(of_another, BEN, BEN)
+    linked.touch()
+    (folder / "other").hardlink_to(linked)
+    with served(folder, 5, "--start-anyway", "--log", "error") as server:
+        with Senders(server.address, names[:4]) as senders:
+            time.sleep(1)
+            need_undisturbed(seconds_of_letters(server.address, names[4]), MIDDLE)
+        server.process.terminate()
+        errors = server.end().errors
+    for name in names[:4]:
+        replies = senders.replies[name]
+        equal((name, {*replies, TOLD_BUSY}, len(replies) > 10), (name, {not_stored(name), TOLD_BUSY}, True))
+        equal(errors.count(f"[ERROR lmtpd] cannot open mailbox={name} reason=not plain"), 1)
+    equal(errors[:4], [f"[ERROR lmtpd] cannot open mailbox={name} reason=not plain" for name in names[:4]])
+    equal(len(letters.messages(server.mailbox(names[4]))), 100)

@@ -18,6 +18,7 @@ import few_descriptors  # noqa: F401
 import files  # noqa: F401
 import floods  # noqa: F401
 import held_up  # noqa: F401
+import large_lists  # noqa: F401
 import largest  # noqa: F401
 import leases  # noqa: F401
 import limits  # noqa: F401

@@ -225,3 +225,38 @@ def what_is_no_plain_file_hinders_that_mailbox_alone(folder):
     equal(sorted(ended.errors[len(broken) :]), sorted([*in_use, *[f"lmtpd: {name} in use 2" for name in broken]]))
     for name in ["anna", "ben"]:
         equal(letters.messages(folder / f"{name}.mbox"), [b"one\n", b"two\n"])
+
+
+@case
+def a_folder_of_a_thousand_that_cannot_be_written(folder):
+    """as a user who isn't root, with 1,000 mailboxes of a file, each there already: of a folder without the right to
+    write the log has one line at the start, each mailbox is told 451 with its own line, and 250 once the right is
+    given"""
+    place = folder / "mail"
+    place.mkdir()
+    how = as_nobody(place)
+    names = [f"u{number}" for number in range(1_000)]
+    (folder / "boxes").write_text("\n".join(names) + "\n")
+    for name in names:
+        (place / f"{name}.mbox").touch()
+        if how:
+            os.chown(place / f"{name}.mbox", NOBODY, NOBODY)
+    place.chmod(0o555)
+    log = folder / "log"  # a pipe has no room for so many lines
+    words = ["--log", "error", "--boxes", folder / "boxes"]
+    with log.open("w") as file, Server(place, [], 1, *words, errors=file, **how) as server:
+        with Client(server.address).greet() as client:
+            equal(client.deliver(names, "one")[1], [not_stored(name) for name in names])
+            place.chmod(0o755)
+            equal(client.deliver(names, "two")[1], [stored(name) for name in names])
+            client.quit()
+        equal(server.end().status, 0)
+    errors = log.read_text().splitlines()
+    equal(errors[0], f"[ERROR lmtpd] cannot write the folder folder={place} reason={PERMISSION_DENIED}")
+    equal(sum("cannot write the folder" in line for line in errors), 1)
+    in_use = [f"[ERROR lmtpd] mailbox in use mailbox={name} reason={PERMISSION_DENIED}" for name in names]
+    equal(sorted(line for line in errors if "mailbox in use" in line), sorted(in_use))
+    equal(all(letters.messages(place / f"{name}.mbox") == [b"two\n"] for name in names), True)
+
+
+a_folder_of_a_thousand_that_cannot_be_written.seconds = 120
