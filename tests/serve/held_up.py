@@ -120,6 +120,7 @@ def lease_on_a_mailbox_of_a_thread(folder):
             equal(last.ask(f"RCPT TO:<{names[3]}@mx.example>"), BUSY)
             last.quit()
         need_undisturbed(seconds_of_letters(server.address, "u1", 40))
+        time.sleep(lease_break_seconds())
         equal([client.hear() for client in clients], [stored(name) for name in names[:3]])
 
 
