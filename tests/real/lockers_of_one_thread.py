@@ -13,11 +13,11 @@ from cases import case, equal
 from clients import Client
 from in_a_machine import in_a_machine
 from leases import hold_leases
-from neighbours import MIDDLE, Senders, done_by, need_undisturbed, seconds_of_letters
+from neighbours import Senders, done_by, need_undisturbed, seconds_of_letters
 from pages import lines_of, type_lines
 from readers import bytes_held, name_held
 from reload_names import BOXES
-from service import FOLDER, Service
+from service import Service
 
 THREADS = 256  # of a server with more mailboxes
 NAMES = [f"u{number}" for number in range(8 * THREADS)]
